@@ -1,0 +1,1 @@
+// Module 2, the batch record: its definition stands in specs/.

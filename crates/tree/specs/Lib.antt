@@ -1,0 +1,4 @@
+pub mod State
+pub mod Down
+pub mod Focus
+pub mod Sound

@@ -1,0 +1,1 @@
+// The state: its definitions, going down, focus and soundness stand in specs/.

@@ -1,0 +1,241 @@
+-- The one claim over the cases: every call gives the answer that its case says, whole. antt computes each.
+-- Assumes nothing.
+use mathlib.Core.List.{List, [], _∷_, _++_}
+use mathlib.Core.Path.{_≡_, refl}
+use lib.Ieee.{ofBits, toBits, eq}
+use Rattle.base.specs.Tests.{_&&_}
+use Rattle.base.specs.Tables.{first}
+use Rattle.base.specs.Bytes.{littleEndian, le, bytesOf, allBelow, zeros, listOf, sumOf}
+use Rattle.base.specs.Floats.{zeroBytes, sameValue}
+use Rattle.ids.specs.Ids.{sameTree, sameIndex, sameNode, sameId, before}
+use Rattle.geometry.specs.Geometry.{rectTest, affineTest, sameRect, sameAffine}
+use Rattle.record.specs.Batch.{activeDescendant?, graft?, bounds?, transform?, fieldsOk, sameData, listedIds, namedIds}
+use Rattle.record.specs.Parse.{headerOk, childrenBefore, labelsBefore, recordOk, wellFormed, parse}
+use Rattle.record.specs.Encode.{recordBytes, recordsBytes, entryBytes, labels, headerBytes, encode}
+use Rattle.tree.specs.State.{sameLink, idsOf, find, present, graftAt, linkAt, parentAt, holder, subtreeState, subtreeFrom, subtreeOf}
+use Rattle.tree.specs.Down.{metUnder, childrenMet, below, belowId, down, rootOf, wayDown, climb}
+use Rattle.tree.specs.Focus.{throughGrafts, effectiveFocus, orActiveDescendant, stateFocus}
+use Rattle.tree.specs.Sound.{metOnce, recorded, graftIsBare, soundLinks, graftsDiffer, grafted, allGrafted, rootFirst, oneIdEach, soundTrees, ascending, wayEnds, soundShape, focusPresent, sound}
+use Rattle.update.specs.Words.{listing, known, number, here, mine, old, listed, turn, naming, named, withTreeData, rootAfter, isRoot, claim, claimer, claimedFrom, letsGo}
+use Rattle.update.specs.Pass.{placedAtTurn, namings, events, fault, pass}
+use Rattle.update.specs.Gone.{goesIf, fares, replaced, fateHere, fateElsewhere, fate, goneWithin, gone}
+use Rattle.update.specs.Outcome.{renewed, write, writeAll, underGraft, written, paneRoot, linkIsCut, linkHere, linkElsewhere, linkAfter, relink, subtreeHere, subtreeElsewhere, entryAfter, entriesAfter, newEntry, outcome}
+use Rattle.update.specs.Reports.{noChanges, added, removed, isUpdated, updated, isRelinked, relinked, changesOf, lengthsOf, words, changeWords, lent, unlessIn, focusMoved, extraBefore, extraAfter}
+use Rattle.update.specs.Numbers.{absent, placeless, nowhere, updatedAndRemoved, rowsBeforePass, rowsAfterPass, batchNumber}
+use Rattle.update.specs.Calls.{refused, accepted, judged, updateNumber, updateBatch, update, blank, seed, withoutTreeData, startNumber, started, startBatch, start, withHostFocus, hostFocus}
+use Rattle.update.specs.CaseWords.{Case}
+use Rattle.update.specs.Cases.{startAccepted, childTwice, childDropped, focusDropped, childNowhere, nodeAlone, changedThenDropped, droppedThenChanged, graftWithChild, graftMade, paneStarted, paneWithoutTreeData, graftTwice, focusOnEmptyGraft, graftMoved, childOfItself, cases}
+use Rattle.update.specs.Traps.{newRootUnderOldParent, newRootOfPane, newRootDropped, unchangedThenDropped, droppedThenUnchanged, graftGoesAndClaimed, graftKeptAndClaimed, rootGraftNeverPlaced, graftWithChildTwice, secondGraftPlacedFirst, rootGraftPlacedFirst, childNowhereAndGraftHeld, graftHeld, graftReleasedByGone, nestedTreeMoved, newRootBelow, rootsInCircle, childrenSwapped, namedByTwo, paneRootKeepsLink, paneRootMarked, signOfZero, focusMovesOn, activeDescendantIsGraft, hostLeaves, treeWithoutGraft, listedTwice, sliceTooShort, stateUnsound, recordBroken, startBroken, startWithoutTreeData, startOfPane, traps}
+
+abbrev pub Right : Case → Type 0
+Right c = c .got ≡ c .says
+
+abbrev pub AllRight : List Case → Type 0
+AllRight [] = Unit {0}
+AllRight (c ∷ cs) = Right c × AllRight cs
+
+-- `unfolding computed` unfolds every definition
+computed : Unit {0}
+unfolding ofBits toBits eq _&&_ first littleEndian le bytesOf allBelow zeros listOf sumOf zeroBytes sameValue sameTree sameIndex sameNode sameId before rectTest affineTest sameRect sameAffine activeDescendant? graft? bounds? transform? fieldsOk sameData listedIds namedIds headerOk childrenBefore labelsBefore recordOk wellFormed parse recordBytes recordsBytes entryBytes labels headerBytes encode sameLink find present graftAt linkAt parentAt holder subtreeState subtreeFrom subtreeOf metUnder childrenMet below belowId down rootOf wayDown climb throughGrafts effectiveFocus orActiveDescendant stateFocus metOnce recorded graftIsBare soundLinks graftsDiffer grafted allGrafted rootFirst oneIdEach soundTrees ascending wayEnds soundShape focusPresent sound listing known number here mine old listed turn naming named withTreeData rootAfter isRoot claim claimer claimedFrom letsGo placedAtTurn namings events fault pass goesIf fares replaced fateHere fateElsewhere fate goneWithin gone renewed write writeAll underGraft written paneRoot linkIsCut linkHere linkElsewhere linkAfter relink subtreeHere subtreeElsewhere entryAfter entriesAfter newEntry outcome noChanges idsOf added removed isUpdated updated isRelinked relinked changesOf lengthsOf words changeWords lent unlessIn focusMoved extraBefore extraAfter absent placeless nowhere updatedAndRemoved rowsBeforePass rowsAfterPass batchNumber refused accepted judged updateNumber updateBatch update blank seed withoutTreeData startNumber started startBatch start withHostFocus hostFocus
+computed = tt
+
+start-accepted : Right startAccepted
+unfolding computed startAccepted
+start-accepted = refl
+
+child-twice : Right childTwice
+unfolding computed childTwice
+child-twice = refl
+
+child-dropped : Right childDropped
+unfolding computed childDropped
+child-dropped = refl
+
+focus-dropped : Right focusDropped
+unfolding computed focusDropped
+focus-dropped = refl
+
+child-nowhere : Right childNowhere
+unfolding computed childNowhere
+child-nowhere = refl
+
+node-alone : Right nodeAlone
+unfolding computed nodeAlone
+node-alone = refl
+
+changed-then-dropped : Right changedThenDropped
+unfolding computed changedThenDropped
+changed-then-dropped = refl
+
+dropped-then-changed : Right droppedThenChanged
+unfolding computed droppedThenChanged
+dropped-then-changed = refl
+
+graft-with-child : Right graftWithChild
+unfolding computed graftWithChild
+graft-with-child = refl
+
+graft-made : Right graftMade
+unfolding computed graftMade
+graft-made = refl
+
+pane-started : Right paneStarted
+unfolding computed paneStarted
+pane-started = refl
+
+pane-without-tree-data : Right paneWithoutTreeData
+unfolding computed paneWithoutTreeData
+pane-without-tree-data = refl
+
+graft-twice : Right graftTwice
+unfolding computed graftTwice
+graft-twice = refl
+
+focus-on-empty-graft : Right focusOnEmptyGraft
+unfolding computed focusOnEmptyGraft
+focus-on-empty-graft = refl
+
+graft-moved : Right graftMoved
+unfolding computed graftMoved
+graft-moved = refl
+
+child-of-itself : Right childOfItself
+unfolding computed childOfItself
+child-of-itself = refl
+
+new-root-under-old-parent : Right newRootUnderOldParent
+unfolding computed newRootUnderOldParent
+new-root-under-old-parent = refl
+
+new-root-of-pane : Right newRootOfPane
+unfolding computed newRootOfPane
+new-root-of-pane = refl
+
+new-root-dropped : Right newRootDropped
+unfolding computed newRootDropped
+new-root-dropped = refl
+
+unchanged-then-dropped : Right unchangedThenDropped
+unfolding computed unchangedThenDropped
+unchanged-then-dropped = refl
+
+dropped-then-unchanged : Right droppedThenUnchanged
+unfolding computed droppedThenUnchanged
+dropped-then-unchanged = refl
+
+graft-goes-and-claimed : Right graftGoesAndClaimed
+unfolding computed graftGoesAndClaimed
+graft-goes-and-claimed = refl
+
+graft-kept-and-claimed : Right graftKeptAndClaimed
+unfolding computed graftKeptAndClaimed
+graft-kept-and-claimed = refl
+
+root-graft-never-placed : Right rootGraftNeverPlaced
+unfolding computed rootGraftNeverPlaced
+root-graft-never-placed = refl
+
+graft-with-child-twice : Right graftWithChildTwice
+unfolding computed graftWithChildTwice
+graft-with-child-twice = refl
+
+second-graft-placed-first : Right secondGraftPlacedFirst
+unfolding computed secondGraftPlacedFirst
+second-graft-placed-first = refl
+
+root-graft-placed-first : Right rootGraftPlacedFirst
+unfolding computed rootGraftPlacedFirst
+root-graft-placed-first = refl
+
+child-nowhere-and-graft-held : Right childNowhereAndGraftHeld
+unfolding computed childNowhereAndGraftHeld
+child-nowhere-and-graft-held = refl
+
+graft-held : Right graftHeld
+unfolding computed graftHeld
+graft-held = refl
+
+graft-released-by-gone : Right graftReleasedByGone
+unfolding computed graftReleasedByGone
+graft-released-by-gone = refl
+
+nested-tree-moved : Right nestedTreeMoved
+unfolding computed nestedTreeMoved
+nested-tree-moved = refl
+
+new-root-below : Right newRootBelow
+unfolding computed newRootBelow
+new-root-below = refl
+
+roots-in-circle : Right rootsInCircle
+unfolding computed rootsInCircle
+roots-in-circle = refl
+
+children-swapped : Right childrenSwapped
+unfolding computed childrenSwapped
+children-swapped = refl
+
+named-by-two : Right namedByTwo
+unfolding computed namedByTwo
+named-by-two = refl
+
+pane-root-keeps-link : Right paneRootKeepsLink
+unfolding computed paneRootKeepsLink
+pane-root-keeps-link = refl
+
+pane-root-marked : Right paneRootMarked
+unfolding computed paneRootMarked
+pane-root-marked = refl
+
+sign-of-zero : Right signOfZero
+unfolding computed signOfZero
+sign-of-zero = refl
+
+focus-moves-on : Right focusMovesOn
+unfolding computed focusMovesOn
+focus-moves-on = refl
+
+active-descendant-is-graft : Right activeDescendantIsGraft
+unfolding computed activeDescendantIsGraft
+active-descendant-is-graft = refl
+
+host-leaves : Right hostLeaves
+unfolding computed hostLeaves
+host-leaves = refl
+
+tree-without-graft : Right treeWithoutGraft
+unfolding computed treeWithoutGraft
+tree-without-graft = refl
+
+listed-twice : Right listedTwice
+unfolding computed listedTwice
+listed-twice = refl
+
+slice-too-short : Right sliceTooShort
+unfolding computed sliceTooShort
+slice-too-short = refl
+
+state-unsound : Right stateUnsound
+unfolding computed stateUnsound
+state-unsound = refl
+
+record-broken : Right recordBroken
+unfolding computed recordBroken
+record-broken = refl
+
+start-broken : Right startBroken
+unfolding computed startBroken
+start-broken = refl
+
+start-without-tree-data : Right startWithoutTreeData
+unfolding computed startWithoutTreeData
+start-without-tree-data = refl
+
+start-of-pane : Right startOfPane
+unfolding computed startOfPane
+start-of-pane = refl
+
+-- cases 1 to 14, and the traps
+pub the-cases : AllRight (cases ++ traps)
+the-cases =
+    (start-accepted, (child-twice, (child-dropped, (focus-dropped, (child-nowhere, (node-alone, (changed-then-dropped, (dropped-then-changed, (graft-with-child, (graft-made, (pane-started, (pane-without-tree-data, (graft-twice, (focus-on-empty-graft, (graft-moved, (child-of-itself, (new-root-under-old-parent, (new-root-of-pane, (new-root-dropped, (unchanged-then-dropped, (dropped-then-unchanged, (graft-goes-and-claimed, (graft-kept-and-claimed, (root-graft-never-placed, (graft-with-child-twice, (second-graft-placed-first, (root-graft-placed-first, (child-nowhere-and-graft-held, (graft-held, (graft-released-by-gone, (nested-tree-moved, (new-root-below, (roots-in-circle, (children-swapped, (named-by-two, (pane-root-keeps-link, (pane-root-marked, (sign-of-zero, (focus-moves-on, (active-descendant-is-graft, (host-leaves, (tree-without-graft, (listed-twice, (slice-too-short, (state-unsound, (record-broken, (start-broken, (start-without-tree-data, (start-of-pane, tt)))))))))))))))))))))))))))))))))))))))))))))))))

@@ -1,0 +1,151 @@
+-- What a start, a batch and a host focus change answer: the number, the state and every other part. Document 01, modules 3 to 5.
+-- Assumes nothing.
+use mathlib.Core.Bool.{Bool, true, false, not}
+use mathlib.Core.List.{List, [], _∷_, _++_}
+use mathlib.Core.Option.{Option, none, some}
+use Prim.Native.Nat.{ℕ, zero, suc, _*_}
+use lib.Dec.{ltb}
+use lib.ListN.{length}
+use Rattle.base.specs.Tests.{if_then_else_, isNone}
+use Rattle.base.specs.Tables.{row, found, first}
+use Rattle.ids.specs.Ids.{ROOT, sameTree}
+use Rattle.ids.specs.declared.FullNodeId.{FullNodeId}
+use Rattle.record.specs.Batch.{Batch}
+use Rattle.record.specs.Parse.{parse}
+use Rattle.tree.specs.State.{Subtree, Forest, State}
+use Rattle.tree.specs.Focus.{stateFocus}
+use Rattle.tree.specs.Sound.{sound}
+use Rattle.update.specs.Outcome.{outcome}
+use Rattle.update.specs.Reports.{Changes, noChanges, changesOf, Lengths, lengthsOf, changeWords, lent, extraBefore, extraAfter}
+use Rattle.update.specs.Numbers.{batchNumber}
+
+-- ## Answers
+
+-- `changes` are the four lists, which an accepted batch writes to the lent slice; `slice` is the lent slice afterwards, [] where none is lent.
+pub record Answer : Type 0 where
+  pub number : ℕ
+  pub state : State
+  pub changes : Changes
+  pub lengths : Lengths
+  pub focusBefore : Option FullNodeId
+  pub focusAfter : Option FullNodeId
+  pub extraBefore : Option FullNodeId
+  pub extraAfter : Option FullNodeId
+  pub slice : List ℕ
+
+-- after any number but 0: the state handed in, the slice untouched, the other parts 0 or none
+unfoldable pub refused : ℕ → State → List ℕ → Answer
+refused k s slice = record {
+  number = k;
+  state = s;
+  changes = noChanges;
+  lengths = lengthsOf noChanges;
+  focusBefore = none;
+  focusAfter = none;
+  extraBefore = none;
+  extraAfter = none;
+  slice = slice;
+}
+
+-- from s to s′ with these changes
+unfoldable pub accepted : State → State → Changes → List ℕ → Answer
+accepted s s′ c slice = record {
+  number = 0;
+  state = s′;
+  changes = c;
+  lengths = lengthsOf c;
+  focusBefore = stateFocus s;
+  focusAfter = stateFocus s′;
+  extraBefore = extraBefore s s′ c;
+  extraAfter = extraAfter s s′ c;
+  slice = lent slice c;
+}
+
+-- a number and, if it is 0, the answer
+unfoldable pub judged : ℕ → State → List ℕ → Answer → Answer
+judged zero s slice a = a
+judged (suc k) s slice a = refused (suc k) s slice
+
+-- ## A batch
+
+-- 1 to 21: `bytes` is the record, `slice` what the caller lends for the lists
+unfoldable pub updateNumber : State → Batch → List ℕ → ℕ
+updateNumber s b slice =
+    first
+    (row 1 (not (sound (s .forest)))
+    ∷ found (batchNumber (s .forest) b)
+    ∷ row 21 (ltb (length slice) (length (changeWords (changesOf (s .forest) b))))
+    ∷ [])
+
+unfoldable pub updateBatch : State → Batch → List ℕ → Answer
+updateBatch s b slice =
+    let s′ : State = record { forest = outcome (s .forest) b; hostFocused = s .hostFocused } in
+    let a : Answer = accepted s s′ (changesOf (s .forest) b) slice in
+    judged (updateNumber s b slice) s slice a
+
+unfoldable pub update : State → List ℕ → List ℕ → Answer
+update s bytes slice =
+    elim (parse bytes) [
+      | none ↦ refused (first (row 1 (not (sound (s .forest))) ∷ row 2 true ∷ [])) s slice
+      | some b ↦ updateBatch s b slice
+    ]
+
+-- ## A start
+
+-- the blank state, which a refused start hands back and which is not sound
+unfoldable pub blank : State
+blank = record { forest = record { nodes = []; trees = [] }; hostFocused = false }
+
+-- As in `Tree::new`, a start is a batch without tree data on a forest that has ROOT's root from the tree data, and no node yet.
+unfoldable pub seed : Batch → Forest
+seed b = record {
+  nodes = [];
+  trees = record {
+    id = ROOT;
+    subtree = elim (b .root) [ none ↦ none | some r ↦ some (record { root = r; focus = b .focus }) ];
+  } ∷ [];
+}
+
+unfoldable pub withoutTreeData : Batch → Batch
+withoutTreeData b = record { tree = b .tree; root = none; focus = b .focus; nodes = b .nodes }
+
+-- 3: a start without tree data. 4: a start for a tree other than ROOT
+unfoldable pub startNumber : Batch → ℕ
+startNumber b =
+    first
+    (row 3 (isNone (b .root))
+    ∷ row 4 (not (sameTree (b .tree) ROOT))
+    ∷ found (batchNumber (seed b) (withoutTreeData b))
+    ∷ [])
+
+-- a start lists nothing, with no focus before and no extra ids
+unfoldable pub started : State → Answer
+started s = record {
+  number = 0;
+  state = s;
+  changes = noChanges;
+  lengths = lengthsOf noChanges;
+  focusBefore = none;
+  focusAfter = stateFocus s;
+  extraBefore = none;
+  extraAfter = none;
+  slice = [];
+}
+
+unfoldable pub startBatch : Batch → Bool → Answer
+startBatch b hostFocused =
+    let s : State = record { forest = outcome (seed b) (withoutTreeData b); hostFocused = hostFocused } in
+    let a : Answer = started s in
+    judged (startNumber b) blank [] a
+
+unfoldable pub start : List ℕ → Bool → Answer
+start bytes hostFocused = elim (parse bytes) [ none ↦ refused 2 blank [] | some b ↦ startBatch b hostFocused ]
+
+-- ## A host focus change
+
+unfoldable pub withHostFocus : State → Bool → State
+withHostFocus s h = record { forest = s .forest; hostFocused = h }
+
+-- it reports as a batch does, with empty lists
+unfoldable pub hostFocus : State → Bool → Answer
+hostFocus s h = if sound (s .forest) then accepted s (withHostFocus s h) noChanges [] else refused 1 s []

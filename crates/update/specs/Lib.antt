@@ -1,0 +1,10 @@
+pub mod Words
+pub mod Pass
+pub mod Gone
+pub mod Outcome
+pub mod Reports
+pub mod Numbers
+pub mod Calls
+pub mod CaseWords
+pub mod Cases
+pub mod Traps

@@ -1,0 +1,105 @@
+-- Module 5, reports: the four change lists, the extra ids, the lent slice. Document 01, "Change lists".
+-- Assumes nothing.
+use mathlib.Core.Bool.{Bool, true, false, not, _||_}
+use mathlib.Core.List.{List, [], _∷_, _++_}
+use mathlib.Core.Option.{Option, none, some}
+use Prim.Native.Nat.{ℕ, _*_}
+use lib.ListN.{length, drop}
+use Rattle.base.specs.Tests.{_&&_, if_then_else_, isSome, keep, sameOption, has}
+use Rattle.ids.specs.Ids.{sameId}
+use Rattle.ids.specs.declared.FullNodeId.{FullNodeId}
+use Rattle.record.specs.Batch.{sameData, Batch}
+use Rattle.tree.specs.State.{sameLink, NodeState, idsOf, Forest, State, find, present, parentAt}
+use Rattle.tree.specs.Focus.{stateFocus}
+use Rattle.update.specs.Outcome.{paneRoot, outcome}
+
+-- ## The four lists
+
+pub record Changes : Type 0 where
+  pub added : List FullNodeId
+  pub updated : List FullNodeId
+  pub removed : List FullNodeId
+  pub relinked : List FullNodeId
+
+unfoldable pub noChanges : Changes
+noChanges = record { added = []; updated = []; removed = []; relinked = [] }
+
+-- Each list takes the ids in the order of the nodes: by tree number, then node number.
+module _ (s : Forest) (b : Batch) where
+  -- present after and not before
+  unfoldable pub added : List FullNodeId
+  added = keep (λ x. not (present (s .nodes) x)) (idsOf (outcome s b .nodes))
+
+  -- present before and not after
+  unfoldable pub removed : List FullNodeId
+  removed = keep (λ x. not (present (outcome s b .nodes) x)) (idsOf (s .nodes))
+
+  -- Present before and after, with other data, or with another parent or place (to no parent does not count);
+  -- and the root that tree data gives a pane, even if nothing changed.
+  unfoldable pub isUpdated : NodeState → Bool
+  isUpdated n =
+      elim (find (n .id) (outcome s b .nodes)) [
+        | none ↦ false
+        | some m ↦
+            not (sameData (n .body) (m .body))
+            || (isSome (m .parentAndIndex) && not (sameOption sameLink (n .parentAndIndex) (m .parentAndIndex)))
+            || paneRoot s b (n .id)
+      ]
+
+  unfoldable pub updated : List FullNodeId
+  updated = idsOf (keep isUpdated (s .nodes))
+
+  -- present before and after, with another parent; to or from no parent counts
+  unfoldable pub isRelinked : FullNodeId → Bool
+  isRelinked x =
+      present (outcome s b .nodes) x
+      && not (sameOption sameId (parentAt (s .nodes) x) (parentAt (outcome s b .nodes) x))
+
+  unfoldable pub relinked : List FullNodeId
+  relinked = keep isRelinked (idsOf (s .nodes))
+
+  unfoldable pub changesOf : Changes
+  changesOf = record { added = added; updated = updated; removed = removed; relinked = relinked }
+
+-- each length is the number of ids in its list
+pub record Lengths : Type 0 where
+  pub added : ℕ
+  pub updated : ℕ
+  pub removed : ℕ
+  pub relinked : ℕ
+
+unfoldable pub lengthsOf : Changes → Lengths
+lengthsOf c =
+    record { added = length (c .added); updated = length (c .updated); removed = length (c .removed); relinked = length (c .relinked) }
+
+-- ## The lent slice
+
+-- two u64 for an id
+unfoldable pub words : List FullNodeId → List ℕ
+words [] = []
+words (x ∷ xs) = x .tree .0 ∷ x .node .0 ∷ words xs
+
+-- the four lists, one after another
+unfoldable pub changeWords : Changes → List ℕ
+changeWords c = words (c .added ++ c .updated ++ c .removed ++ c .relinked)
+
+-- the slice afterwards: elements beyond the lists keep what they held
+unfoldable pub lent : List ℕ → Changes → List ℕ
+lent slice c = changeWords c ++ drop (length (changeWords c)) slice
+
+-- ## The extra `node_updated` ids of `process_changes`, if the focus moved
+
+unfoldable pub unlessIn : List FullNodeId → Option FullNodeId → Option FullNodeId
+unlessIn xs none = none
+unlessIn xs (some x) = if has sameId xs x then none else some x
+
+unfoldable pub focusMoved : State → State → Bool
+focusMoved s s′ = not (sameOption sameId (stateFocus s) (stateFocus s′))
+
+-- the node that lost the focus, unless updated or removed
+unfoldable pub extraBefore : State → State → Changes → Option FullNodeId
+extraBefore s s′ c = if focusMoved s s′ then unlessIn (c .updated ++ c .removed) (stateFocus s) else none
+
+-- the node that got it, unless added or updated
+unfoldable pub extraAfter : State → State → Changes → Option FullNodeId
+extraAfter s s′ c = if focusMoved s s′ then unlessIn (c .added ++ c .updated) (stateFocus s′) else none
