@@ -1,0 +1,164 @@
+-- What an accepted batch has passed, and that its outcome is sound. Assumes nothing.
+use mathlib.Core.Bool.{Bool, true, false, not, true≢false}
+use mathlib.Core.List.{List, [], _∷_, _++_, map}
+use mathlib.Core.Option.{Option, none, some}
+use mathlib.Core.Path.{_≡_, refl, ap, _∙_}
+use Prim.Native.Nat.{ℕ, suc, _≤_}
+use native.Mathlib.Omega.{arith}
+use lib.Dec.{ltb, leb}
+use lib.ListN.{length, length-append}
+use borrow.Author.Tests.{leb-true, leb-false, le-leb, ltb-false}
+use Rattle.base.specs.Tests.{_&&_, if_then_else_, isNone, any, all, keep, distinct}
+use Rattle.base.proofs.Tests.{both, joined, not-false, all-keep}
+use Rattle.base.proofs.Tables.{first-zero, first-found-zero}
+use Rattle.ids.specs.Ids.{ROOT, sameTree, sameNode, sameId, before}
+use Rattle.ids.specs.declared.TreeIndex.{TreeIndex}
+use Rattle.ids.specs.declared.FullNodeId.{FullNodeId}
+use Rattle.record.specs.Batch.{NodeData, fieldsOk, sameData, Listed, Batch, listedIds, namedIds}
+use Rattle.tree.specs.State.{NodeState, TreeEntry, Forest, present, holder, subtreeOf}
+use Rattle.tree.specs.Down.{rootOf}
+use Rattle.tree.specs.Focus.{effectiveFocus}
+use Rattle.tree.specs.Sound.{graftsDiffer, soundShape, focusPresent, sound}
+use Rattle.tree.proofs.Sound.{sound-of}
+use Rattle.update.specs.Words.{known, number, withTreeData}
+use Rattle.update.specs.Pass.{pass}
+use Rattle.update.specs.Gone.{gone}
+use Rattle.update.specs.Outcome.{renewed, write, writeAll, written, relink, subtreeHere, entryAfter, entriesAfter, newEntry, outcome}
+use Rattle.update.specs.Numbers.{absent, placeless, nowhere, updatedAndRemoved, rowsBeforePass, rowsAfterPass, batchNumber}
+
+-- ## The table
+
+-- no row holds of an accepted batch
+pub record Passed (s : Forest) (b : Batch) : Type 0 where
+  pub row5 : not (distinct sameNode (listedIds (b .nodes))) ≡ false
+  pub row6 : withTreeData s b && not (sameTree (b .tree) ROOT) && isNone (holder (s .nodes) (b .tree)) ≡ false
+  pub row7 : not (withTreeData s b) && not (sameTree (b .tree) ROOT) && isNone (subtreeOf s (b .tree)) ≡ false
+  pub row8 : not (known s b) && leb 32 (length (s .trees)) ≡ false
+  pub row9-to-12 : pass s b ≡ 0
+  pub row13 : any (placeless s b) (b .nodes) ≡ false
+  pub row14 : any (nowhere s b) (namedIds (b .nodes)) ≡ false
+  pub row12 : not (graftsDiffer (outcome s b .nodes)) ≡ false
+  pub row15 : isNone (effectiveFocus (outcome s b)) ≡ false
+  pub row16 : absent (outcome s b .nodes) (rootOf (outcome s b)) ≡ false
+  pub row17 : absent (outcome s b .nodes) (effectiveFocus (outcome s b)) ≡ false
+  pub row18 : any (updatedAndRemoved s b) (b .nodes) ≡ false
+  pub row19 : not (soundShape (outcome s b)) ≡ false
+  pub row20 : ltb 256 (length (outcome s b .nodes)) ≡ false
+
+pub passed : (s : Forest) (b : Batch) → batchNumber s b ≡ 0 → Passed s b
+unfolding batchNumber rowsBeforePass rowsAfterPass
+passed s b e =
+    let after5 = first-zero _ _ (λ q _. omega arith) e in
+    let after6 = first-zero _ _ (λ q _. omega arith) (after5 .1) in
+    let after7 = first-zero _ _ (λ q _. omega arith) (after6 .1) in
+    let after8 = first-zero _ _ (λ q _. omega arith) (after7 .1) in
+    let after-pass = first-found-zero _ _ (after8 .1) in
+    let after13 = first-zero _ _ (λ q _. omega arith) (after-pass .1) in
+    let after14 = first-zero _ _ (λ q _. omega arith) (after13 .1) in
+    let after12 = first-zero _ _ (λ q _. omega arith) (after14 .1) in
+    let after15 = first-zero _ _ (λ q _. omega arith) (after12 .1) in
+    let after16 = first-zero _ _ (λ q _. omega arith) (after15 .1) in
+    let after17 = first-zero _ _ (λ q _. omega arith) (after16 .1) in
+    let after18 = first-zero _ _ (λ q _. omega arith) (after17 .1) in
+    let after19 = first-zero _ _ (λ q _. omega arith) (after18 .1) in
+    let after20 = first-zero _ _ (λ q _. omega arith) (after19 .1) in
+    record {
+      row5 = after5 .0;
+      row6 = after6 .0;
+      row7 = after7 .0;
+      row8 = after8 .0;
+      row9-to-12 = after-pass .0;
+      row13 = after13 .0;
+      row14 = after14 .0;
+      row12 = after12 .0;
+      row15 = after15 .0;
+      row16 = after16 .0;
+      row17 = after17 .0;
+      row18 = after18 .0;
+      row19 = after19 .0;
+      row20 = after20 .0;
+    }
+
+-- ## Fields
+
+abbrev nodeOk : NodeState → Bool
+nodeOk n = fieldsOk (n .body)
+
+fields-write : (x : FullNodeId) (d : NodeData) (ns : List NodeState) → fieldsOk d ≡ true → all nodeOk ns ≡ true → all nodeOk (write x d ns) ≡ true
+unfolding write renewed
+fields-write x d [] f e = joined f refl
+fields-write x d (n ∷ ns) f e = go (sameId x (n .id)) (before x (n .id)) (fields-write x d ns f (both e .1))
+  where
+    renews : (c : Bool) → fieldsOk (if c then n .body else d) ≡ true
+    renews true = both e .0
+    renews false = f
+
+    go : (c k : Bool) → all nodeOk (write x d ns) ≡ true
+        → all nodeOk (if c then record { id = n .id; parentAndIndex = n .parentAndIndex; body = renewed (n .body) d } ∷ ns
+        else if k then record { id = x; parentAndIndex = none; body = d } ∷ n ∷ ns else n ∷ write x d ns) ≡ true
+    go true k h = joined (renews (sameData (n .body) d)) (both e .1)
+    go false true h = joined f e
+    go false false h = joined (both e .0) h
+
+fields-write-all : (t : TreeIndex) (ls : List Listed) (ns : List NodeState) → all (λ l. fieldsOk (l .body)) ls ≡ true → all nodeOk ns ≡ true
+    → all nodeOk (writeAll t ls ns) ≡ true
+unfolding writeAll
+fields-write-all t [] ns f e = e
+fields-write-all t (l ∷ ls) ns f e =
+    fields-write-all t ls (write (record { tree = t; node = l .id }) (l .body) ns) (both f .1)
+    (fields-write (record { tree = t; node = l .id }) (l .body) ns (both f .0) e)
+
+fields-relink : (s : Forest) (b : Batch) (ns : List NodeState) → all nodeOk ns ≡ true → all nodeOk (map (relink s b) ns) ≡ true
+unfolding relink
+fields-relink s b [] e = refl
+fields-relink s b (n ∷ ns) e = joined (both e .0) (fields-relink s b ns (both e .1))
+
+-- ## Tree numbers
+
+pub length-entries-after : (s : Forest) (b : Batch) (k : ℕ) (es : List TreeEntry) → length (entriesAfter s b k es) ≡ length es
+unfolding entriesAfter
+length-entries-after s b k [] = refl
+length-entries-after s b k (e ∷ es) = ap suc (length-entries-after s b (suc k) es)
+
+few-trees : (s : Forest) (b : Batch) (c : Bool) → leb (length (s .trees)) 32 ≡ true → not c && leb 32 (length (s .trees)) ≡ false
+    → length (entriesAfter s b 0 (s .trees) ++ (if c then [] else record { id = b .tree; subtree = subtreeHere s b none } ∷ [])) ≤ 32
+unfolding _&&_
+few-trees s b true e q = rw (length-append, length-entries-after s b 0 (s .trees)) (omega (arith, leb-true (length (s .trees)) 32 e))
+few-trees s b false e q = rw (length-append, length-entries-after s b 0 (s .trees)) (omega (arith, leb-false 32 (length (s .trees)) q))
+
+-- ## The outcome
+
+-- what the forest before gives to the forest after
+pub record Ground (s : Forest) : Type 0 where
+  pub few-trees : leb (length (s .trees)) 32 ≡ true
+  pub fields : all (λ n. fieldsOk (n .body)) (s .nodes) ≡ true
+
+module _ (s : Forest) (b : Batch) where
+  fields-outcome : Ground s → all (λ l. fieldsOk (l .body)) (b .nodes) ≡ true → all nodeOk (outcome s b .nodes) ≡ true
+  unfolding outcome written
+  fields-outcome g f =
+      fields-relink s b (keep (λ n. not (gone s b (n .id))) (written s b))
+      (all-keep nodeOk (λ n. not (gone s b (n .id))) (written s b) (fields-write-all (number s b) (b .nodes) (s .nodes) f (g .fields)))
+
+  trees-outcome : Ground s → Passed s b → leb (length (outcome s b .trees)) 32 ≡ true
+  unfolding outcome newEntry
+  trees-outcome g p = le-leb (length (outcome s b .trees)) 32 (few-trees s b (known s b) (g .few-trees) (p .row8))
+
+  focus-outcome : Passed s b → focusPresent (outcome s b) ≡ true
+  unfolding focusPresent absent
+  focus-outcome p = go (effectiveFocus (outcome s b)) (p .row17)
+    where
+      go : (o : Option FullNodeId) → absent (outcome s b .nodes) o ≡ false
+          → (elim o as (λ _. Bool) [ none ↦ false | some x ↦ present (outcome s b .nodes) x ]) ≡ true
+      go none e = absurd (true≢false e)
+      go (some x) e = not-false e
+
+  pub outcome-sound : Ground s → all (λ l. fieldsOk (l .body)) (b .nodes) ≡ true → Passed s b → sound (outcome s b) ≡ true
+  outcome-sound g f p =
+      sound-of (outcome s b) (record {
+        shape = not-false (p .row19);
+        few-nodes = le-leb (length (outcome s b .nodes)) 256 (ltb-false 256 (length (outcome s b .nodes)) (p .row20));
+        few-trees = trees-outcome g p;
+        fields = fields-outcome g f;
+        focus = focus-outcome p;
+      })
