@@ -7,7 +7,7 @@ use Prim.Native.Nat.{ℕ, zero, suc}
 use native.Mathlib.Omega.{arith}
 use Rattle.base.specs.Tests.{_&&_, if_then_else_, isSome, all, has}
 use Rattle.base.proofs.Tests.{both, not-false, not-true}
-use Rattle.base.specs.Tables.{row, first}
+use Rattle.base.specs.Tables.{first}
 use Rattle.base.proofs.Tables.{first-zero, first-found-zero}
 use Rattle.ids.specs.Ids.{ROOT, sameTree, sameId}
 use Rattle.ids.proofs.Ids.{same-tree→≡}
@@ -29,6 +29,7 @@ use Rattle.update.specs.Numbers.{batchNumber}
 use Rattle.update.specs.Calls.{Answer, refused, accepted, judged, updateNumber, updateBatch, update, withHostFocus, hostFocus}
 use Rattle.update.proofs.Sound.{Passed, passed, outcome-sound}
 use Rattle.update.proofs.Reports.{has-added, has-removed}
+use Rattle.update.proofs.Calls.{updateOf, update-is}
 use Rattle.book.specs.Book.{Entry, Book, enterAll, strike, linesAfter, numberIn, newLine, enterBatch, Call, batch, host, answerTo, entered, treesIn, entryOfNode}
 use Rattle.book.specs.Demand.{Counted}
 use Rattle.book.proofs.Nodes.{nodes-after}
@@ -92,17 +93,6 @@ module _ (s : Forest) (b : Batch) where
           ∙ ap (λ (ks : List Entry). strike (removed s b) (enterAll (record { 0 = numberIn b (k .trees) }) (b .nodes) ks)) (i .nodes)
 
 -- ## A batch as its bytes say it
-
-abbrev updateOf : State → List ℕ → Option Batch → Answer
-updateOf s slice o =
-    elim o [
-      | none ↦ refused (first (row 1 (not (sound (s .forest))) ∷ row 2 true ∷ [])) s slice
-      | some b ↦ updateBatch s b slice
-    ]
-
-update-is : (s : State) (bytes slice : List ℕ) (o : Option Batch) → parse bytes ≡ o → update s bytes slice ≡ updateOf s slice o
-unfolding update
-update-is s bytes slice o e = ap (updateOf s slice) e
 
 entered-parsed : (k : Book) (bytes slice : List ℕ) (b : Batch) (xs : List FullNodeId) → parse bytes ≡ some b
     → entered k (batch bytes slice) 0 xs ≡ enterBatch k b xs

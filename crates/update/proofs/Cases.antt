@@ -1,7 +1,7 @@
 -- The one claim over the cases: every call gives the answer that its case says, whole. antt computes each.
 -- Assumes nothing.
-use mathlib.Core.List.{List, [], _∷_, _++_}
-use mathlib.Core.Path.{_≡_, refl}
+use mathlib.Core.List.{List, [], _∷_, _++_, map}
+use mathlib.Core.Path.{_≡_, refl, ap}
 use lib.Ieee.{ofBits, toBits, eq}
 use Rattle.base.specs.Tests.{_&&_}
 use Rattle.base.specs.Tables.{first}
@@ -20,11 +20,11 @@ use Rattle.update.specs.Words.{listing, known, number, here, mine, old, 
 use Rattle.update.specs.Pass.{placedAtTurn, namings, events, fault, pass}
 use Rattle.update.specs.Gone.{goesIf, fares, replaced, fateHere, fateElsewhere, fate, goneWithin, gone}
 use Rattle.update.specs.Outcome.{renewed, write, writeAll, underGraft, written, paneRoot, linkIsCut, linkHere, linkElsewhere, linkAfter, relink, subtreeHere, subtreeElsewhere, entryAfter, entriesAfter, newEntry, outcome}
-use Rattle.update.specs.Reports.{noChanges, added, removed, isUpdated, updated, isRelinked, relinked, changesOf, lengthsOf, words, changeWords, lent, unlessIn, focusMoved, extraBefore, extraAfter}
+use Rattle.update.specs.Reports.{noChanges, sorted, added, removed, isUpdated, updated, isRelinked, relinked, changesOf, lengthsOf, words, changeWords, lent, unlessIn, focusMoved, extraBefore, extraAfter}
 use Rattle.update.specs.Numbers.{absent, placeless, nowhere, updatedAndRemoved, rowsBeforePass, rowsAfterPass, batchNumber}
-use Rattle.update.specs.Calls.{refused, accepted, judged, updateNumber, updateBatch, update, blank, seed, withoutTreeData, startNumber, started, startBatch, start, withHostFocus, hostFocus}
+use Rattle.update.specs.Calls.{Answer, refused, accepted, judged, updateNumber, updateBatch, update, blank, seed, withoutTreeData, startNumber, started, startBatch, start, withHostFocus, hostFocus}
 use Rattle.update.specs.CaseWords.{Case}
-use Rattle.update.specs.Cases.{startAccepted, childTwice, childDropped, focusDropped, childNowhere, nodeAlone, changedThenDropped, droppedThenChanged, graftWithChild, graftMade, paneStarted, paneWithoutTreeData, graftTwice, focusOnEmptyGraft, graftMoved, childOfItself, cases}
+use Rattle.update.specs.Cases.{startAccepted, childTwice, childDropped, focusDropped, childNowhere, nodeAlone, changedThenDropped, droppedThenChanged, graftWithChild, graftMade, paneStarted, paneWithoutTreeData, graftTwice, focusOnEmptyGraft, graftMoved, childOfItself, cases, caseNumbers}
 use Rattle.update.specs.Traps.{newRootUnderOldParent, newRootOfPane, newRootDropped, unchangedThenDropped, droppedThenUnchanged, graftGoesAndClaimed, graftKeptAndClaimed, rootGraftNeverPlaced, graftWithChildTwice, secondGraftPlacedFirst, rootGraftPlacedFirst, childNowhereAndGraftHeld, graftHeld, graftReleasedByGone, nestedTreeMoved, newRootBelow, rootsInCircle, childrenSwapped, namedByTwo, paneRootKeepsLink, paneRootMarked, signOfZero, focusMovesOn, activeDescendantIsGraft, hostLeaves, treeWithoutGraft, listedTwice, sliceTooShort, stateUnsound, recordBroken, startBroken, startWithoutTreeData, startOfPane, traps}
 
 abbrev pub Right : Case → Type 0
@@ -239,3 +239,19 @@ start-of-pane = refl
 pub the-cases : AllRight (cases ++ traps)
 the-cases =
     (start-accepted, (child-twice, (child-dropped, (focus-dropped, (child-nowhere, (node-alone, (changed-then-dropped, (dropped-then-changed, (graft-with-child, (graft-made, (pane-started, (pane-without-tree-data, (graft-twice, (focus-on-empty-graft, (graft-moved, (child-of-itself, (new-root-under-old-parent, (new-root-of-pane, (new-root-dropped, (unchanged-then-dropped, (dropped-then-unchanged, (graft-goes-and-claimed, (graft-kept-and-claimed, (root-graft-never-placed, (graft-with-child-twice, (second-graft-placed-first, (root-graft-placed-first, (child-nowhere-and-graft-held, (graft-held, (graft-released-by-gone, (nested-tree-moved, (new-root-below, (roots-in-circle, (children-swapped, (named-by-two, (pane-root-keeps-link, (pane-root-marked, (sign-of-zero, (focus-moves-on, (active-descendant-is-graft, (host-leaves, (tree-without-graft, (listed-twice, (slice-too-short, (state-unsound, (record-broken, (start-broken, (start-without-tree-data, (start-of-pane, tt)))))))))))))))))))))))))))))))))))))))))))))))))
+
+-- the numbers of cases 1 to 14, as they are said
+says-numbers : (cs : List Case) → AllRight cs → map (λ c. c .got .number) cs ≡ map (λ c. c .says .number) cs
+says-numbers [] right = refl
+says-numbers (c ∷ cs) right =
+    let p : c .got .number ≡ c .says .number = ap (λ (a : Answer). a .number) (right .0) in
+    let q : map (λ c. c .got .number) cs ≡ map (λ c. c .says .number) cs = says-numbers cs (right .1) in
+    λ i. p i ∷ q i
+
+first-cases : (cs ds : List Case) → AllRight (cs ++ ds) → AllRight cs
+first-cases [] ds right = tt
+first-cases (c ∷ cs) ds right = (right .0, first-cases cs ds (right .1))
+
+pub case-numbers : caseNumbers ≡ 0 ∷ 9 ∷ 0 ∷ 17 ∷ 14 ∷ 13 ∷ 18 ∷ 19 ∷ 10 ∷ 0 ∷ 0 ∷ 7 ∷ 12 ∷ 15 ∷ 0 ∷ 19 ∷ []
+unfolding computed startAccepted childTwice childDropped focusDropped childNowhere nodeAlone changedThenDropped droppedThenChanged graftWithChild graftMade paneStarted paneWithoutTreeData graftTwice focusOnEmptyGraft graftMoved childOfItself
+case-numbers = says-numbers cases (first-cases cases traps the-cases)

@@ -2,3 +2,4 @@ pub mod Cases
 pub mod Outcome
 pub mod Sound
 pub mod Reports
+pub mod Calls

@@ -5,8 +5,8 @@ use mathlib.Core.List.{List, [], _∷_, _++_}
 use mathlib.Core.Option.{Option, none, some}
 use Prim.Native.Nat.{ℕ, _*_}
 use lib.ListN.{length, drop}
-use Rattle.base.specs.Tests.{_&&_, if_then_else_, isSome, keep, sameOption, has}
-use Rattle.ids.specs.Ids.{sameId}
+use Rattle.base.specs.Tests.{_&&_, if_then_else_, isSome, all, keep, sameOption, has}
+use Rattle.ids.specs.Ids.{sameId, before}
 use Rattle.ids.specs.declared.FullNodeId.{FullNodeId}
 use Rattle.record.specs.Batch.{sameData, Batch}
 use Rattle.tree.specs.State.{sameLink, NodeState, idsOf, Forest, State, find, present, parentAt}
@@ -24,7 +24,12 @@ pub record Changes : Type 0 where
 unfoldable pub noChanges : Changes
 noChanges = record { added = []; updated = []; removed = []; relinked = [] }
 
--- Each list takes the ids in the order of the nodes: by tree number, then node number.
+-- sorted by tree number, then node number, no id twice
+unfoldable pub sorted : List FullNodeId → Bool
+sorted [] = true
+sorted (x ∷ xs) = all (before x) xs && sorted xs
+
+-- Each list takes the ids in the order of the nodes, so it is sorted (proofs/Reports, `lists-sorted`).
 module _ (s : Forest) (b : Batch) where
   -- present after and not before
   unfoldable pub added : List FullNodeId
