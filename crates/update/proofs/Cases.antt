@@ -23,7 +23,7 @@ use Rattle.update.specs.Outcome.{renewed, write, writeAll, underGraft, w
 use Rattle.update.specs.Reports.{noChanges, sorted, added, removed, isUpdated, updated, isRelinked, relinked, changesOf, lengthsOf, words, changeWords, lent, unlessIn, focusMoved, extraBefore, extraAfter}
 use Rattle.update.specs.Numbers.{absent, placeless, nowhere, updatedAndRemoved, rowsBeforePass, rowsAfterPass, batchNumber}
 use Rattle.update.specs.Calls.{Answer, refused, accepted, judged, updateNumber, updateBatch, update, blank, seed, withoutTreeData, startNumber, started, startBatch, start, withHostFocus, hostFocus}
-use Rattle.update.specs.CaseWords.{Case}
+use Rattle.update.specs.ExampleCalls.{Case}
 use Rattle.update.specs.Cases.{startAccepted, childTwice, childDropped, focusDropped, childNowhere, nodeAlone, changedThenDropped, droppedThenChanged, graftWithChild, graftMade, paneStarted, paneWithoutTreeData, graftTwice, focusOnEmptyGraft, graftMoved, childOfItself, cases, caseNumbers}
 use Rattle.update.specs.Traps.{newRootUnderOldParent, newRootOfPane, newRootDropped, unchangedThenDropped, droppedThenUnchanged, graftGoesAndClaimed, graftKeptAndClaimed, rootGraftNeverPlaced, graftWithChildTwice, secondGraftPlacedFirst, rootGraftPlacedFirst, childNowhereAndGraftHeld, graftHeld, graftReleasedByGone, nestedTreeMoved, newRootBelow, rootsInCircle, childrenSwapped, namedByTwo, paneRootKeepsLink, paneRootMarked, signOfZero, focusMovesOn, activeDescendantIsGraft, hostLeaves, treeWithoutGraft, listedTwice, sliceTooShort, stateUnsound, recordBroken, startBroken, startWithoutTreeData, startOfPane, traps}
 

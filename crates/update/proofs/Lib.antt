@@ -1,5 +1,6 @@
 pub mod Cases
 pub mod Outcome
+pub mod Numbers
 pub mod Sound
 pub mod Reports
 pub mod Calls

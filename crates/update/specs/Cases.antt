@@ -5,9 +5,11 @@ use mathlib.Core.Option.{Option, none, some}
 use Prim.Native.Nat.{ℕ}
 use Rattle.ids.specs.Ids.{ROOT}
 use Rattle.record.specs.Batch.{Listed, Batch}
+use Rattle.record.specs.ExampleNodes.{T, parent, leaf, labelled, grafts, graftOver, lists, batchFor, batch}
+use Rattle.tree.specs.ExampleStates.{id, root, under, tree, state}
 use Rattle.tree.specs.State.{NodeState, TreeEntry, State}
 use Rattle.update.specs.Calls.{Answer}
-use Rattle.update.specs.CaseWords.{id, T, parent, leaf, labelled, grafts, graftOver, lists, batchFor, batch, root, under, tree, state, startOf, then, refuses, starts, accepts, changes, Case, _gives_}
+use Rattle.update.specs.ExampleCalls.{startOf, then, refuses, starts, accepts, changes, Case, _gives_}
 
 -- root 1 with children 2 and 3, focus 2, host focused
 abbrev pub startS : Batch

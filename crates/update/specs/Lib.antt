@@ -5,6 +5,6 @@ pub mod Outcome
 pub mod Reports
 pub mod Numbers
 pub mod Calls
-pub mod CaseWords
+pub mod ExampleCalls
 pub mod Cases
 pub mod Traps

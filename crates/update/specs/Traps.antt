@@ -7,9 +7,11 @@ use Prim.Native.Nat.{ℕ, _^_}
 use lib.ListN.{replicate, set}
 use Rattle.ids.specs.Ids.{ROOT}
 use Rattle.record.specs.Encode.{encode}
+use Rattle.record.specs.ExampleNodes.{T, U, parent, leaf, labelled, grafts, graftOver, active, boxed, lists, batchFor, batch}
+use Rattle.tree.specs.ExampleStates.{id, root, under, tree, noTree, state}
 use Rattle.tree.specs.State.{NodeState, State}
 use Rattle.update.specs.Calls.{refused, blank, start, update, updateBatch, hostFocus}
-use Rattle.update.specs.CaseWords.{id, T, U, parent, leaf, labelled, grafts, graftOver, active, boxed, lists, batchFor, batch, root, under, tree, noTree, state, slice, startOf, then, refuses, accepts, changes, Case, _gives_}
+use Rattle.update.specs.ExampleCalls.{slice, startOf, then, refuses, accepts, changes, Case, _gives_}
 use Rattle.update.specs.Cases.{startS, one, two, three, main, S, grafted, threeGrafts, withT, afterS}
 
 -- T's tree 1 → 2, and 1 → 2 → 3, under 3
