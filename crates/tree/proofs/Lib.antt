@@ -1,3 +1,5 @@
 pub mod State
 pub mod Sound
 pub mod Down
+pub mod Grafts
+pub mod Focus

@@ -1,6 +1,6 @@
 -- Laws of finding and keeping nodes. Assumes nothing.
 use mathlib.Core.Bool.{Bool, true, false, _||_, false≢true}
-use mathlib.Core.List.{List, [], _∷_, map}
+use mathlib.Core.List.{List, [], _∷_, map, List·Memᴰ, List·Memᴰ·head, List·Memᴰ·tail}
 use mathlib.Core.Option.{Option, none, some, Option·none-ne-some, Option·some-injective}
 use mathlib.Core.Path.{_≡_, refl, sym, ap, _∙_}
 use borrow.Author.Tests.{eqb-true}
@@ -46,6 +46,16 @@ find-id (m ∷ ns) x n e = go (sameId x (m .id)) refl e (find-id ns x n)
     go : (c : Bool) → sameId x (m .id) ≡ c → (if c then some m else find x ns) ≡ some n → (find x ns ≡ some n → n .id ≡ x) → n .id ≡ x
     go true q f h = ap (λ (k : NodeState). k .id) (sym (Option·some-injective m n f)) ∙ sym (same-id→≡ x (m .id) q)
     go false q f h = h f
+
+-- and is one of the nodes
+pub find-member : (ns : List NodeState) (x : FullNodeId) (n : NodeState) → find x ns ≡ some n → List·Memᴰ n ns
+unfolding find
+find-member [] x n e = absurd (Option·none-ne-some n e)
+find-member (m ∷ ns) x n e = go (sameId x (m .id)) e (find-member ns x n)
+  where
+    go : (c : Bool) → (if c then some m else find x ns) ≡ some n → (find x ns ≡ some n → List·Memᴰ n ns) → List·Memᴰ n (m ∷ ns)
+    go true f h = List·Memᴰ·head (sym (Option·some-injective m n f))
+    go false f h = List·Memᴰ·tail (h f)
 
 -- and passes every test that all nodes pass
 pub all-find : (p : NodeState → Bool) (ns : List NodeState) (x : FullNodeId) (n : NodeState) → all p ns ≡ true → find x ns ≡ some n → p n ≡ true
