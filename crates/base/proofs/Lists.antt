@@ -1,6 +1,6 @@
 -- Laws of lists under the Bool tests: what is given, kept and distinct. Assumes nothing.
 use mathlib.Core.Bool.{Bool, true, false, not, _||_, true≢false, false≢true}
-use mathlib.Core.List.{List, [], _∷_, List·Memᴰ, List·Memᴰ·head, List·Memᴰ·tail}
+use mathlib.Core.List.{List, [], _∷_, _++_, map, List·Memᴰ, List·Memᴰ·head, List·Memᴰ·tail}
 use mathlib.Core.Option.{Option, none, some, Option·none-ne-some}
 use mathlib.Core.Path.{_≡_, refl, sym, ap, _∙_}
 use Prim.Native.Nat.{ℕ, zero, suc, _≤_, _<_}
@@ -8,7 +8,7 @@ use native.Mathlib.Omega.{arith}
 use lib.ListN.{length}
 use Rattle.base.specs.Tests.{_&&_, if_then_else_, isSome, isNone, any, all, keep, has, distinct, given, firstGiven}
 use Rattle.base.specs.Bytes.{listOf}
-use Rattle.base.proofs.Tests.{both, or-right, not-true}
+use Rattle.base.proofs.Tests.{both, joined, not-true, or-right, or-assoc, all-member}
 
 -- ## What is given
 
@@ -57,6 +57,31 @@ module _ {A B : Type 0} where
       go true h = refl
       go false h = h
 
+  -- two lists in a row: the first list's answer, else the second's
+  pub first-given-append : (f : A → Option B) (xs ys : List A)
+      → firstGiven f (xs ++ ys) ≡ (elim (firstGiven f xs) as (λ _. Option B) [ none ↦ firstGiven f ys | some y ↦ some y ])
+  first-given-append f [] ys = refl
+  first-given-append f (x ∷ xs) ys = go (f x) (first-given-append f xs ys)
+    where
+      then-second : Option B → Option B
+      then-second o = elim o [ none ↦ firstGiven f ys | some y ↦ some y ]
+
+      go : (o : Option B) → firstGiven f (xs ++ ys) ≡ then-second (firstGiven f xs)
+          → (elim o as (λ _. Option B) [ none ↦ firstGiven f (xs ++ ys) | some y ↦ some y ])
+          ≡ then-second (elim o as (λ _. Option B) [ none ↦ firstGiven f xs | some y ↦ some y ])
+      go none h = h
+      go (some y) h = refl
+
+  -- the image of a member is among the images
+  pub has-map : (same : B → B → Bool) → ((y : B) → same y y ≡ true) → (f : A → B) (xs : List A) (x : A) → List·Memᴰ x xs → has same (map f xs) (f x) ≡ true
+  has-map same h f (z ∷ zs) x (List·Memᴰ·head q) = rw q (ap (λ (c : Bool). c || has same (map f zs) (f z)) (h (f z)))
+  has-map same h f (z ∷ zs) x (List·Memᴰ·tail i) = or-right (same (f x) (f z)) (has-map same h f zs x i)
+
+  -- the images pass where the elements do
+  pub all-map : (p : B → Bool) (f : A → B) (xs : List A) → all p (map f xs) ≡ all (λ x. p (f x)) xs
+  all-map p f [] = refl
+  all-map p f (x ∷ xs) = ap (λ (c : Bool). p (f x) && c) (all-map p f xs)
+
 -- ## One list
 
 module _ {A : Type 0} where
@@ -83,6 +108,11 @@ module _ {A : Type 0} where
       go true f h = omega (arith, most xs)
       go false f h = omega (arith, h f)
 
+  -- all pass where each member does
+  pub all-of : (p : A → Bool) (xs : List A) → ((x : A) → List·Memᴰ x xs → p x ≡ true) → all p xs ≡ true
+  all-of p [] h = refl
+  all-of p (x ∷ xs) h = joined (h x (List·Memᴰ·head refl)) (all-of p xs (λ y m. h y (List·Memᴰ·tail m)))
+
   -- all fail where none passes
   pub all-not : (p : A → Bool) (xs : List A) → all (λ x. not (p x)) xs ≡ not (any p xs)
   unfolding _&&_
@@ -92,6 +122,15 @@ module _ {A : Type 0} where
       go : (c : Bool) → all (λ x. not (p x)) xs ≡ not (any p xs) → (not c && all (λ x. not (p x)) xs) ≡ not (c || any p xs)
       go true h = refl
       go false h = h
+
+  -- a member fails where none passes
+  pub any-member : (p : A → Bool) (xs : List A) (x : A) → any p xs ≡ false → List·Memᴰ x xs → p x ≡ false
+  any-member p xs x e i = not-true (all-member (λ y. not (p y)) xs x (all-not p xs ∙ ap not e) i)
+
+  -- one of two lists in a row passes
+  pub any-append : (p : A → Bool) (xs ys : List A) → any p (xs ++ ys) ≡ (any p xs || any p ys)
+  any-append p [] ys = refl
+  any-append p (x ∷ xs) ys = ap (λ (c : Bool). p x || c) (any-append p xs ys) ∙ or-assoc (p x) (any p xs) (any p ys)
 
 -- ## Numbers in order
 

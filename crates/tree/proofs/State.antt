@@ -5,11 +5,12 @@ use mathlib.Core.Option.{Option, none, some, Option·none-ne-some, Option·some-
 use mathlib.Core.Path.{_≡_, refl, sym, ap, _∙_}
 use borrow.Author.Tests.{eqb-true}
 use Rattle.base.specs.Tests.{_&&_, if_then_else_, isSome, any, all, keep, has}
-use Rattle.base.proofs.Tests.{both, map-keep, has-keep}
-use Rattle.ids.specs.Ids.{sameId}
-use Rattle.ids.proofs.Ids.{same-id→≡}
+use Rattle.base.proofs.Tests.{both, all-member, map-keep, has-keep}
+use Rattle.ids.specs.Ids.{sameId, before}
+use Rattle.ids.proofs.Ids.{same-id→≡, same-id-refl, before-apart}
 use Rattle.ids.specs.declared.FullNodeId.{FullNodeId}
 use Rattle.tree.specs.State.{ParentAndIndex, sameLink, NodeState, idsOf, find, present}
+use Rattle.tree.specs.Sound.{ascending}
 
 pub same-link→≡ : (k l : ParentAndIndex) → sameLink k l ≡ true → k ≡ l
 unfolding sameLink
@@ -66,3 +67,11 @@ all-find p (m ∷ ns) x n e f = go (sameId x (m .id)) f (all-find p ns x n (both
     go : (c : Bool) → (if c then some m else find x ns) ≡ some n → (find x ns ≡ some n → p n ≡ true) → p n ≡ true
     go true q h = ap p (sym (Option·some-injective m n q)) ∙ both e .0
     go false q h = h q
+
+-- a node that stands in order is found by its id
+pub find-self : (ns : List NodeState) (n : NodeState) → ascending ns ≡ true → List·Memᴰ n ns → find (n .id) ns ≡ some n
+unfolding find ascending
+find-self (m ∷ ns) n e (List·Memᴰ·head q) = rw q (ap (λ (c : Bool). if c then some m else find (m .id) ns) (same-id-refl (m .id)))
+find-self (m ∷ ns) n e (List·Memᴰ·tail i) =
+    ap (λ (c : Bool). if c then some m else find (n .id) ns) (before-apart (m .id) (n .id) (all-member (λ k. before (m .id) (k .id)) ns n (both e .0) i))
+    ∙ find-self ns n (both e .1) i

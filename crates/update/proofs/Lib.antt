@@ -1,1 +1,4 @@
 pub mod Cases
+pub mod Outcome
+pub mod Pass
+pub mod Focus
