@@ -63,12 +63,12 @@ module _ {A B : Type 0} where
   first-given-append f [] ys = refl
   first-given-append f (x ∷ xs) ys = go (f x) (first-given-append f xs ys)
     where
-      then-second : Option B → Option B
-      then-second o = elim o [ none ↦ firstGiven f ys | some y ↦ some y ]
+      thenSecond : Option B → Option B
+      thenSecond o = elim o [ none ↦ firstGiven f ys | some y ↦ some y ]
 
-      go : (o : Option B) → firstGiven f (xs ++ ys) ≡ then-second (firstGiven f xs)
+      go : (o : Option B) → firstGiven f (xs ++ ys) ≡ thenSecond (firstGiven f xs)
           → (elim o as (λ _. Option B) [ none ↦ firstGiven f (xs ++ ys) | some y ↦ some y ])
-          ≡ then-second (elim o as (λ _. Option B) [ none ↦ firstGiven f xs | some y ↦ some y ])
+          ≡ thenSecond (elim o as (λ _. Option B) [ none ↦ firstGiven f xs | some y ↦ some y ])
       go none h = h
       go (some y) h = refl
 

@@ -72,11 +72,11 @@ subtree-below s t u p = let z = subtree-place 0 (s .trees) t u p in omega (arith
 abbrev without : ℕ → List ℕ → List ℕ
 without q left = keep (λ k. not (eqb q k)) left
 
--- what the list has, other than q
+-- what is left without q: what was left, other than q
 has-without : (q : ℕ) (left : List ℕ) (k : ℕ) → has eqb (without q left) k ≡ (has eqb left k && not (eqb q k))
 has-without q left k = has-keep eqb eqb-true (λ k. not (eqb q k)) left k
 
--- what was not left is not left without q
+-- what was not left is not left now
 without-out : (q : ℕ) (left : List ℕ) (k : ℕ) → has eqb left k ≡ false → has eqb (without q left) k ≡ false
 unfolding _&&_
 without-out q left k e = has-without q left k ∙ ap (λ (c : Bool). c && not (eqb q k)) e
@@ -85,7 +85,7 @@ without-out q left k e = has-without q left k ∙ ap (λ (c : Bool). c && not (e
 without-self : (q : ℕ) (left : List ℕ) → has eqb (without q left) q ≡ false
 without-self q left = has-without q left q ∙ ap (λ (c : Bool). has eqb left q && not c) (eq-eqb q q refl) ∙ and-false (has eqb left q)
 
--- and nothing else
+-- and what is not left now was not left before, or is q
 without-cases : (q : ℕ) (left : List ℕ) (k : ℕ) → has eqb (without q left) k ≡ false → (has eqb left k ≡ false) ⊎ (k ≡ q)
 unfolding _&&_
 without-cases q left k e = go (has eqb left k) (eqb q k) refl (sym (has-without q left k) ∙ e)
@@ -126,7 +126,7 @@ record Enters (s : Forest) (y : FullNodeId) (k : ℕ) : Type 0 where
   exists : subtreeOf s tree ≡ some subtree
   numbered : subtree .focus .tree .0 ≡ k
 
--- A number that is not left was entered; from which tree, that was entered too, and before the tree of x.
+-- `left` are the numbers of the trees not entered, x is the last focus: a node that grafts an entered tree stands in a tree entered before that of x.
 abbrev Follows : Forest → List ℕ → FullNodeId → Type 0
 Follows s left x = (y : FullNodeId) (k : ℕ) → Enters s y k → has eqb left k ≡ false → (has eqb left (y .tree .0) ≡ false) × (y .tree .0 ≡ x .tree .0 → ⊥)
 
@@ -178,8 +178,8 @@ pub room-enough : (s : Forest) → graftsDiffer (s .nodes) ≡ true → holder (
 unfolding effectiveFocus
 room-enough s differ free u is more =
     rw (is, effectiveFocus)
-    (enough s differ (suc count) (without first all-numbers) (u .focus) (omega (arith, keep-less (eqb first) all-numbers (among first (subtree-below s ROOT u is)), length-list-of count (λ i. i)))
-    (without-self first all-numbers) start more)
+    (enough s differ (suc count) (without first allNumbers) (u .focus) (omega (arith, keep-less (eqb first) allNumbers (among first (subtree-below s ROOT u is)), length-list-of count (λ i. i)))
+    (without-self first allNumbers) start more)
   where
     count : ℕ
     count = length (s .trees)
@@ -187,16 +187,16 @@ room-enough s differ free u is more =
     first : ℕ
     first = u .focus .tree .0
 
-    all-numbers : List ℕ
-    all-numbers = listOf count (λ i. i)
+    allNumbers : List ℕ
+    allNumbers = listOf count (λ i. i)
 
-    among : (k : ℕ) → k < count → has eqb all-numbers k ≡ true
+    among : (k : ℕ) → k < count → has eqb allNumbers k ≡ true
     among k l = has-list-of eqb (λ n. eq-eqb n n refl) count (λ i. i) k l
 
-    start : Follows s (without first all-numbers) (u .focus)
-    start y k e f = absurd (go (without-cases first all-numbers k f))
+    start : Follows s (without first allNumbers) (u .focus)
+    start y k e f = absurd (go (without-cases first allNumbers k f))
       where
-        go : (has eqb all-numbers k ≡ false) ⊎ (k ≡ first) → ⊥
+        go : (has eqb allNumbers k ≡ false) ⊎ (k ≡ first) → ⊥
         go (inl n) = true≢false (sym (among k (rw (e .numbered) at (subtree-below s (e .tree) (e .subtree) (e .exists)))) ∙ n)
         go (inr p) =
             graft-spared (s .nodes) y ROOT (sym (holder-spared (s .nodes) ROOT) ∙ ap isNone free)

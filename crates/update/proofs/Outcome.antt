@@ -16,40 +16,40 @@ use Rattle.update.specs.Gone.{gone}
 use Rattle.update.specs.Outcome.{renewed, write, writeAll, written, relink, outcome}
 
 module _ (p : NodeData → Bool) where
-  -- every node's data passes
-  abbrev Pass : List NodeState → Type 0
-  Pass ns = all (λ n. p (n .body)) ns ≡ true
+  -- p holds of the data of every node
+  abbrev Holds : List NodeState → Type 0
+  Holds ns = all (λ n. p (n .body)) ns ≡ true
 
   -- renewed data is the old or the new
-  pass-renewed : (was new : NodeData) → p was ≡ true → p new ≡ true → p (renewed was new) ≡ true
+  holds-renewed : (was new : NodeData) → p was ≡ true → p new ≡ true → p (renewed was new) ≡ true
   unfolding renewed
-  pass-renewed was new e f = go (sameData was new)
+  holds-renewed was new e f = go (sameData was new)
     where
       go : (c : Bool) → p (if c then was else new) ≡ true
       go true = e
       go false = f
 
   -- one node written
-  pass-write : (x : FullNodeId) (d : NodeData) (ns : List NodeState) → p d ≡ true → Pass ns → Pass (write x d ns)
+  holds-write : (x : FullNodeId) (d : NodeData) (ns : List NodeState) → p d ≡ true → Holds ns → Holds (write x d ns)
   unfolding write
-  pass-write x d [] f e = joined f e
-  pass-write x d (n ∷ ns) f e = go (sameId x (n .id)) (before x (n .id)) (pass-write x d ns f (both e .1))
+  holds-write x d [] f e = joined f e
+  holds-write x d (n ∷ ns) f e = go (sameId x (n .id)) (before x (n .id)) (holds-write x d ns f (both e .1))
     where
-      go : (c k : Bool) → Pass (write x d ns)
-          → Pass (if c then record { id = n .id; parentAndIndex = n .parentAndIndex; body = renewed (n .body) d } ∷ ns
+      go : (c k : Bool) → Holds (write x d ns)
+          → Holds (if c then record { id = n .id; parentAndIndex = n .parentAndIndex; body = renewed (n .body) d } ∷ ns
           else if k then record { id = x; parentAndIndex = none; body = d } ∷ n ∷ ns
           else n ∷ write x d ns)
-      go true k h = joined (pass-renewed (n .body) d (both e .0) f) (both e .1)
+      go true k h = joined (holds-renewed (n .body) d (both e .0) f) (both e .1)
       go false true h = joined f e
       go false false h = joined (both e .0) h
 
   -- all listed nodes written
-  pass-write-all : (t : TreeIndex) (ls : List Listed) (ns : List NodeState) → all (λ l. p (l .body)) ls ≡ true → Pass ns → Pass (writeAll t ls ns)
+  holds-write-all : (t : TreeIndex) (ls : List Listed) (ns : List NodeState) → all (λ l. p (l .body)) ls ≡ true → Holds ns → Holds (writeAll t ls ns)
   unfolding writeAll
-  pass-write-all t [] ns f e = e
-  pass-write-all t (l ∷ ls) ns f e =
-      pass-write-all t ls (write (record { tree = t; node = l .id }) (l .body) ns) (both f .1)
-      (pass-write (record { tree = t; node = l .id }) (l .body) ns (both f .0) e)
+  holds-write-all t [] ns f e = e
+  holds-write-all t (l ∷ ls) ns f e =
+      holds-write-all t ls (write (record { tree = t; node = l .id }) (l .body) ns) (both f .1)
+      (holds-write (record { tree = t; node = l .id }) (l .body) ns (both f .0) e)
 
   -- what holds of the data of all old nodes and of all listed ones holds in the outcome
   pub all-outcome : (s : Forest) (b : Batch) → all (λ n. p (n .body)) (s .nodes) ≡ true → all (λ l. p (l .body)) (b .nodes) ≡ true
@@ -57,4 +57,4 @@ module _ (p : NodeData → Bool) where
   unfolding outcome written relink
   all-outcome s b e f =
       all-map (λ n. p (n .body)) (relink s b) (keep (λ n. not (gone s b (n .id))) (written s b))
-      ∙ all-keep (λ n. p (n .body)) (λ n. not (gone s b (n .id))) (written s b) (pass-write-all (number s b) (b .nodes) (s .nodes) f e)
+      ∙ all-keep (λ n. p (n .body)) (λ n. not (gone s b (n .id))) (written s b) (holds-write-all (number s b) (b .nodes) (s .nodes) f e)

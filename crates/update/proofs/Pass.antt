@@ -33,12 +33,12 @@ listing-append xs ys n = first-given-append (λ l. if sameNode n (l .id) then so
 listing-snoc : (xs : List Listed) (l : Listed) (n : NodeId) (c : Bool) → listing xs n ≡ none → sameNode n (l .id) ≡ c
     → listing (xs ++ l ∷ []) n ≡ (if c then some (l .body) else none)
 unfolding listing
-listing-snoc xs l n c e q = rw (listing-append xs (l ∷ []) n, e) (ap (λ (t : Bool). data-if t) q ∙ go c)
+listing-snoc xs l n c e q = rw (listing-append xs (l ∷ []) n, e) (ap (λ (t : Bool). dataIf t) q ∙ go c)
   where
-    data-if : Bool → Option NodeData
-    data-if t = let o : Option NodeData = if t then some (l .body) else none in elim o [ none ↦ none | some d ↦ some d ]
+    dataIf : Bool → Option NodeData
+    dataIf t = let o : Option NodeData = if t then some (l .body) else none in elim o [ none ↦ none | some d ↦ some d ]
 
-    go : (t : Bool) → data-if t ≡ (if t then some (l .body) else none)
+    go : (t : Bool) → dataIf t ≡ (if t then some (l .body) else none)
     go true = refl
     go false = refl
 
