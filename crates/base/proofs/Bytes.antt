@@ -1,12 +1,11 @@
 -- Laws of lists by index and of tests over every index. Assumes nothing.
-use mathlib.Core.Bool.{Bool, true, false}
-use mathlib.Core.List.{List, [], _∷_}
+use mathlib.Core.Bool.{Bool, true}
 use mathlib.Core.Logic.{⊎-elim}
-use mathlib.Core.Path.{_≡_, refl, sym, ap, _∙_}
+use mathlib.Core.Path.{_≡_, refl, ap, _∙_}
 use Prim.Native.Nat.{ℕ, zero, suc, _<_}
 use native.Mathlib.Nat.{eq-or-lt-of-le, le-of-suc-le-suc}
 use native.Mathlib.Omega.{arith}
-use Rattle.base.specs.Tests.{_&&_, all}
+use Rattle.base.specs.Tests.{all}
 use Rattle.base.specs.Bytes.{allBelow, listOf}
 use Rattle.base.proofs.Tests.{both, joined}
 

@@ -1,4 +1,5 @@
 pub mod Tests
+pub mod Lists
 pub mod Tables
 pub mod Bytes
 pub mod Examples

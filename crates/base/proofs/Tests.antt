@@ -44,6 +44,21 @@ pub or-right : (a : Bool) {h : Bool} → h ≡ true → (a || h) ≡ true
 or-right true e = refl
 or-right false e = e
 
+pub or-assoc : (a c d : Bool) → (a || (c || d)) ≡ ((a || c) || d)
+or-assoc true c d = refl
+or-assoc false c d = refl
+
+-- where one or the other does not hold, neither does
+pub or-false : (a : Bool) {c : Bool} → (a || c) ≡ false → (a ≡ false) × (c ≡ false)
+or-false true e = absurd (true≢false e)
+or-false false e = (refl, e)
+
+-- where not both fail, one holds
+pub one-of : (a c : Bool) → (not a && not c) ≡ false → (a || c) ≡ true
+unfolding _&&_
+one-of true c e = refl
+one-of false c e = not-false e
+
 module _ {A : Type 0} where
   -- ## Tests that decide equality
 

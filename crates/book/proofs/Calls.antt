@@ -1,6 +1,6 @@
 -- What one call leaves: the state stays sound and the book's; an accepted batch's nodes are counted. Assumes nothing.
-use mathlib.Core.Bool.{Bool, true, false, not, _||_, false≢true}
-use mathlib.Core.List.{List, [], _∷_, _++_, map}
+use mathlib.Core.Bool.{Bool, true, false, not, _||_}
+use mathlib.Core.List.{List, [], _++_, map}
 use mathlib.Core.Option.{Option, none, some, Option·none-ne-some}
 use mathlib.Core.Path.{_≡_, refl, sym, ap, _∙_, subst}
 use Prim.Native.Nat.{ℕ, zero, suc}
@@ -12,13 +12,12 @@ use Rattle.base.proofs.Tables.{first-zero, first-found-zero}
 use Rattle.ids.specs.Ids.{ROOT, sameTree, sameId}
 use Rattle.ids.proofs.Ids.{same-tree→≡}
 use Rattle.ids.specs.declared.TreeId.{TreeId}
-use Rattle.ids.specs.declared.TreeIndex.{TreeIndex}
 use Rattle.ids.specs.declared.NodeId.{NodeId}
 use Rattle.ids.specs.declared.FullNodeId.{FullNodeId}
 use Rattle.record.specs.Batch.{fieldsOk, Batch}
 use Rattle.record.specs.Parse.{parse}
 use Rattle.record.proofs.Parse.{parse-fields}
-use Rattle.tree.specs.State.{TreeEntry, Forest, State, present, SubtreeState, subtreeOf}
+use Rattle.tree.specs.State.{Forest, State, present, SubtreeState, subtreeOf}
 use Rattle.tree.specs.Down.{rootOf}
 use Rattle.tree.specs.Sound.{sound}
 use Rattle.tree.proofs.Sound.{shape-parts, Sound, sound-parts, Root, root-of-shape}

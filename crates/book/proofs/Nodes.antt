@@ -8,11 +8,8 @@ use Rattle.base.proofs.Tests.{both, same-list→≡, map-keep}
 use borrow.Author.Tests.{eqb-true}
 use Rattle.ids.specs.Ids.{sameNode, sameId, before}
 use Rattle.ids.proofs.Ids.{same-tree→≡, same-node→≡, same-id→≡}
-use Rattle.ids.specs.declared.TreeId.{TreeId}
 use Rattle.ids.specs.declared.TreeIndex.{TreeIndex}
-use Rattle.ids.specs.declared.NodeId.{NodeId}
 use Rattle.ids.specs.declared.FullNodeId.{FullNodeId}
-use Prim.Native.Nat.{ℕ}
 use Rattle.record.specs.Batch.{NodeData, graft?, sameData, Listed, Batch}
 use Rattle.tree.specs.State.{NodeState, idsOf, Forest, present}
 use Rattle.tree.proofs.State.{present-has}

@@ -26,7 +26,7 @@ use Rattle.update.specs.Numbers.{batchNumber}
 use Rattle.update.specs.Calls.{Answer, refused, judged, blank, seed, withoutTreeData, startNumber, started, startBatch, start}
 use Rattle.update.proofs.Sound.{passed, outcome-sound}
 use Rattle.book.specs.Book.{Entry, Book, enterAll, strike, openedBy, opened, Call, answerTo, entered, isEntered, treeIn, treesIn, entryOfNode}
-use Rattle.book.specs.Demand.{stateAfter, bookAfter, Kept, Claim, Demand3}
+use Rattle.book.specs.Demand.{stateAfter, bookAfter, Kept, Demand3}
 use Rattle.book.proofs.Nodes.{nodes-after, entered-present}
 use Rattle.book.proofs.Calls.{Held, leaves-call, counted-update}
 

@@ -11,12 +11,12 @@ use lib.ListN.{length}
 use borrow.Author.Tests.{eqb-true}
 use Rattle.base.specs.Tests.{_&&_, if_then_else_, isSome, has, position}
 use Rattle.base.proofs.Tests.{both, joined}
-use Rattle.ids.specs.Ids.{sameTree, sameIndex, sameId}
+use Rattle.ids.specs.Ids.{sameTree, sameIndex}
 use Rattle.ids.specs.declared.TreeId.{TreeId}
 use Rattle.ids.specs.declared.NodeId.{NodeId}
 use Rattle.ids.specs.declared.FullNodeId.{FullNodeId}
 use Rattle.record.specs.Batch.{Batch}
-use Rattle.tree.specs.State.{NodeState, idsOf, Subtree, TreeEntry, Forest, present, SubtreeState, subtreeState, subtreeFrom, subtreeOf}
+use Rattle.tree.specs.State.{NodeState, Subtree, TreeEntry, Forest, SubtreeState, subtreeState, subtreeFrom, subtreeOf}
 use Rattle.tree.specs.Sound.{grafted, allGrafted}
 use Rattle.tree.proofs.State.{present-has}
 use Rattle.update.specs.Words.{known, number}

@@ -1,6 +1,6 @@
 -- Document 01's book: ids, each with its children and graft, and a root and a focus per tree number; what each call enters in it.
 -- Assumes nothing.
-use mathlib.Core.Bool.{Bool, true, false, not}
+use mathlib.Core.Bool.{Bool, not}
 use mathlib.Core.List.{List, [], _∷_, _++_, map}
 use mathlib.Core.Option.{Option, none, some}
 use Prim.Native.Nat.{ℕ, zero, suc}
@@ -13,7 +13,7 @@ use Rattle.ids.specs.declared.NodeId.{NodeId}
 use Rattle.ids.specs.declared.FullNodeId.{FullNodeId}
 use Rattle.record.specs.Batch.{NodeData, graft?, Listed, Batch}
 use Rattle.record.specs.Parse.{parse}
-use Rattle.tree.specs.State.{NodeState, Subtree, TreeEntry, State}
+use Rattle.tree.specs.State.{NodeState, TreeEntry, State}
 use Rattle.update.specs.Calls.{Answer, update, hostFocus}
 
 -- ## The book

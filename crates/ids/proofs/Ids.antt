@@ -1,10 +1,10 @@
 -- Laws of same and before. Assumes nothing.
 use mathlib.Core.Bool.{Bool, true, false}
-use mathlib.Core.Path.{_≡_, refl}
-use borrow.Author.Tests.{eqb-true, eq-eqb}
-use Rattle.base.specs.Tests.{_&&_}
-use Rattle.base.proofs.Tests.{both, joined}
-use Rattle.ids.specs.Ids.{sameTree, sameIndex, sameNode, sameId}
+use mathlib.Core.Path.{_≡_, refl, sym, ap, _∙_}
+use native.Mathlib.Omega.{arith}
+use borrow.Author.Tests.{eqb-true, eq-eqb, le-ltb}
+use Rattle.base.proofs.Tests.{both, joined, and-false}
+use Rattle.ids.specs.Ids.{sameTree, sameIndex, sameNode, sameId, before}
 use Rattle.ids.specs.declared.TreeId.{TreeId}
 use Rattle.ids.specs.declared.TreeIndex.{TreeIndex}
 use Rattle.ids.specs.declared.NodeId.{NodeId}
@@ -38,6 +38,31 @@ pub same-tree-refl : (a : TreeId) → sameTree a a ≡ true
 unfolding sameTree
 same-tree-refl a = joined (eq-eqb (a .high) (a .high) refl) (eq-eqb (a .low) (a .low) refl)
 
+pub same-index-refl : (i : TreeIndex) → sameIndex i i ≡ true
+unfolding sameIndex
+same-index-refl i = eq-eqb (i .0) (i .0) refl
+
+pub same-node-refl : (n : NodeId) → sameNode n n ≡ true
+unfolding sameNode
+same-node-refl n = eq-eqb (n .0) (n .0) refl
+
 pub same-id-refl : (x : FullNodeId) → sameId x x ≡ true
-unfolding sameId sameIndex sameNode
-same-id-refl x = joined (eq-eqb (x .tree .0) (x .tree .0) refl) (eq-eqb (x .node .0) (x .node .0) refl)
+unfolding sameId
+same-id-refl x = joined (same-index-refl (x .tree)) (same-node-refl (x .node))
+
+-- ## Before
+
+-- no id comes before itself
+pub before-self : (x : FullNodeId) → before x x ≡ false
+unfolding before
+before-self x =
+    rw (le-ltb (x .tree .0) (x .tree .0) (omega arith), le-ltb (x .node .0) (x .node .0) (omega arith))
+    (and-false (sameIndex (x .tree) (x .tree)))
+
+-- what comes before an id is another
+pub before-apart : (x y : FullNodeId) → before x y ≡ true → sameId y x ≡ false
+before-apart x y e = go (sameId y x) refl
+  where
+    go : (c : Bool) → sameId y x ≡ c → c ≡ false
+    go true q = sym e ∙ ap (before x) (same-id→≡ y x q) ∙ before-self x
+    go false q = refl

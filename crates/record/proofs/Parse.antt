@@ -1,9 +1,9 @@
 -- Laws of parsed batches. Assumes nothing.
 use mathlib.Core.Bool.{Bool, true, false}
-use mathlib.Core.Option.{Option, none, some, Option·none-ne-some, Option·some-injective}
+use mathlib.Core.Option.{none, some, Option·none-ne-some, Option·some-injective}
 use mathlib.Core.List.{List}
 use mathlib.Core.Path.{_≡_, refl, sym, ap, _∙_}
-use Prim.Native.Nat.{ℕ, _<_}
+use Prim.Native.Nat.{ℕ}
 use Rattle.base.specs.Tests.{if_then_else_, all}
 use Rattle.base.proofs.Tests.{both}
 use Rattle.base.proofs.Bytes.{all-below-at, all-list-of}

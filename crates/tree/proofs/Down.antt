@@ -1,7 +1,8 @@
 -- Laws of going down and climbing: in a sound shape each node is met once, under the link that it records, and climbs to the root.
 -- Assumes nothing.
 use mathlib.Core.Bool.{Bool, true, false, false≢true}
-use mathlib.Core.List.{List, [], _∷_, _++_, List·Memᴰ}
+use mathlib.Core.List.{List, [], _∷_, _++_, List·Memᴰ, List·Memᴰ·head, List·Memᴰ·tail, List·Memᴰ·not-nil, List·Memᴰ·cases-cons, Memᴰ·append-left, Memᴰ·append-right}
+use mathlib.Core.Logic.{_⊎_, inl, inr}
 use mathlib.Core.Option.{Option, none, some}
 use mathlib.Core.Path.{_≡_, refl, sym, ap, _∙_, subst}
 use Prim.Native.Nat.{ℕ, zero, suc, _+_, _≤_, _<_}
@@ -191,3 +192,49 @@ descent s h r = record {
     one x (some n) q e =
         ap (λ (y : FullNodeId). count (λ m. sameId y (m .id)) (wayDown s)) (sym (find-id (s .nodes) x n q))
         ∙ eqb-true (count (λ m. sameId (n .id) (m .id)) (wayDown s)) 1 (all-find (metOnce (wayDown s)) (s .nodes) x n (h .once) q)
+
+-- ## What is below a node that is met is met
+
+-- a node that is met once is met
+pub some-met : (x : FullNodeId) (ms : List Met) (c : ℕ) → count (λ m. sameId x (m .id)) ms ≡ suc c → (m : Met) × List·Memᴰ m ms × (m .id ≡ x)
+some-met x [] c e = absurd (omega arith)
+some-met x (m ∷ ms) c e = go (sameId x (m .id)) refl e (some-met x ms c)
+  where
+    go : (t : Bool) → sameId x (m .id) ≡ t → (if t then suc (count (λ m. sameId x (m .id)) ms) else count (λ m. sameId x (m .id)) ms) ≡ suc c
+        → (count (λ m. sameId x (m .id)) ms ≡ suc c → (j : Met) × List·Memᴰ j ms × (j .id ≡ x)) → (j : Met) × List·Memᴰ j (m ∷ ms) × (j .id ≡ x)
+    go true q f h = (m, List·Memᴰ·head refl, sym (same-id→≡ x (m .id) q))
+    go false q f h = let z = h f in (z .0, List·Memᴰ·tail (z .1), z .2)
+
+-- where room is left, all of the nodes that the way starts from are met
+down-starts : (s : Forest) (room : ℕ) (ms : List Met) → length (down room s ms) < room → (m : Met) → List·Memᴰ m ms → List·Memᴰ m (down room s ms)
+unfolding down
+down-starts s zero ms l m i = absurd (not-suc-le-zero l)
+down-starts s (suc room) (k ∷ ms) l m (List·Memᴰ·head q) = List·Memᴰ·head q
+down-starts s (suc room) (k ∷ ms) l m (List·Memᴰ·tail i) =
+    List·Memᴰ·tail (down-starts s room (belowId s (k .id) ++ ms) (le-of-suc-le-suc l) m (Memᴰ·append-right (belowId s (k .id)) i))
+
+-- and what is below them
+down-below : (s : Forest) (room : ℕ) (ms : List Met) → length (down room s ms) < room
+    → (k m : Met) → List·Memᴰ k (down room s ms) → List·Memᴰ m (belowId s (k .id)) → List·Memᴰ m (down room s ms)
+unfolding down
+down-below s zero ms l k m i j = absurd (not-suc-le-zero l)
+down-below s (suc room) [] l k m i j = absurd (List·Memᴰ·not-nil i)
+down-below s (suc room) (n ∷ ms) l k m i j = List·Memᴰ·tail (go (List·Memᴰ·cases-cons i) (down-below s room (belowId s (n .id) ++ ms) (le-of-suc-le-suc l) k m))
+  where
+    rest : List Met
+    rest = down room s (belowId s (n .id) ++ ms)
+
+    go : (k ≡ n) ⊎ List·Memᴰ k rest → (List·Memᴰ k rest → List·Memᴰ m (belowId s (k .id)) → List·Memᴰ m rest) → List·Memᴰ m rest
+    go (inl q) h =
+        down-starts s room (belowId s (n .id) ++ ms) (le-of-suc-le-suc l) m
+        (Memᴰ·append-left ms (subst (λ (x : Met). List·Memᴰ m (belowId s (x .id))) q j))
+    go (inr q) h = h q j
+
+-- in a sound shape, what is below a node that is met is met
+pub below-met : (s : Forest) (h : Shape s) (r : Root s) (k m : Met) → List·Memᴰ k (wayDown s) → List·Memᴰ m (belowId s (k .id)) → List·Memᴰ m (wayDown s)
+below-met s h r k m i j =
+    let way = way-down-from s (r .root) (r .is-root) in
+    let start : List Met = record { id = r .root; link = none } ∷ [] in
+    let short : length (down (suc (length (s .nodes))) s start) < suc (length (s .nodes)) =
+    rw (← way) (omega (arith, leb-true (length (wayDown s)) (length (s .nodes)) (h .ends))) in
+    rw way (down-below s (suc (length (s .nodes))) start short k m (rw way at i) j)

@@ -1,4 +1,6 @@
 pub mod State
 pub mod Sound
 pub mod Down
+pub mod Grafts
+pub mod Focus
 pub mod Examples

@@ -2,16 +2,14 @@
 -- Assumes nothing.
 use mathlib.Core.Bool.{Bool, true, false, _||_}
 use mathlib.Core.List.{List, [], _∷_, map}
-use mathlib.Core.Option.{Option, none, some}
-use Prim.Native.Nat.{ℕ, zero, suc}
+use mathlib.Core.Option.{none, some}
+use Prim.Native.Nat.{ℕ, suc}
 use lib.Dec.{eqb, leb}
 use lib.ListN.{length}
 use Rattle.base.specs.Tests.{_&&_, isSome, isNone, isNil, all, count, sameOption, distinct, given}
 use Rattle.ids.specs.Ids.{ROOT, sameTree, sameId, before}
-use Rattle.ids.specs.declared.TreeId.{TreeId}
-use Rattle.ids.specs.declared.FullNodeId.{FullNodeId}
-use Rattle.record.specs.Batch.{NodeData, graft?, fieldsOk}
-use Rattle.tree.specs.State.{ParentAndIndex, sameLink, NodeState, TreeEntry, Forest, find, present, holder}
+use Rattle.record.specs.Batch.{graft?, fieldsOk}
+use Rattle.tree.specs.State.{sameLink, NodeState, TreeEntry, Forest, find, present, holder}
 use Rattle.tree.specs.Down.{Met, wayDown}
 use Rattle.tree.specs.Focus.{effectiveFocus}
 

@@ -1,6 +1,6 @@
 -- The abstract state: nodes with their parent links and data, the table of trees, the host's focus flag. Document 01, modules 1 and 3.
 -- Assumes nothing.
-use mathlib.Core.Bool.{Bool, true, false}
+use mathlib.Core.Bool.{Bool}
 use mathlib.Core.List.{List, [], _∷_, map}
 use mathlib.Core.Option.{Option, none, some}
 use Prim.Native.Nat.{ℕ, suc}

@@ -20,7 +20,7 @@ use Rattle.update.specs.Words.{listing, known, number, here, mine, old, 
 use Rattle.update.specs.Pass.{placedAtTurn, namings, events, fault, pass}
 use Rattle.update.specs.Gone.{goesIf, fares, replaced, fateHere, fateElsewhere, fate, goneWithin, gone}
 use Rattle.update.specs.Outcome.{renewed, write, writeAll, underGraft, written, paneRoot, linkIsCut, linkHere, linkElsewhere, linkAfter, relink, subtreeHere, subtreeElsewhere, entryAfter, entriesAfter, newEntry, outcome}
-use Rattle.update.specs.Reports.{noChanges, sorted, added, removed, isUpdated, updated, isRelinked, relinked, changesOf, lengthsOf, words, changeWords, lent, unlessIn, focusMoved, extraBefore, extraAfter}
+use Rattle.update.specs.Reports.{noChanges, added, removed, isUpdated, updated, isRelinked, relinked, changesOf, lengthsOf, words, changeWords, lent, unlessIn, focusMoved, extraBefore, extraAfter}
 use Rattle.update.specs.Numbers.{absent, placeless, nowhere, updatedAndRemoved, rowsBeforePass, rowsAfterPass, batchNumber}
 use Rattle.update.specs.Calls.{Answer, refused, accepted, judged, updateNumber, updateBatch, update, blank, seed, withoutTreeData, startNumber, started, startBatch, start, withHostFocus, hostFocus}
 use Rattle.update.specs.ExampleCalls.{Case}
@@ -253,5 +253,5 @@ first-cases [] ds right = tt
 first-cases (c ∷ cs) ds right = (right .0, first-cases cs ds (right .1))
 
 pub case-numbers : caseNumbers ≡ 0 ∷ 9 ∷ 0 ∷ 17 ∷ 14 ∷ 13 ∷ 18 ∷ 19 ∷ 10 ∷ 0 ∷ 0 ∷ 7 ∷ 12 ∷ 15 ∷ 0 ∷ 19 ∷ []
-unfolding computed startAccepted childTwice childDropped focusDropped childNowhere nodeAlone changedThenDropped droppedThenChanged graftWithChild graftMade paneStarted paneWithoutTreeData graftTwice focusOnEmptyGraft graftMoved childOfItself
+unfolding computed caseNumbers startAccepted childTwice childDropped focusDropped childNowhere nodeAlone changedThenDropped droppedThenChanged graftWithChild graftMade paneStarted paneWithoutTreeData graftTwice focusOnEmptyGraft graftMoved childOfItself
 case-numbers = says-numbers cases (first-cases cases traps the-cases)

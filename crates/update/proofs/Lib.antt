@@ -1,6 +1,8 @@
-pub mod Cases
 pub mod Outcome
-pub mod Numbers
+pub mod Pass
+pub mod Focus
 pub mod Sound
 pub mod Reports
+pub mod Numbers
 pub mod Calls
+pub mod Cases

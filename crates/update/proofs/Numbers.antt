@@ -1,18 +1,18 @@
 -- A number is returned only where its row holds: 20 counts the outcome alone, so that room of removed nodes is used again.
 -- Assumes nothing.
-use mathlib.Core.Bool.{Bool, true, false, not, _||_}
+use mathlib.Core.Bool.{Bool, true, false}
 use mathlib.Core.List.{List, [], _∷_, _++_}
 use mathlib.Core.Path.{_≡_, refl}
 use Prim.Native.Nat.{ℕ, _≤_}
 use native.Mathlib.Omega.{arith}
-use lib.Dec.{eqb, ltb}
+use lib.Dec.{ltb}
 use lib.ListN.{length}
-use Rattle.base.specs.Tests.{_&&_, if_then_else_, isSome, isNil, any, has, given}
+use Rattle.base.specs.Tests.{if_then_else_, has, given}
 use Rattle.base.specs.Tables.{Row, row, found, first}
-use Rattle.ids.specs.Ids.{ROOT, sameTree, sameNode}
+use Rattle.ids.specs.Ids.{sameNode}
 use Rattle.ids.specs.declared.TreeId.{TreeId}
 use Rattle.ids.specs.declared.NodeId.{NodeId}
-use Rattle.record.specs.Batch.{graft?, Batch}
+use Rattle.record.specs.Batch.{Batch}
 use Rattle.tree.specs.State.{Forest}
 use Rattle.update.specs.Words.{claim}
 use Rattle.update.specs.Pass.{Event, names, places, events, fault, pass}

@@ -1,6 +1,6 @@
 -- Laws of the reports: an accepted batch leaves exactly the nodes before it, with the added ones joined and the removed ones taken away;
 -- the lists are sorted; the lent slice keeps its length. Assumes nothing.
-use mathlib.Core.Bool.{Bool, true, false, not, _||_, false≢true}
+use mathlib.Core.Bool.{Bool, true, false, not, false≢true}
 use mathlib.Core.List.{List, [], _∷_}
 use mathlib.Core.Path.{_≡_, refl, sym, ap, _∙_}
 use Prim.Native.Nat.{ℕ, _≤_}
@@ -18,7 +18,7 @@ use Rattle.tree.proofs.State.{present-has}
 use Rattle.tree.proofs.Sound.{shape-parts, sound-parts}
 use Rattle.update.specs.Gone.{gone}
 use Rattle.update.specs.Outcome.{written, outcome}
-use Rattle.update.specs.Reports.{Changes, sorted, added, removed, isUpdated, updated, isRelinked, relinked, changesOf, changeWords, lent}
+use Rattle.update.specs.Reports.{Changes, sorted, added, removed, updated, relinked, changesOf, changeWords, lent}
 use Rattle.update.proofs.Outcome.{gone-old, old-written, present-outcome}
 
 -- ## Added and removed

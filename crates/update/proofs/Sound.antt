@@ -1,29 +1,28 @@
 -- What an accepted batch has passed, and that its outcome is sound. Assumes nothing.
 use mathlib.Core.Bool.{Bool, true, false, not, true≢false}
-use mathlib.Core.List.{List, [], _∷_, _++_, map}
+use mathlib.Core.List.{List, [], _∷_, _++_}
 use mathlib.Core.Option.{Option, none, some}
-use mathlib.Core.Path.{_≡_, refl, ap, _∙_}
+use mathlib.Core.Path.{_≡_, refl, ap}
 use Prim.Native.Nat.{ℕ, suc, _≤_}
 use native.Mathlib.Omega.{arith}
 use lib.Dec.{ltb, leb}
 use lib.ListN.{length, length-append}
 use borrow.Author.Tests.{leb-true, leb-false, le-leb, ltb-false}
-use Rattle.base.specs.Tests.{_&&_, if_then_else_, isNone, any, all, keep, distinct}
-use Rattle.base.proofs.Tests.{both, joined, not-false, all-keep}
+use Rattle.base.specs.Tests.{_&&_, if_then_else_, isNone, any, all, distinct}
+use Rattle.base.proofs.Tests.{not-false}
 use Rattle.base.proofs.Tables.{first-zero, first-found-zero}
-use Rattle.ids.specs.Ids.{ROOT, sameTree, sameNode, sameId, before}
-use Rattle.ids.specs.declared.TreeIndex.{TreeIndex}
+use Rattle.ids.specs.Ids.{ROOT, sameTree, sameNode}
 use Rattle.ids.specs.declared.FullNodeId.{FullNodeId}
-use Rattle.record.specs.Batch.{NodeData, fieldsOk, sameData, Listed, Batch, listedIds, namedIds}
-use Rattle.tree.specs.State.{NodeState, TreeEntry, Forest, present, holder, subtreeOf}
+use Rattle.record.specs.Batch.{fieldsOk, Batch, listedIds, namedIds}
+use Rattle.tree.specs.State.{TreeEntry, Forest, present, holder, subtreeOf}
 use Rattle.tree.specs.Down.{rootOf}
 use Rattle.tree.specs.Focus.{effectiveFocus}
 use Rattle.tree.specs.Sound.{graftsDiffer, soundShape, focusPresent, sound}
 use Rattle.tree.proofs.Sound.{sound-of}
-use Rattle.update.specs.Words.{known, number, withTreeData}
+use Rattle.update.specs.Words.{known, withTreeData}
 use Rattle.update.specs.Pass.{pass}
-use Rattle.update.specs.Gone.{gone}
-use Rattle.update.specs.Outcome.{renewed, write, writeAll, written, relink, subtreeHere, entryAfter, entriesAfter, newEntry, outcome}
+use Rattle.update.specs.Outcome.{subtreeHere, entriesAfter, newEntry, outcome}
+use Rattle.update.proofs.Outcome.{all-outcome}
 use Rattle.update.specs.Numbers.{absent, placeless, nowhere, updatedAndRemoved, rowsBeforePass, rowsAfterPass, batchNumber}
 
 -- ## The table
@@ -79,40 +78,6 @@ passed s b e =
       row20 = after20 .0;
     }
 
--- ## Fields
-
-abbrev nodeOk : NodeState → Bool
-nodeOk n = fieldsOk (n .body)
-
-fields-write : (x : FullNodeId) (d : NodeData) (ns : List NodeState) → fieldsOk d ≡ true → all nodeOk ns ≡ true → all nodeOk (write x d ns) ≡ true
-unfolding write renewed
-fields-write x d [] f e = joined f refl
-fields-write x d (n ∷ ns) f e = go (sameId x (n .id)) (before x (n .id)) (fields-write x d ns f (both e .1))
-  where
-    renews : (c : Bool) → fieldsOk (if c then n .body else d) ≡ true
-    renews true = both e .0
-    renews false = f
-
-    go : (c k : Bool) → all nodeOk (write x d ns) ≡ true
-        → all nodeOk (if c then record { id = n .id; parentAndIndex = n .parentAndIndex; body = renewed (n .body) d } ∷ ns
-        else if k then record { id = x; parentAndIndex = none; body = d } ∷ n ∷ ns else n ∷ write x d ns) ≡ true
-    go true k h = joined (renews (sameData (n .body) d)) (both e .1)
-    go false true h = joined f e
-    go false false h = joined (both e .0) h
-
-fields-write-all : (t : TreeIndex) (ls : List Listed) (ns : List NodeState) → all (λ l. fieldsOk (l .body)) ls ≡ true → all nodeOk ns ≡ true
-    → all nodeOk (writeAll t ls ns) ≡ true
-unfolding writeAll
-fields-write-all t [] ns f e = e
-fields-write-all t (l ∷ ls) ns f e =
-    fields-write-all t ls (write (record { tree = t; node = l .id }) (l .body) ns) (both f .1)
-    (fields-write (record { tree = t; node = l .id }) (l .body) ns (both f .0) e)
-
-fields-relink : (s : Forest) (b : Batch) (ns : List NodeState) → all nodeOk ns ≡ true → all nodeOk (map (relink s b) ns) ≡ true
-unfolding relink
-fields-relink s b [] e = refl
-fields-relink s b (n ∷ ns) e = joined (both e .0) (fields-relink s b ns (both e .1))
-
 -- ## Tree numbers
 
 pub length-entries-after : (s : Forest) (b : Batch) (k : ℕ) (es : List TreeEntry) → length (entriesAfter s b k es) ≡ length es
@@ -134,12 +99,6 @@ pub record Ground (s : Forest) : Type 0 where
   pub fields : all (λ n. fieldsOk (n .body)) (s .nodes) ≡ true
 
 module _ (s : Forest) (b : Batch) where
-  fields-outcome : Ground s → all (λ l. fieldsOk (l .body)) (b .nodes) ≡ true → all nodeOk (outcome s b .nodes) ≡ true
-  unfolding outcome written
-  fields-outcome g f =
-      fields-relink s b (keep (λ n. not (gone s b (n .id))) (written s b))
-      (all-keep nodeOk (λ n. not (gone s b (n .id))) (written s b) (fields-write-all (number s b) (b .nodes) (s .nodes) f (g .fields)))
-
   trees-outcome : Ground s → Passed s b → leb (length (outcome s b .trees)) 32 ≡ true
   unfolding outcome newEntry
   trees-outcome g p = le-leb (length (outcome s b .trees)) 32 (few-trees s b (known s b) (g .few-trees) (p .row8))
@@ -159,6 +118,6 @@ module _ (s : Forest) (b : Batch) where
         shape = not-false (p .row19);
         few-nodes = le-leb (length (outcome s b .nodes)) 256 (ltb-false 256 (length (outcome s b .nodes)) (p .row20));
         few-trees = trees-outcome g p;
-        fields = fields-outcome g f;
+        fields = all-outcome fieldsOk s b (g .fields) f;
         focus = focus-outcome p;
       })

@@ -1,9 +1,9 @@
 -- What a start, a batch and a host focus change answer: the number, the state and every other part. Document 01, modules 3 to 5.
 -- Assumes nothing.
 use mathlib.Core.Bool.{Bool, true, false, not}
-use mathlib.Core.List.{List, [], _∷_, _++_}
+use mathlib.Core.List.{List, [], _∷_}
 use mathlib.Core.Option.{Option, none, some}
-use Prim.Native.Nat.{ℕ, zero, suc, _*_}
+use Prim.Native.Nat.{ℕ, zero, suc}
 use lib.Dec.{ltb}
 use lib.ListN.{length}
 use Rattle.base.specs.Tests.{if_then_else_, isNone}
@@ -12,7 +12,7 @@ use Rattle.ids.specs.Ids.{ROOT, sameTree}
 use Rattle.ids.specs.declared.FullNodeId.{FullNodeId}
 use Rattle.record.specs.Batch.{Batch}
 use Rattle.record.specs.Parse.{parse}
-use Rattle.tree.specs.State.{Subtree, Forest, State}
+use Rattle.tree.specs.State.{Forest, State}
 use Rattle.tree.specs.Focus.{stateFocus}
 use Rattle.tree.specs.Sound.{sound}
 use Rattle.update.specs.Outcome.{outcome}

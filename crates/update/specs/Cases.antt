@@ -1,7 +1,7 @@
 -- Document 01's cases 1 to 14. Each compares the whole answer. S is the start of case 1, T a tree id other than ROOT.
 -- Assumes nothing.
 use mathlib.Core.List.{List, [], _∷_, map}
-use mathlib.Core.Option.{Option, none, some}
+use mathlib.Core.Option.{none, some}
 use Prim.Native.Nat.{ℕ}
 use Rattle.ids.specs.Ids.{ROOT}
 use Rattle.record.specs.Batch.{Listed, Batch}
@@ -143,5 +143,5 @@ cases =
     ∷ []
 
 -- the numbers that the calls answer
-abbrev pub caseNumbers : List ℕ
+unfoldable pub caseNumbers : List ℕ
 caseNumbers = map (λ c. c .got .number) cases

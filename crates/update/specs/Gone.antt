@@ -1,7 +1,7 @@
 -- Which nodes a batch removes: the crate's unreachable nodes and the trees whose graft went. Told by climbing the old parent links.
 -- Assumes nothing.
 use mathlib.Core.Bool.{Bool, true, false, not}
-use mathlib.Core.Option.{Option, none, some}
+use mathlib.Core.Option.{none, some}
 use Prim.Native.Nat.{ℕ, zero, suc}
 use lib.Dec.{ltb}
 use lib.ListN.{length}

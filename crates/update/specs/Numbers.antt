@@ -6,7 +6,7 @@ use mathlib.Core.Option.{Option, none, some}
 use Prim.Native.Nat.{ℕ}
 use lib.Dec.{ltb, leb}
 use lib.ListN.{length}
-use Rattle.base.specs.Tests.{_&&_, isSome, isNone, any, distinct}
+use Rattle.base.specs.Tests.{_&&_, isNone, any, distinct}
 use Rattle.base.specs.Tables.{Row, row, found, first}
 use Rattle.ids.specs.Ids.{ROOT, sameTree, sameNode}
 use Rattle.ids.specs.declared.NodeId.{NodeId}

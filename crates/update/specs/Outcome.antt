@@ -1,9 +1,9 @@
 -- The forest after a batch: nodes written and removed, parent links, the table of trees. Document 01, "The update".
 -- Assumes nothing.
-use mathlib.Core.Bool.{Bool, true, false, not}
+use mathlib.Core.Bool.{Bool, true, not}
 use mathlib.Core.List.{List, [], _∷_, _++_, map}
 use mathlib.Core.Option.{Option, none, some}
-use Prim.Native.Nat.{ℕ, zero, suc}
+use Prim.Native.Nat.{ℕ, suc}
 use lib.Dec.{eqb, leb}
 use Rattle.base.specs.Tests.{_&&_, if_then_else_, keep}
 use Rattle.ids.specs.Ids.{ROOT, sameTree, sameIndex, sameId, before}

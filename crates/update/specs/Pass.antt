@@ -1,10 +1,10 @@
 -- The crate's pass over the nodes, which meets 9 to 12 in its own order: document 01, "The update".
 -- Assumes nothing.
-use mathlib.Core.Bool.{Bool, true, false, not, _||_}
+use mathlib.Core.Bool.{Bool, not, _||_}
 use mathlib.Core.List.{List, [], _∷_, _++_}
-use mathlib.Core.Option.{Option, none, some}
+use mathlib.Core.Option.{none, some}
 use Prim.Native.Nat.{ℕ}
-use Rattle.base.specs.Tests.{_&&_, if_then_else_, isSome, isNil, any, sameOption, has, given}
+use Rattle.base.specs.Tests.{_&&_, if_then_else_, isSome, isNil, any, has, given}
 use Rattle.base.specs.Tables.{row, found, first}
 use Rattle.ids.specs.Ids.{ROOT, sameTree, sameNode}
 use Rattle.ids.specs.declared.TreeId.{TreeId}

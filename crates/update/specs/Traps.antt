@@ -1,15 +1,15 @@
 -- More worked cases: places where a port goes wrong, each tried against the crate. S is the start of case 1.
 -- Assumes nothing.
-use mathlib.Core.Bool.{Bool, true, false}
+use mathlib.Core.Bool.{true, false}
 use mathlib.Core.List.{List, [], _∷_, _++_}
-use mathlib.Core.Option.{Option, none, some}
+use mathlib.Core.Option.{none, some}
 use Prim.Native.Nat.{ℕ, _^_}
-use lib.ListN.{replicate, set}
+use lib.ListN.{set}
 use Rattle.ids.specs.Ids.{ROOT}
 use Rattle.record.specs.Encode.{encode}
 use Rattle.record.specs.ExampleNodes.{T, U, parent, leaf, labelled, grafts, graftOver, active, boxed, lists, batchFor, batch}
 use Rattle.tree.specs.ExampleStates.{id, root, under, tree, noTree, state}
-use Rattle.tree.specs.State.{NodeState, State}
+use Rattle.tree.specs.State.{State}
 use Rattle.update.specs.Calls.{refused, blank, start, update, updateBatch, hostFocus}
 use Rattle.update.specs.ExampleCalls.{slice, startOf, then, refuses, accepts, changes, Case, _gives_}
 use Rattle.update.specs.Cases.{startS, one, two, three, main, S, grafted, threeGrafts, withT, afterS}

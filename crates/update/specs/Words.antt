@@ -1,7 +1,7 @@
 -- What a batch says of the nodes of a state: which are listed and named, which grafts are claimed and let go.
 -- Words: a node is *old* if it was present before, *listed* if it is among the batch's nodes, *named* if it is among the children of one;
 -- its *turn* is its place among the listed nodes. A tree is *claimed* by a listed node that grafts it and did not before. Assumes nothing.
-use mathlib.Core.Bool.{Bool, true, false, not}
+use mathlib.Core.Bool.{Bool, false, not}
 use mathlib.Core.List.{List, map}
 use mathlib.Core.Option.{Option, none, some}
 use Prim.Native.Nat.{ℕ}
