@@ -23,7 +23,7 @@ use Rattle.tree.specs.Sound.{sound}
 use Rattle.tree.proofs.Sound.{shape-parts, Sound, sound-parts, Root, root-of-shape}
 use Rattle.update.specs.Words.{number, withTreeData}
 use Rattle.update.specs.Outcome.{outcome}
-use Rattle.update.specs.Reports.{removed, added, noChanges, changesOf}
+use Rattle.update.specs.Reports.{removed, added, noChanges, changesWith, changesOf}
 use Rattle.update.specs.Numbers.{batchNumber}
 use Rattle.update.specs.Calls.{Answer, refused, accepted, judged, updateNumber, updateBatch, update, withHostFocus, hostFocus}
 use Rattle.update.proofs.Sound.{Passed, passed, outcome-sound}
@@ -59,7 +59,7 @@ tree-exists s b p r e = go (sameTree (b .tree) ROOT) refl
 
 module _ (s : Forest) (b : Batch) where
   held-batch : (k : Book) → Held s k → all (λ l. fieldsOk (l .body)) (b .nodes) ≡ true → batchNumber s b ≡ 0
-      → Held (outcome s b) (enterBatch k b (removed s b))
+      → Held (outcome s b) (enterBatch k b (removed s (outcome s b)))
   unfolding enterBatch
   held-batch k i f v = record {
     is-sound = outcome-sound s b (record { few-trees = parts .few-trees; fields = parts .fields }) f p;
@@ -68,7 +68,7 @@ module _ (s : Forest) (b : Batch) where
         trees-after s b (k .trees) trees-in (shape-parts (outcome s b) (not-false (p .row19)) .held)
         (tree-exists s b p (root-of-shape s (shape-parts s (parts .shape))))
         ∙ ap (λ (ks : List Entry). treesIn ks 0 (linesAfter b (number s b .0) 0 (k .trees) ++ newLine b (k .trees))) same-nodes
-        ∙ ap (λ (t : ℕ). treesIn (strike (removed s b) (enterAll (record { 0 = numberIn b (k .trees) }) (b .nodes) (k .nodes))) 0
+        ∙ ap (λ (t : ℕ). treesIn (strike (removed s (outcome s b)) (enterAll (record { 0 = numberIn b (k .trees) }) (b .nodes) (k .nodes))) 0
         (linesAfter b t 0 (k .trees) ++ newLine b (k .trees)))
         number-in;
   }
@@ -85,11 +85,11 @@ module _ (s : Forest) (b : Batch) where
       number-in : number s b .0 ≡ numberIn b (k .trees)
       number-in = same-number s b (k .trees) trees-in
 
-      same-nodes : map entryOfNode (outcome s b .nodes) ≡ strike (removed s b) (enterAll (record { 0 = numberIn b (k .trees) }) (b .nodes) (k .nodes))
+      same-nodes : map entryOfNode (outcome s b .nodes) ≡ strike (removed s (outcome s b)) (enterAll (record { 0 = numberIn b (k .trees) }) (b .nodes) (k .nodes))
       same-nodes =
           nodes-after s b
-          ∙ ap (λ (t : ℕ). strike (removed s b) (enterAll (record { 0 = t }) (b .nodes) (map entryOfNode (s .nodes)))) number-in
-          ∙ ap (λ (ks : List Entry). strike (removed s b) (enterAll (record { 0 = numberIn b (k .trees) }) (b .nodes) ks)) (i .nodes)
+          ∙ ap (λ (t : ℕ). strike (removed s (outcome s b)) (enterAll (record { 0 = t }) (b .nodes) (map entryOfNode (s .nodes)))) number-in
+          ∙ ap (λ (ks : List Entry). strike (removed s (outcome s b)) (enterAll (record { 0 = numberIn b (k .trees) }) (b .nodes) ks)) (i .nodes)
 
 -- ## A batch as its bytes say it
 
@@ -104,7 +104,7 @@ Leaves k c a = Held (a .state .forest) (entered k c (a .number) (a .changes .rem
 
 leaves-batch : (s : State) (k : Book) (bytes slice : List ℕ) (b : Batch) → parse bytes ≡ some b → Held (s .forest) k
     → Leaves k (batch bytes slice) (updateBatch s b slice)
-unfolding updateBatch updateNumber judged accepted refused changesOf entered
+unfolding updateBatch updateNumber judged accepted refused changesOf changesWith entered
 leaves-batch s k bytes slice b e i = go (updateNumber s b slice) refl
   where
     after : State
@@ -114,7 +114,7 @@ leaves-batch s k bytes slice b e i = go (updateNumber s b slice) refl
     go zero q =
         let after1 = first-zero _ _ (λ z _. omega arith) q in
         let after20 = first-found-zero _ _ (after1 .1) in
-        subst (λ (c : Book). Held (outcome (s .forest) b) c) (sym (entered-parsed k bytes slice b (removed (s .forest) b) e))
+        subst (λ (c : Book). Held (outcome (s .forest) b) c) (sym (entered-parsed k bytes slice b (removed (s .forest) (outcome (s .forest) b)) e))
         (held-batch (s .forest) b k i (parse-fields bytes b e) (after20 .0))
     go (suc n) q = i
 
@@ -159,14 +159,14 @@ both-ways false false = refl
 
 counted-accepted : (s : State) (b : Batch) (slice : List ℕ) (s′ : State) → s′ .forest ≡ outcome (s .forest) b
     → Counted (s .forest) (accepted s s′ (changesOf (s .forest) b) slice)
-unfolding accepted changesOf
+unfolding accepted changesOf changesWith
 counted-accepted s b slice s′ q = record {
   nodes-after = λ x.
       ap (λ (f : Forest). present (f .nodes) x) q
       ∙ both-ways (present (s .forest .nodes) x) (present (outcome (s .forest) b .nodes) x)
       ∙ ap (λ (c : Bool). (present (s .forest .nodes) x || c) && not (present (s .forest .nodes) x && not (present (outcome (s .forest) b .nodes) x)))
       (sym (has-added (s .forest) b x))
-      ∙ ap (λ (c : Bool). (present (s .forest .nodes) x || has sameId (added (s .forest) b) x) && not c) (sym (has-removed (s .forest) b x));
+      ∙ ap (λ (c : Bool). (present (s .forest .nodes) x || has sameId (added (s .forest) (outcome (s .forest) b)) x) && not c) (sym (has-removed (s .forest) b x));
   added-new = λ x e. not-true (both (sym (has-added (s .forest) b x) ∙ e) .1);
   removed-old = λ x e. both (sym (has-removed (s .forest) b x) ∙ e) .0;
 }

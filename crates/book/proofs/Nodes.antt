@@ -73,7 +73,7 @@ entries-keep q ns = map-keep entryOfNode (λ k. q (k .id)) ns
 
 -- the nodes are entered and the removed ones struck
 pub nodes-after : (s : Forest) (b : Batch)
-    → map entryOfNode (outcome s b .nodes) ≡ strike (removed s b) (enterAll (number s b) (b .nodes) (map entryOfNode (s .nodes)))
+    → map entryOfNode (outcome s b .nodes) ≡ strike (removed s (outcome s b)) (enterAll (number s b) (b .nodes) (map entryOfNode (s .nodes)))
 unfolding outcome written strike
 nodes-after s b =
     entries-relink s b (keep (λ n. not (gone s b (n .id))) (written s b))

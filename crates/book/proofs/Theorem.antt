@@ -80,7 +80,7 @@ module _ (b : Batch) (for-ROOT : b .tree ≡ ROOT) (r : NodeId) (has-root : b .r
   unfolding outcome entriesAfter entryAfter subtreeHere newEntry known number seed withoutTreeData sameTree _&&_
   first-trees = rw (for-ROOT, has-root) refl
 
-  none-removed : strike (removed (seed b) (withoutTreeData b)) (enterAll (record { 0 = 0 }) (b .nodes) []) ≡ enterAll (record { 0 = 0 }) (b .nodes) []
+  none-removed : strike (removed (seed b) (outcome (seed b) (withoutTreeData b))) (enterAll (record { 0 = 0 }) (b .nodes) []) ≡ enterAll (record { 0 = 0 }) (b .nodes) []
   unfolding removed seed idsOf
   none-removed = strike-none (enterAll (record { 0 = 0 }) (b .nodes) [])
 
@@ -88,7 +88,7 @@ module _ (b : Batch) (for-ROOT : b .tree ≡ ROOT) (r : NodeId) (has-root : b .r
   unfolding openedBy seed withoutTreeData
   first-nodes =
       nodes-after (seed b) (withoutTreeData b)
-      ∙ ap (λ (t : TreeIndex). strike (removed (seed b) (withoutTreeData b)) (enterAll t (b .nodes) [])) first-number
+      ∙ ap (λ (t : TreeIndex). strike (removed (seed b) (outcome (seed b) (withoutTreeData b))) (enterAll t (b .nodes) [])) first-number
       ∙ none-removed
 
   -- the root is entered, since it is present

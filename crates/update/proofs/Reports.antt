@@ -18,26 +18,26 @@ use Rattle.tree.proofs.State.{present-has}
 use Rattle.tree.proofs.Sound.{shape-parts, sound-parts}
 use Rattle.update.specs.Gone.{gone}
 use Rattle.update.specs.Outcome.{written, outcome}
-use Rattle.update.specs.Reports.{Changes, sorted, added, removed, updated, relinked, changesOf, changeWords, lent}
+use Rattle.update.specs.Reports.{Changes, sorted, added, removed, updated, relinked, changesWith, changesOf, changeWords, lent}
 use Rattle.update.proofs.Outcome.{gone-old, old-written, present-outcome}
 
 -- ## Added and removed
 
 module _ (s : Forest) (b : Batch) where
-  pub has-added : (x : FullNodeId) → has sameId (added s b) x ≡ (present (outcome s b .nodes) x && not (present (s .nodes) x))
+  pub has-added : (x : FullNodeId) → has sameId (added s (outcome s b)) x ≡ (present (outcome s b .nodes) x && not (present (s .nodes) x))
   unfolding added
   has-added x =
       has-keep sameId same-id→≡ (λ y. not (present (s .nodes) y)) (idsOf (outcome s b .nodes)) x
       ∙ ap (λ (c : Bool). c && not (present (s .nodes) x)) (sym (present-has (outcome s b .nodes) x))
 
-  pub has-removed : (x : FullNodeId) → has sameId (removed s b) x ≡ (present (s .nodes) x && not (present (outcome s b .nodes) x))
+  pub has-removed : (x : FullNodeId) → has sameId (removed s (outcome s b)) x ≡ (present (s .nodes) x && not (present (outcome s b .nodes) x))
   unfolding removed
   has-removed x =
       has-keep sameId same-id→≡ (λ y. not (present (outcome s b .nodes) y)) (idsOf (s .nodes)) x
       ∙ ap (λ (c : Bool). c && not (present (outcome s b .nodes) x)) (sym (present-has (s .nodes) x))
 
   -- what is removed is what goes
-  pub removed-gone : (x : FullNodeId) → has sameId (removed s b) x ≡ gone s b x
+  pub removed-gone : (x : FullNodeId) → has sameId (removed s (outcome s b)) x ≡ gone s b x
   unfolding _&&_
   removed-gone x =
       has-removed x
@@ -87,7 +87,7 @@ pub record ListsSorted (c : Changes) : Type 0 where
   pub relinked-sorted : sorted (c .relinked) ≡ true
 
 pub lists-sorted : (s : Forest) (b : Batch) → sound s ≡ true → soundShape (outcome s b) ≡ true → ListsSorted (changesOf s b)
-unfolding changesOf added updated removed relinked
+unfolding changesOf changesWith added updated removed relinked
 lists-sorted s b e f =
     let old = shape-parts s (sound-parts s e .shape) .ordered in
     let new = shape-parts (outcome s b) f .ordered in

@@ -50,19 +50,20 @@ module _ (s : Forest) (b : Batch) where
       ∷ row 8 (not (known s b) && leb 32 (length (s .trees)))
       ∷ []
 
-  unfoldable pub rowsAfterPass : List Row
-  rowsAfterPass =
+  -- s′ is the outcome
+  unfoldable pub rowsAfterPass : Forest → List Row
+  rowsAfterPass s′ =
       row 13 (any placeless (b .nodes))
       ∷ row 14 (any nowhere (namedIds (b .nodes)))
-      ∷ row 12 (not (graftsDiffer (outcome s b .nodes)))
-      ∷ row 15 (isNone (effectiveFocus (outcome s b)))
-      ∷ row 16 (absent (outcome s b .nodes) (rootOf (outcome s b)))
-      ∷ row 17 (absent (outcome s b .nodes) (effectiveFocus (outcome s b)))
+      ∷ row 12 (not (graftsDiffer (s′ .nodes)))
+      ∷ row 15 (isNone (effectiveFocus s′))
+      ∷ row 16 (absent (s′ .nodes) (rootOf s′))
+      ∷ row 17 (absent (s′ .nodes) (effectiveFocus s′))
       ∷ row 18 (any updatedAndRemoved (b .nodes))
-      ∷ row 19 (not (soundShape (outcome s b)))
-      ∷ row 20 (ltb 256 (length (outcome s b .nodes)))
+      ∷ row 19 (not (soundShape s′))
+      ∷ row 20 (ltb 256 (length (s′ .nodes)))
       ∷ []
 
   -- the first number of 5 to 20 that refuses the batch, 0 if none does
   unfoldable pub batchNumber : ℕ
-  batchNumber = first (rowsBeforePass ++ found (pass s b) ∷ rowsAfterPass)
+  batchNumber = first (rowsBeforePass ++ found (pass s b) ∷ rowsAfterPass (outcome s b))

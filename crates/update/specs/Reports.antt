@@ -30,41 +30,43 @@ sorted [] = true
 sorted (x ∷ xs) = all (before x) xs && sorted xs
 
 -- Each list takes the ids in the order of the nodes, so it is sorted (proofs/Reports, `lists-sorted`).
-module _ (s : Forest) (b : Batch) where
+module _ (s s′ : Forest) where
   -- present after and not before
   unfoldable pub added : List FullNodeId
-  added = keep (λ x. not (present (s .nodes) x)) (idsOf (outcome s b .nodes))
+  added = keep (λ x. not (present (s .nodes) x)) (idsOf (s′ .nodes))
 
   -- present before and not after
   unfoldable pub removed : List FullNodeId
-  removed = keep (λ x. not (present (outcome s b .nodes) x)) (idsOf (s .nodes))
+  removed = keep (λ x. not (present (s′ .nodes) x)) (idsOf (s .nodes))
 
   -- Present before and after, with other data, or with another parent or place (to no parent does not count);
-  -- and the root that tree data gives a pane, even if nothing changed.
-  unfoldable pub isUpdated : NodeState → Bool
-  isUpdated n =
-      elim (find (n .id) (outcome s b .nodes)) [
+  -- and what is marked, even if nothing changed.
+  unfoldable pub isUpdated : (FullNodeId → Bool) → NodeState → Bool
+  isUpdated marked n =
+      elim (find (n .id) (s′ .nodes)) [
         | none ↦ false
         | some m ↦
             not (sameData (n .body) (m .body))
             || (isSome (m .parentAndIndex) && not (sameOption sameLink (n .parentAndIndex) (m .parentAndIndex)))
-            || paneRoot s b (n .id)
+            || marked (n .id)
       ]
 
-  unfoldable pub updated : List FullNodeId
-  updated = idsOf (keep isUpdated (s .nodes))
+  unfoldable pub updated : (FullNodeId → Bool) → List FullNodeId
+  updated marked = idsOf (keep (isUpdated marked) (s .nodes))
 
   -- present before and after, with another parent; to or from no parent counts
   unfoldable pub isRelinked : FullNodeId → Bool
-  isRelinked x =
-      present (outcome s b .nodes) x
-      && not (sameOption sameId (parentAt (s .nodes) x) (parentAt (outcome s b .nodes) x))
+  isRelinked x = present (s′ .nodes) x && not (sameOption sameId (parentAt (s .nodes) x) (parentAt (s′ .nodes) x))
 
   unfoldable pub relinked : List FullNodeId
   relinked = keep isRelinked (idsOf (s .nodes))
 
-  unfoldable pub changesOf : Changes
-  changesOf = record { added = added; updated = updated; removed = removed; relinked = relinked }
+  unfoldable pub changesWith : (FullNodeId → Bool) → Changes
+  changesWith marked = record { added = added; updated = updated marked; removed = removed; relinked = relinked }
+
+-- the changes that a batch makes: the root that tree data gives a pane is marked
+unfoldable pub changesOf : Forest → Batch → Changes
+changesOf s b = changesWith s (outcome s b) (paneRoot s b)
 
 -- each length is the number of ids in its list
 pub record Lengths : Type 0 where

@@ -141,6 +141,22 @@ unfoldable pub graftReleasedByGone : Case
 graftReleasedByGone = then twoGrafts (batch 1 (lists 3 (grafts T) ∷ lists 1 (parent (2 ∷ [])) ∷ [])) gives
     refuses 18 twoGrafts
 
+-- a graft that becomes plain lets its tree go; listed unchanged, it keeps it
+unfoldable pub graftLetGo : Case
+graftLetGo = then withT (batch 2 (lists 3 leaf ∷ [])) gives
+    accepts
+    (state (one ∷ two ∷ three ∷ []) (main ∷ noTree T ∷ []))
+    (changes [] (id 0 3 ∷ []) (id 1 1 ∷ []) [])
+    (id 0 2)
+    (id 0 2)
+    none
+    none
+    (0 ∷ 3 ∷ 1 ∷ 1 ∷ [])
+
+unfoldable pub graftUnchanged : Case
+graftUnchanged = then withT (batch 2 (lists 3 (grafts T) ∷ [])) gives
+    accepts withT (changes [] [] [] []) (id 0 2) (id 0 2) none none []
+
 -- 2 claims U from T's pane, and the pane goes: U stays
 unfoldable pub nestedTreeMoved : Case
 nestedTreeMoved = then nested (batch 2 (lists 1 (parent (2 ∷ [])) ∷ lists 2 (grafts U) ∷ [])) gives
@@ -297,6 +313,8 @@ traps =
     ∷ childNowhereAndGraftHeld
     ∷ graftHeld
     ∷ graftReleasedByGone
+    ∷ graftLetGo
+    ∷ graftUnchanged
     ∷ nestedTreeMoved
     ∷ newRootBelow
     ∷ rootsInCircle
