@@ -11,7 +11,7 @@ import sys
 import time
 
 SKELETON = re.compile(r"help: write (\S+Proof\.antt) with these lines")
-QUIET = ("note: ", "struct ", "enum ", "logic ", "library ")
+QUIET = ("note: ", "struct ", "enum ", "logic", "library ", "rt: ")
 LONG_NAMES = re.compile(r"(mathlib\.Core\.\w+|lib\.[A-Z]\w*|Prim\.Native\.Nat|Rattle·\w+[·.](?:specs|proofs)(?:\.specs|\.proofs)?(?:\.[\w+-]+)+?)\.(?=[^ .])")
 
 

@@ -3,12 +3,14 @@ use mathlib.Core.Bool.{Bool, true, false, not, _||_, true≢false, false≢true}
 use mathlib.Core.List.{List, [], _∷_, _++_, map, List·Memᴰ, List·Memᴰ·head, List·Memᴰ·tail}
 use mathlib.Core.Option.{Option, none, some, Option·none-ne-some}
 use mathlib.Core.Path.{_≡_, refl, sym, ap, _∙_}
-use Prim.Native.Nat.{ℕ, zero, suc, _≤_, _<_}
+use Prim.Native.Nat.{ℕ, zero, suc, _+_, _≤_, _<_}
 use native.Mathlib.Omega.{arith}
+use lib.Dec.{eqb}
 use lib.ListN.{length}
-use Rattle.base.specs.Tests.{_&&_, if_then_else_, isSome, isNone, any, all, keep, has, distinct, given, firstGiven}
+use borrow.Author.Tests.{eqb-true}
+use Rattle.base.specs.Tests.{_&&_, if_then_else_, isSome, isNone, any, all, keep, count, has, distinct, given, firstGiven}
 use Rattle.base.specs.Bytes.{listOf}
-use Rattle.base.proofs.Tests.{both, joined, not-true, or-right, or-assoc, all-member}
+use Rattle.base.proofs.Tests.{both, joined, not-true, or-right, or-assoc, all-keep, all-member}
 
 -- ## What is given
 
@@ -82,6 +84,11 @@ module _ {A B : Type 0} where
   all-map p f [] = refl
   all-map p f (x ∷ xs) = ap (λ (c : Bool). p (f x) && c) (all-map p f xs)
 
+  -- the images that pass are counted where the elements are
+  pub count-map : (p : B → Bool) (f : A → B) (xs : List A) → count p (map f xs) ≡ count (λ x. p (f x)) xs
+  count-map p f [] = refl
+  count-map p f (x ∷ xs) = ap {B = ℕ} (λ n. if p (f x) then suc n else n) (count-map p f xs)
+
 -- ## One list
 
 module _ {A : Type 0} where
@@ -146,3 +153,78 @@ unfolding listOf
 has-list-of same h zero f k l = absurd (omega arith)
 has-list-of same h (suc n) f zero l = ap (λ (c : Bool). c || has same (listOf n (λ i. f (suc i))) (f 0)) (h (f 0))
 has-list-of same h (suc n) f (suc k) l = or-right (same (f (suc k)) (f 0)) (has-list-of same h n (λ i. f (suc i)) k (omega arith))
+
+-- ## Counting
+
+module _ {A : Type 0} where
+  -- what passes and what does not make up the list
+  count-rest : (p : A → Bool) (ys : List A) → length ys ≡ count p ys + length (keep (λ y. not (p y)) ys)
+  count-rest p [] = refl
+  count-rest p (y ∷ ys) = go (p y) (count-rest p ys)
+    where
+      go : (c : Bool) → length ys ≡ count p ys + length (keep (λ y. not (p y)) ys)
+          → suc (length ys) ≡ (if c then suc (count p ys) else count p ys) + length (if not c then y ∷ keep (λ y. not (p y)) ys else keep (λ y. not (p y)) ys)
+      go true h = omega arith
+      go false h = omega arith
+
+  -- what passes p is counted among what does not pass q, where none passes both
+  count-keep : (p q : A → Bool) → ((y : A) → p y ≡ true → q y ≡ true → ⊥) → (ys : List A) → count p (keep (λ y. not (q y)) ys) ≡ count p ys
+  count-keep p q apart [] = refl
+  count-keep p q apart (y ∷ ys) = go (p y) refl (q y) refl (count-keep p q apart ys)
+    where
+      go : (c : Bool) → p y ≡ c → (d : Bool) → q y ≡ d → count p (keep (λ y. not (q y)) ys) ≡ count p ys
+          → count p (if not d then y ∷ keep (λ y. not (q y)) ys else keep (λ y. not (q y)) ys) ≡ (if c then suc (count p ys) else count p ys)
+      go true e true f h = absurd (apart y e f)
+      go true e false f h = rw e (ap suc h)
+      go false e true f h = h
+      go false e false f h = rw e h
+
+  -- what is kept passes
+  all-kept : (q : A → Bool) (ys : List A) → all q (keep q ys) ≡ true
+  all-kept q [] = refl
+  all-kept q (y ∷ ys) = go (q y) refl (all-kept q ys)
+    where
+      go : (c : Bool) → q y ≡ c → all q (keep q ys) ≡ true → all q (if c then y ∷ keep q ys else keep q ys) ≡ true
+      go true e h = joined e h
+      go false e h = h
+
+module _ {A : Type 0} (same : A → A → Bool) (same→≡ : (x y : A) → same x y ≡ true → x ≡ y) (same-refl : (x : A) → same x x ≡ true) where
+  has-member : (xs : List A) (x : A) → List·Memᴰ x xs → has same xs x ≡ true
+  has-member (z ∷ zs) x (List·Memᴰ·head q) = rw q (ap (λ (c : Bool). c || has same zs z) (same-refl z))
+  has-member (z ∷ zs) x (List·Memᴰ·tail i) = or-right (same x z) (has-member zs x i)
+
+  -- where each of xs stands in ys exactly once, and nothing else does, there are as many of one as of the other
+  pub length-once : (xs ys : List A) → distinct same xs ≡ true → all (λ x. eqb (count (same x) ys) 1) xs ≡ true → all (has same xs) ys ≡ true
+      → length ys ≡ length xs
+  length-once [] [] d e f = refl
+  length-once [] (y ∷ ys) d e f = absurd (false≢true (both f .0))
+  length-once (x ∷ xs) ys d e f =
+      count-rest (same x) ys
+      ∙ ap (λ (n : ℕ). n + length rest) (eqb-true (count (same x) ys) 1 (both e .0))
+      ∙ ap (λ (n : ℕ). 1 + n) (length-once xs rest (both d .1) (all-of (λ w. eqb (count (same w) rest) 1) xs counted) (all-of (has same xs) rest among))
+      ∙ one-more
+    where
+      rest : List A
+      rest = keep (λ y. not (same x y)) ys
+
+      one-more : 1 + length xs ≡ suc (length xs)
+      one-more = omega arith
+
+      counted : (w : A) → List·Memᴰ w xs → eqb (count (same w) rest) 1 ≡ true
+      counted w i =
+          ap (λ (n : ℕ). eqb n 1) (count-keep (same w) (same x) apart ys)
+          ∙ all-member (λ v. eqb (count (same v) ys) 1) xs w (both e .1) i
+        where
+          apart : (y : A) → same w y ≡ true → same x y ≡ true → ⊥
+          apart y p q =
+              let here : has same xs x ≡ true = rw (same→≡ x y q ∙ sym (same→≡ w y p)) (has-member xs w i) in
+              true≢false (sym here ∙ not-true (both d .0))
+
+      among : (z : A) → List·Memᴰ z rest → has same xs z ≡ true
+      among z i = go (same z x) refl (all-member (has same (x ∷ xs)) rest z (all-keep (has same (x ∷ xs)) (λ y. not (same x y)) ys f) i)
+        where
+          go : (c : Bool) → same z x ≡ c → (c || has same xs z) ≡ true → has same xs z ≡ true
+          go true q h =
+              absurd (true≢false (sym (same-refl x) ∙ ap (same x) (sym (same→≡ z x q))
+              ∙ not-true (all-member (λ y. not (same x y)) rest z (all-kept (λ y. not (same x y)) ys) i)))
+          go false q h = h

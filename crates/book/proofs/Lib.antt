@@ -2,3 +2,4 @@ pub mod Nodes
 pub mod Trees
 pub mod Calls
 pub mod Theorem
+pub mod Examples

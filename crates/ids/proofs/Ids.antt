@@ -66,3 +66,10 @@ before-apart x y e = go (sameId y x) refl
     go : (c : Bool) → sameId y x ≡ c → c ≡ false
     go true q = sym e ∙ ap (before x) (same-id→≡ y x q) ∙ before-self x
     go false q = refl
+
+pub before-other : (x y : FullNodeId) → before x y ≡ true → sameId x y ≡ false
+before-other x y e = go (sameId x y) refl
+  where
+    go : (c : Bool) → sameId x y ≡ c → c ≡ false
+    go true q = sym e ∙ ap (λ (z : FullNodeId). before z y) (same-id→≡ x y q) ∙ before-self y
+    go false q = refl

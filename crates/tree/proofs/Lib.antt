@@ -1,6 +1,7 @@
 pub mod State
 pub mod Sound
 pub mod Down
+pub mod Ends
 pub mod Grafts
 pub mod Focus
 pub mod Examples

@@ -69,7 +69,7 @@ unfoldable pub ascending : List NodeState → Bool
 ascending [] = true
 ascending (n ∷ ns) = all (λ m. before (n .id) (m .id)) ns && ascending ns
 
--- ## What follows from the rules above, and is said so that it can be read off
+-- ## What follows from the rules above (proofs/Ends, `way-ends`), and is said so that it can be read off
 
 -- the way down ends by itself, and not for want of room
 unfoldable pub wayEnds : Forest → Bool
