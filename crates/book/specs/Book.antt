@@ -30,12 +30,14 @@ pub record Line : Type 0 where
   pub root : Option NodeId
   pub focus : NodeId
 
+-- document 01: "It holds ids, each with its children and graft, and a root and a focus per tree number"
 pub record Book : Type 0 where
   pub nodes : List Entry
   pub trees : List Line
 
 -- ## Entering and striking
 
+-- what the book holds of a node
 unfoldable pub entryOf : FullNodeId → NodeData → Entry
 entryOf x d = record { id = x; children = d .children; graft = graft? d }
 
@@ -47,10 +49,12 @@ enter x d (k ∷ ks) =
     else if before x (k .id) then entryOf x d ∷ k ∷ ks
     else k ∷ enter x d ks
 
+-- all listed nodes of tree number t
 unfoldable pub enterAll : TreeIndex → List Listed → List Entry → List Entry
 enterAll t [] ks = ks
 enterAll t (l ∷ ls) ks = enterAll t ls (enter (record { tree = t; node = l .id }) (l .body) ks)
 
+-- the ids struck
 unfoldable pub strike : List FullNodeId → List Entry → List Entry
 strike xs ks = keep (λ k. not (has sameId xs (k .id))) ks
 
@@ -61,6 +65,7 @@ lineAfter b t i l =
     then record { id = l .id; root = elim (b .root) [ some r ↦ some r | none ↦ l .root ]; focus = b .focus }
     else l
 
+-- all lines; i is the number of the first
 unfoldable pub linesAfter : Batch → ℕ → ℕ → List Line → List Line
 linesAfter b t i [] = []
 linesAfter b t i (l ∷ ls) = lineAfter b t i l ∷ linesAfter b t (suc i) ls
@@ -69,6 +74,7 @@ linesAfter b t i (l ∷ ls) = lineAfter b t i l ∷ linesAfter b t (suc i) ls
 unfoldable pub numberIn : Batch → List Line → ℕ
 numberIn b ls = position sameTree (map (λ l. l .id) ls) (b .tree)
 
+-- the line of a tree id that takes a number
 unfoldable pub newLine : Batch → List Line → List Line
 newLine b ls =
     if has sameTree (map (λ l. l .id) ls) (b .tree) then [] else record { id = b .tree; root = b .root; focus = b .focus } ∷ []
@@ -87,6 +93,7 @@ openedBy b = record {
   trees = record { id = ROOT; root = b .root; focus = b .focus } ∷ [];
 }
 
+-- the book of a start
 unfoldable pub opened : List ℕ → Book
 opened bytes = elim (parse bytes) [ none ↦ record { nodes = []; trees = [] } | some b ↦ openedBy b ]
 
@@ -110,6 +117,7 @@ entered k (host h) n removed = k
 
 -- ## What the book says of a state
 
+-- an id is in the book
 unfoldable pub isEntered : List Entry → FullNodeId → Bool
 isEntered ks x = any (λ k. sameId x (k .id)) ks
 
@@ -123,6 +131,7 @@ treeIn ks i l = record {
   ];
 }
 
+-- the table of trees, as the book says it; i is the first number
 unfoldable pub treesIn : List Entry → ℕ → List Line → List TreeEntry
 treesIn ks i [] = []
 treesIn ks i (l ∷ ls) = treeIn ks i l ∷ treesIn ks (suc i) ls

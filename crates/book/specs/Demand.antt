@@ -18,10 +18,12 @@ use Rattle.book.specs.Book.{Book, opened, Call, batch, answerTo, entered
 
 -- ## After a list of calls
 
+-- the state after a list of calls
 unfoldable pub stateAfter : State → List Call → State
 stateAfter s [] = s
 stateAfter s (c ∷ cs) = stateAfter (answerTo s c .state) cs
 
+-- the book after it, fed what each call answers
 unfoldable pub bookAfter : State → Book → List Call → Book
 bookAfter s k [] = k
 bookAfter s k (c ∷ cs) = bookAfter (answerTo s c .state) (entered k c (answerTo s c .number) (answerTo s c .changes .removed)) cs
@@ -72,6 +74,7 @@ pub record Counted (s : Forest) (a : Answer) : Type 0 where
 
 -- ## The claim
 
+-- what the demand says of one start and one list of calls
 pub record Claim (bytes : List ℕ) (hostFocused : Bool) (calls : List Call) : Type 0 where
   -- after the list
   pub after-the-list : Kept (stateAfter (start bytes hostFocused .state) calls .forest) (bookAfter (start bytes hostFocused .state) (opened bytes) calls)
@@ -81,5 +84,6 @@ pub record Claim (bytes : List ℕ) (hostFocused : Bool) (calls : List Call) : T
       → update (stateAfter (start bytes hostFocused .state) earlier) record-bytes slice .number ≡ 0
       → Counted (stateAfter (start bytes hostFocused .state) earlier .forest) (update (stateAfter (start bytes hostFocused .state) earlier) record-bytes slice)
 
+-- of any accepted start and any list of calls after it
 abbrev pub Demand3 : Type 0
 Demand3 = (bytes : List ℕ) (hostFocused : Bool) → start bytes hostFocused .number ≡ 0 → (calls : List Call) → Claim bytes hostFocused calls

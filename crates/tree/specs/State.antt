@@ -19,6 +19,7 @@ pub record ParentAndIndex : Type 0 where
   pub parent : FullNodeId
   pub index : ℕ
 
+-- one parent and one place
 unfoldable pub sameLink : ParentAndIndex → ParentAndIndex → Bool
 sameLink k l = sameId (k .parent) (l .parent) && eqb (k .index) (l .index)
 
@@ -28,6 +29,7 @@ pub record NodeState : Type 0 where
   pub parentAndIndex : Option ParentAndIndex
   pub body : NodeData
 
+-- the ids of nodes
 unfoldable pub idsOf : List NodeState → List FullNodeId
 idsOf ns = map (λ n. n .id) ns
 
@@ -58,6 +60,7 @@ pub record State : Type 0 where
 
 -- ## Looking up
 
+-- the node with this id
 unfoldable pub find : FullNodeId → List NodeState → Option NodeState
 find x [] = none
 find x (n ∷ ns) = if sameId x (n .id) then some n else find x ns
@@ -87,6 +90,7 @@ pub record SubtreeState : Type 0 where
   pub root : FullNodeId
   pub focus : FullNodeId
 
+-- of the tree with number k
 unfoldable pub subtreeState : ℕ → Subtree → SubtreeState
 subtreeState k t =
     record { root = record { tree = record { 0 = k }; node = t .root }; focus = record { tree = record { 0 = k }; node = t .focus } }

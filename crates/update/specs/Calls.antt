@@ -68,7 +68,7 @@ judged (suc k) s slice a = refused (suc k) s slice
 
 -- ## A batch
 
--- 1 to 21: `bytes` is the record, `slice` what the caller lends for the lists
+-- 1, then 5 to 20, then 21: `slice` is what the caller lends for the lists
 unfoldable pub updateNumber : State → Batch → List ℕ → ℕ
 updateNumber s b slice =
     first
@@ -77,12 +77,14 @@ updateNumber s b slice =
     ∷ row 21 (ltb (length slice) (length (changeWords (changesOf (s .forest) b))))
     ∷ [])
 
+-- a batch whose record is well formed
 unfoldable pub updateBatch : State → Batch → List ℕ → Answer
 updateBatch s b slice =
     let s′ : State = record { forest = outcome (s .forest) b; hostFocused = s .hostFocused } in
     let a : Answer = accepted s s′ (changesOf (s .forest) b) slice in
     judged (updateNumber s b slice) s slice a
 
+-- any bytes: 2 where they are no record, and 1 before it
 unfoldable pub update : State → List ℕ → List ℕ → Answer
 update s bytes slice =
     elim (parse bytes) [
@@ -106,6 +108,7 @@ seed b = record {
   } ∷ [];
 }
 
+-- the same batch with its tree data taken
 unfoldable pub withoutTreeData : Batch → Batch
 withoutTreeData b = record { tree = b .tree; root = none; focus = b .focus; nodes = b .nodes }
 
@@ -132,17 +135,20 @@ started s = record {
   slice = [];
 }
 
+-- a start whose record is well formed
 unfoldable pub startBatch : Batch → Bool → Answer
 startBatch b hostFocused =
     let s : State = record { forest = outcome (seed b) (withoutTreeData b); hostFocused = hostFocused } in
     let a : Answer = started s in
     judged (startNumber b) blank [] a
 
+-- any bytes: 2 where they are no record
 unfoldable pub start : List ℕ → Bool → Answer
 start bytes hostFocused = elim (parse bytes) [ none ↦ refused 2 blank [] | some b ↦ startBatch b hostFocused ]
 
 -- ## A host focus change
 
+-- the host flag set
 unfoldable pub withHostFocus : State → Bool → State
 withHostFocus s h = record { forest = s .forest; hostFocused = h }
 

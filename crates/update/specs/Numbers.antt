@@ -42,6 +42,7 @@ module _ (s : Forest) (b : Batch) where
       gone s b (here s b (l .id))
       && elim (find (here s b (l .id)) (s .nodes)) [ none ↦ false | some n ↦ not (sameData (n .body) (l .body)) ]
 
+  -- 5 to 8
   unfoldable pub rowsBeforePass : List Row
   rowsBeforePass =
       row 5 (not (distinct sameNode (listedIds (b .nodes))))

@@ -28,6 +28,7 @@ write x d (n ∷ ns) =
     else if before x (n .id) then record { id = x; parentAndIndex = none; body = d } ∷ n ∷ ns
     else n ∷ write x d ns
 
+-- all listed nodes, of tree number t
 unfoldable pub writeAll : TreeIndex → List Listed → List NodeState → List NodeState
 writeAll t [] ns = ns
 writeAll t (l ∷ ls) ns = writeAll t ls (write (record { tree = t; node = l .id }) (l .body) ns)
@@ -71,9 +72,11 @@ module _ (s : Forest) (b : Batch) where
       if sameIndex (l .parent .tree) (x .tree) then some l
       else elim (claimedFrom s b (l .parent)) [ none ↦ some l | some g ↦ underGraft g ]
 
+  -- of the batch's tree or of another
   unfoldable pub linkAfter : FullNodeId → Option ParentAndIndex → Option ParentAndIndex
   linkAfter x was = if mine s b x then linkHere x was else linkElsewhere x was
 
+  -- a node with the link that it then records
   unfoldable pub relink : NodeState → NodeState
   relink n = record { id = n .id; parentAndIndex = linkAfter (n .id) (n .parentAndIndex); body = n .body }
 
@@ -92,6 +95,7 @@ module _ (s : Forest) (b : Batch) where
   subtreeElsewhere k none = none
   subtreeElsewhere k (some u) = if gone s b (record { tree = record { 0 = k }; node = u .root }) then none else some u
 
+  -- of the batch's tree or of another; k is the tree's number
   unfoldable pub entryAfter : ℕ → TreeEntry → TreeEntry
   entryAfter k e =
       record { id = e .id; subtree = if eqb k (number s b .0) then subtreeHere (e .subtree) else subtreeElsewhere k (e .subtree) }
@@ -107,6 +111,7 @@ module _ (s : Forest) (b : Batch) where
 
   -- ## The outcome
 
+  -- the forest after the batch
   unfoldable pub outcome : Forest
   outcome = record {
     nodes = map relink (keep (λ n. not (gone s b (n .id))) written);

@@ -58,5 +58,6 @@ module _ (s : Forest) (b : Batch) where
       ∷ found rest
       ∷ [])
 
+  -- the whole pass
   unfoldable pub pass : ℕ
   pass = fault [] [] (events [] (b .nodes))

@@ -15,12 +15,14 @@ use Rattle.update.specs.Outcome.{paneRoot, outcome}
 
 -- ## The four lists
 
+-- the four lists of ids
 pub record Changes : Type 0 where
   pub added : List FullNodeId
   pub updated : List FullNodeId
   pub removed : List FullNodeId
   pub relinked : List FullNodeId
 
+-- four empty lists
 unfoldable pub noChanges : Changes
 noChanges = record { added = []; updated = []; removed = []; relinked = [] }
 
@@ -51,6 +53,7 @@ module _ (s s′ : Forest) where
             || marked (n .id)
       ]
 
+  -- the list of these
   unfoldable pub updated : (FullNodeId → Bool) → List FullNodeId
   updated marked = idsOf (keep (isUpdated marked) (s .nodes))
 
@@ -58,9 +61,11 @@ module _ (s s′ : Forest) where
   unfoldable pub isRelinked : FullNodeId → Bool
   isRelinked x = present (s′ .nodes) x && not (sameOption sameId (parentAt (s .nodes) x) (parentAt (s′ .nodes) x))
 
+  -- the list of these
   unfoldable pub relinked : List FullNodeId
   relinked = keep isRelinked (idsOf (s .nodes))
 
+  -- the four lists from the two forests
   unfoldable pub changesWith : (FullNodeId → Bool) → Changes
   changesWith marked = record { added = added; updated = updated marked; removed = removed; relinked = relinked }
 
@@ -75,6 +80,7 @@ pub record Lengths : Type 0 where
   pub removed : ℕ
   pub relinked : ℕ
 
+-- of four lists
 unfoldable pub lengthsOf : Changes → Lengths
 lengthsOf c =
     record { added = length (c .added); updated = length (c .updated); removed = length (c .removed); relinked = length (c .relinked) }
@@ -96,10 +102,12 @@ lent slice c = changeWords c ++ drop (length (changeWords c)) slice
 
 -- ## The extra `node_updated` ids of `process_changes`, if the focus moved
 
+-- an id, unless it stands in a list
 unfoldable pub unlessIn : List FullNodeId → Option FullNodeId → Option FullNodeId
 unlessIn xs none = none
 unlessIn xs (some x) = if has sameId xs x then none else some x
 
+-- the answers of `TreeState::focus` differ
 unfoldable pub focusMoved : State → State → Bool
 focusMoved s s′ = not (sameOption sameId (stateFocus s) (stateFocus s′))
 
