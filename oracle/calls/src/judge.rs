@@ -1,0 +1,325 @@
+//! The whole answer of a call. Numbers 3, 4, 6, 7 and 9 to 18, states, lists,
+//! focus and extra ids are the crate's own; 1, 2, 5, 8, 19, 20 and 21 and the
+//! parent link that the crate loses follow document 01.
+use crate::plain::*;
+use accesskit::{Affine, Node, NodeId, Rect, TreeId, TreeInfo, TreeUpdate};
+use accesskit_consumer::node::probe::parts;
+use accesskit_consumer::tree::TreeState;
+use accesskit_consumer::tree::probe::{self, Heard};
+use std::collections::{BTreeMap, BTreeSet};
+
+/// What a call is handed as its record: a batch to be encoded, or bytes as they are.
+#[derive(Clone, Debug)]
+pub enum Input {
+    Batch(Batch),
+    Bytes(Vec<u8>),
+}
+
+impl Input {
+    fn read(&self) -> Option<Batch> {
+        match self {
+            Input::Batch(b) => Batch::decode(&b.encode()).inspect(|read| assert_eq!(read, b)),
+            Input::Bytes(bytes) => Batch::decode(bytes),
+        }
+    }
+}
+
+#[derive(Clone, Debug)]
+pub enum Call {
+    Start(Input, bool),
+    Update(Input, Vec<u64>),
+    Host(bool),
+}
+
+/// At any number but 0 only the number, the state and the slice say something.
+#[derive(Clone, Debug, Default)]
+pub struct Answer {
+    pub number: u8,
+    /// The words of the crate's panic message that gave the number, if one did.
+    pub said: &'static str,
+    pub state: State,
+    pub added: Vec<Id>,
+    pub updated: Vec<Id>,
+    pub removed: Vec<Id>,
+    pub relinked: Vec<Id>,
+    pub focus: (Option<Id>, Option<Id>),
+    pub extra: (Option<Id>, Option<Id>),
+    pub slice: Vec<u64>,
+    /// The lost parent link was put back.
+    pub restored: bool,
+}
+
+/// The crate's state and the same as a plain value.
+#[derive(Clone)]
+pub struct Held {
+    pub inner: TreeState,
+    pub plain: State,
+}
+
+fn refusal(number: u8, before: Option<&State>, call: &Call) -> Answer {
+    Answer {
+        number,
+        state: before.cloned().unwrap_or_default(),
+        slice: if let Call::Update(_, slice) = call { slice.clone() } else { vec![] },
+        ..Answer::default()
+    }
+}
+
+/// Row 1: any call on a state that is not sound.
+pub fn on_unsound(before: &State, call: &Call) -> Answer {
+    assert!(!before.sound());
+    refusal(1, Some(before), call)
+}
+
+/// The answer of a call on a sound state (none: a start) and the next state if accepted.
+pub fn judge(before: Option<&Held>, call: &Call) -> (Answer, Option<Held>) {
+    let refused = |(number, said): Refused| {
+        let answer = refusal(number, before.map(|h| &h.plain), call);
+        (Answer { said, ..answer }, None)
+    };
+    match call {
+        Call::Start(input, host) => match start(input, *host) {
+            Ok(next) => {
+                let focus = (None, focus_of(&next));
+                (Answer { state: next.plain.clone(), focus, ..Answer::default() }, Some(next))
+            }
+            Err(why) => refused(why),
+        },
+        Call::Update(input, slice) => match update(before.unwrap(), input, slice) {
+            Ok((answer, next)) => (answer, Some(next)),
+            Err(why) => refused(why),
+        },
+        Call::Host(host) => {
+            let old = before.unwrap();
+            let (inner, heard) = probe::host_focus(&old.inner, *host);
+            let next = Held { plain: plain(&inner), inner };
+            assert!(heard.added.is_empty() && heard.removed.is_empty());
+            let mut answer = Answer { state: next.plain.clone(), ..Answer::default() };
+            tell_focus(&mut answer, old, &next, &heard);
+            (answer, Some(next))
+        }
+    }
+}
+
+/// A number, and the words of the crate's panic, if that gave it.
+type Refused = (u8, &'static str);
+
+fn added_row(number: u8) -> Refused {
+    (number, "")
+}
+
+fn start(input: &Input, host: bool) -> Result<Held, Refused> {
+    let batch = input.read().ok_or(added_row(2))?;
+    if batch.lists_twice() {
+        // 3 and 4 come first, and do not hang on the nodes
+        let bare = Batch { nodes: vec![], ..batch.clone() };
+        return Err(match probe::start(to_update(&bare), host) {
+            Err(said) if panic_row(&said).0 <= 4 => panic_row(&said),
+            _ => added_row(5),
+        });
+    }
+    let inner = probe::start(to_update(&batch), host).map_err(|said| panic_row(&said))?;
+    let plain = plain(&inner);
+    if !plain.sound_links() || !holders_agree(&inner, &plain) {
+        return Err(added_row(19));
+    }
+    assert!(plain.sound());
+    Ok(Held { inner, plain })
+}
+
+fn update(old: &Held, input: &Input, slice: &[u64]) -> Result<(Answer, Held), Refused> {
+    let batch = input.read().ok_or(added_row(2))?;
+    if batch.lists_twice() {
+        return Err(added_row(5));
+    }
+    let full = old.plain.trees.len() == TREES && old.plain.number_of(batch.tree).is_none();
+    let ran = probe::update(&old.inner, to_update(&batch)).map_err(|said| {
+        let row = panic_row(&said);
+        if full && row.0 > 7 { added_row(8) } else { row }
+    })?;
+    if full {
+        return Err(added_row(8));
+    }
+    if ran.removed.iter().any(|x| ran.added.contains(x) || ran.updated.contains(x)) {
+        return Err(added_row(18));
+    }
+    let mut inner = ran.state;
+    let restored = restore_link(old, &batch, &mut inner);
+    let next = Held { plain: plain(&inner), inner };
+    if !next.plain.sound_links() || !holders_agree(&next.inner, &next.plain) {
+        return Err(added_row(19));
+    }
+    if next.plain.nodes.len() > NODES {
+        return Err(added_row(20));
+    }
+    assert!(next.plain.sound());
+    let parent = |s: &State, x: &Id| s.nodes.get(x).map(|n| n.0.map(|l| l.0));
+    let relinked: Vec<Id> = old
+        .plain
+        .nodes
+        .keys()
+        .filter(|x| parent(&next.plain, x).is_some_and(|p| Some(p) != parent(&old.plain, x)))
+        .copied()
+        .collect();
+    let sorted = |s: BTreeSet<Id>| s.into_iter().collect::<Vec<_>>();
+    let mut answer = Answer {
+        state: next.plain.clone(),
+        added: sorted(ran.added),
+        updated: sorted(ran.updated),
+        removed: sorted(ran.removed),
+        relinked,
+        slice: slice.to_vec(),
+        restored,
+        ..Answer::default()
+    };
+    let lists: Vec<u64> = [&answer.added, &answer.updated, &answer.removed, &answer.relinked]
+        .into_iter()
+        .flatten()
+        .flat_map(|x| [x.0 as u64, x.1])
+        .collect();
+    if lists.len() > slice.len() {
+        return Err(added_row(21));
+    }
+    answer.slice[..lists.len()].copy_from_slice(&lists);
+    let heard = ran.wrapper.expect("the wrapper panicked on an accepted batch");
+    assert_eq!(sorted(heard.added.iter().copied().collect()), answer.added);
+    assert_eq!(sorted(heard.removed.iter().copied().collect()), answer.removed);
+    tell_focus(&mut answer, old, &next, &heard);
+    Ok((answer, next))
+}
+
+/// Focus before and after, and the extra ids that `process_changes` reported.
+fn tell_focus(answer: &mut Answer, old: &Held, next: &Held, heard: &Heard) {
+    let focus = (focus_of(old), focus_of(next));
+    let moved = if focus.0 == focus.1 { vec![] } else { vec![focus] };
+    assert_eq!(heard.moved, moved);
+    let told = |x: &Id| !answer.updated.contains(x) && heard.updated.contains(x);
+    let extra = if moved.is_empty() { (None, None) } else { (focus.0.filter(told), focus.1.filter(told)) };
+    let mut all = answer.updated.clone();
+    all.extend(extra.0.iter().chain(&extra.1));
+    all.sort();
+    let mut reported = heard.updated.clone();
+    reported.sort();
+    assert_eq!(all, reported);
+    (answer.focus, answer.extra) = (focus, extra);
+}
+
+fn focus_of(s: &Held) -> Option<Id> {
+    let answer = s.inner.focus().map(|n| parts(n.id()));
+    assert_eq!(answer, s.plain.focus());
+    answer
+}
+
+/// Document 01: a grafted tree's root listed in a batch without tree data keeps its parent link.
+fn restore_link(old: &Held, batch: &Batch, inner: &mut TreeState) -> bool {
+    if batch.tree == ROOT || batch.root.is_some() {
+        return false;
+    }
+    let Some(tree) = old.plain.number_of(batch.tree) else { return false };
+    let Some((root, _)) = old.plain.trees[tree as usize].1 else { return false };
+    let id = (tree, root);
+    if !batch.nodes.iter().any(|n| n.0 == root) || !probe::dump(inner).nodes.contains_key(&id) {
+        return false;
+    }
+    probe::set_link(inner, id, old.plain.nodes[&id].0.map(|(p, i)| (p, i as usize)));
+    true
+}
+
+fn holders_agree(inner: &TreeState, plain: &State) -> bool {
+    let holders: BTreeMap<Tid, Id> =
+        probe::dump(inner).graft_parents.into_iter().map(|(t, x)| ((t.0, t.1), x)).collect();
+    holders == plain.grafts().into_iter().collect()
+}
+
+/// The number that document 01 gives to a panic message of the crate, and the words that tell it.
+/// (Ids in the message may come in the order of a hash set.)
+fn panic_row(said: &str) -> Refused {
+    const ROWS: [(&str, u8); 13] = [
+        ("Tried to initialize the accessibility tree without a root tree", 3),
+        ("Cannot initialize with a subtree", 4),
+        ("Cannot push subtree", 6),
+        ("Cannot update subtree", 7),
+        ("TreeUpdate includes duplicate child", 9),
+        ("has both tree_id and children", 10),
+        ("Cannot graft the root tree", 11),
+        ("already has a graft parent", 12),
+        ("nodes which are neither in the current tree nor a child", 13),
+        ("children ids which are neither in the current tree nor the ID", 14),
+        ("Focus is on graft node", 15),
+        ("Root ID", 16),
+        ("Focused ID", 17),
+    ];
+    let row = ROWS.iter().find(|(words, _)| said.contains(words));
+    let (words, number) = row.unwrap_or_else(|| panic!("a panic that no row knows: {said}"));
+    (*number, words)
+}
+
+fn plain(inner: &TreeState) -> State {
+    let d = probe::dump(inner);
+    let state = State {
+        nodes: d
+            .nodes
+            .into_iter()
+            .map(|(id, (n, link))| (id, (link.map(|(p, i)| (p, i as u64)), from_node(&n))))
+            .collect(),
+        trees: (0..)
+            .zip(&d.numbers)
+            .map(|(number, t)| {
+                let at = d.subtrees.get(t).map(|(root, focus)| {
+                    assert_eq!((root.0, focus.0), (number, number));
+                    (root.1, focus.1)
+                });
+                ((t.0, t.1), at)
+            })
+            .collect(),
+        host: d.host,
+    };
+    assert_eq!(Some(d.root.1), state.trees[0].1.map(|at| at.0));
+    assert_eq!(d.root, (0, d.info_root));
+    assert_eq!(Some(d.focus), state.effective_focus());
+    state
+}
+
+fn to_update(b: &Batch) -> TreeUpdate {
+    TreeUpdate {
+        nodes: b.nodes.iter().map(|(id, d)| (NodeId(*id), to_node(d))).collect(),
+        tree: b.root.map(|r| TreeInfo { root: NodeId(r), toolkit_name: None, toolkit_version: None }),
+        tree_id: TreeId(b.tree.0, b.tree.1),
+        focus: NodeId(b.focus),
+    }
+}
+
+/// A label byte stands as the character of that number, so any bytes can be a label.
+fn to_node(d: &Data) -> Node {
+    let [x0, y0, x1, y1] = d.bounds.map(f64::from_bits);
+    Node {
+        role_code: d.role,
+        hidden: d.has(HIDDEN),
+        clips_children: d.has(CLIPS),
+        active_descendant: d.has(ACTIVE).then_some(NodeId(d.active)),
+        tree_id: d.graft().map(|g| TreeId(g.0, g.1)),
+        bounds: d.has(BOUNDS).then_some(Rect { x0, y0, x1, y1 }),
+        transform: d.has(TRANSFORM).then_some(Affine(d.transform.map(f64::from_bits))),
+        children: d.children.iter().map(|c| NodeId(*c)).collect(),
+        label: d.label.iter().map(|b| *b as char).collect(),
+    }
+}
+
+fn from_node(n: &Node) -> Data {
+    let flag = |on: bool, flag: u8| if on { flag } else { 0 };
+    Data {
+        active: n.active_descendant.map_or(0, |a| a.0),
+        graft: n.tree_id.map_or(ROOT, |t| (t.0, t.1)),
+        children: n.children.iter().map(|c| c.0).collect(),
+        label: n.label.chars().map(|c| c as u8).collect(),
+        role: n.role_code,
+        flags: flag(n.hidden, HIDDEN)
+            | flag(n.clips_children, CLIPS)
+            | flag(n.active_descendant.is_some(), ACTIVE)
+            | flag(n.tree_id.is_some(), GRAFT)
+            | flag(n.bounds.is_some(), BOUNDS)
+            | flag(n.transform.is_some(), TRANSFORM),
+        bounds: n.bounds.map_or([0; 4], |r| [r.x0, r.y0, r.x1, r.y1].map(f64::to_bits)),
+        transform: n.transform.map_or([0; 6], |t| t.0.map(f64::to_bits)),
+    }
+}

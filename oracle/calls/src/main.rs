@@ -1,0 +1,265 @@
+//! Makes histories of calls from a seed, runs the crate's real source on them,
+//! and prints one JSON line a call: the state before, the call, the whole answer.
+//!
+//!     calls --calls 3000 --seed 1
+mod cases;
+mod json;
+mod judge;
+mod make;
+mod plain;
+
+use judge::{Answer, Call, Held, Input, judge, on_unsound};
+use make::{Rng, World};
+use plain::{ROOT, State, TREES};
+use std::collections::BTreeMap;
+use std::io::{BufWriter, Write};
+
+/// Kind of call and number.
+type Slot = (char, u8);
+
+/// How many calls of each slot are still wanted, and what the printed ones show.
+struct Sink {
+    /// Passes over no call whose slot is open.
+    all: bool,
+    wanted: BTreeMap<Slot, usize>,
+    seen: BTreeMap<&'static str, usize>,
+    out: BufWriter<std::io::Stdout>,
+}
+
+impl Sink {
+    fn new(calls: usize) -> Sink {
+        let share = |per_3000: usize| (calls * per_3000).div_ceil(3000);
+        let mut wanted = BTreeMap::new();
+        for n in [5, 9, 10, 11, 12, 13, 14, 15, 16, 17, 19] {
+            wanted.insert(('s', n), share(12));
+        }
+        wanted.extend([(('s', 0), share(60)), (('s', 2), share(12)), (('s', 3), share(60))]);
+        wanted.extend([(('s', 4), share(60)), (('u', 1), share(60)), (('h', 1), share(12))]);
+        wanted.extend([(('u', 2), share(48)), (('h', 0), share(90))]);
+        for n in (5..=19).chain([21]) {
+            wanted.insert(('u', n), share(66));
+        }
+        let sum: usize = wanted.values().sum();
+        wanted.insert(('u', 0), calls.saturating_sub(sum));
+        Sink { all: true, wanted, seen: BTreeMap::new(), out: BufWriter::new(std::io::stdout()) }
+    }
+
+    fn left(&self) -> usize {
+        self.wanted.values().sum()
+    }
+
+    fn wants(&self, slot: Slot) -> bool {
+        self.wanted.get(&slot).is_some_and(|n| *n > 0)
+    }
+
+    /// Prints the call if its slot is not full. A call that shows nothing rare is often passed over.
+    fn offer(&mut self, r: &mut Rng, before: Option<&State>, call: &Call, answer: &Answer) {
+        let kind = match call {
+            Call::Start(..) => 's',
+            Call::Update(..) => 'u',
+            Call::Host(_) => 'h',
+        };
+        if !self.wants((kind, answer.number)) {
+            return;
+        }
+        let shown = shown(before, call, answer);
+        let rare = shown.iter().any(|(what, holds)| *holds && !what.ends_with("added"));
+        if (kind, answer.number) == ('u', 0) && !rare && !self.all && r.chance(75) {
+            return;
+        }
+        *self.wanted.get_mut(&(kind, answer.number)).unwrap() -= 1;
+        for (what, holds) in shown {
+            *self.seen.entry(what).or_default() += holds as usize;
+        }
+        writeln!(self.out, "{}", json::line(before, call, answer)).unwrap();
+    }
+}
+
+/// What a printed call shows, for the summary.
+fn shown(before: Option<&State>, call: &Call, a: &Answer) -> Vec<(&'static str, bool)> {
+    let bytes = matches!(call, Call::Start(Input::Bytes(_), _) | Call::Update(Input::Bytes(_), _));
+    let mut out = vec![("record given as bytes", bytes)];
+    if let (Call::Update(Input::Batch(b), _), 12) = (call, a.number) {
+        let mut grafts: Vec<_> = b.nodes.iter().filter_map(|n| n.1.graft()).collect();
+        grafts.sort();
+        let twice = grafts.windows(2).any(|g| g[0] == g[1]);
+        out.push(("refused with 12: a graft already held", !twice));
+    }
+    let (Call::Update(Input::Batch(b), _), 0, Some(s)) = (call, a.number, before) else { return out };
+    let number = a.state.number_of(b.tree).unwrap();
+    let old_bits = b.nodes.iter().any(|(n, d)| {
+        let id = (number, *n);
+        s.nodes.get(&id).is_some_and(|o| a.state.nodes.get(&id).is_some_and(|x| x.1 == o.1))
+            && s.nodes[&id].1 != *d
+    });
+    let levels = |x: &State| {
+        let mut most = 0;
+        for (id, _) in &x.nodes {
+            let (mut at, mut n) = (*id, 0);
+            while let Some((p, _)) = x.nodes[&at].0 {
+                n += (p.0 != at.0) as usize;
+                at = p;
+            }
+            most = most.max(n);
+        }
+        most
+    };
+    let ends = a.state.effective_focus();
+    out.extend([
+        ("accepted: old bits stay", old_bits),
+        ("accepted: lost link put back", a.restored),
+        ("accepted: nodes added", !a.added.is_empty()),
+        ("accepted: nodes removed", !a.removed.is_empty()),
+        ("accepted: another tree removed", a.removed.iter().any(|x| x.0 != number)),
+        ("accepted: relinked", !a.relinked.is_empty()),
+        ("accepted: a tree moved to another graft", a.relinked.iter().any(|x| x.0 != number)),
+        (
+            "accepted: root changed",
+            b.tree == ROOT && s.trees[0].1.map(|x| x.0) != a.state.trees[0].1.map(|x| x.0),
+        ),
+        ("accepted: new tree number", s.trees.len() < a.state.trees.len()),
+        ("accepted: trees in trees in trees", levels(&a.state) > 1),
+        ("accepted: focus through a graft", ends.is_some_and(|f| f.0 != 0)),
+        ("accepted: focus passes to an active descendant", a.focus.1.is_some_and(|f| Some(f) != ends)),
+        ("accepted: first extra id", a.extra.0.is_some()),
+        ("accepted: second extra id", a.extra.1.is_some()),
+    ]);
+    out
+}
+
+/// One call: judged, offered, and the next state if accepted.
+fn run(r: &mut Rng, sink: &mut Sink, held: Option<&Held>, call: Call) -> Option<Held> {
+    let (answer, next) = judge(held, &call);
+    sink.offer(r, held.map(|h| &h.plain), &call, &answer);
+    next
+}
+
+fn accepted_start(r: &mut Rng, w: &World, sink: &mut Sink) -> Held {
+    loop {
+        let mut b = make::start(r, w);
+        if r.chance(60) {
+            make::spoil(r, w, None, &mut b);
+            if r.chance(15) {
+                make::spoil(r, w, None, &mut b);
+            }
+        }
+        let call = make::call(r, w, b, false);
+        if let Some(next) = run(r, sink, None, call) {
+            return next;
+        }
+    }
+}
+
+fn step(r: &mut Rng, w: &World, sink: &mut Sink, held: Held) -> Held {
+    let s = &held.plain;
+    if r.chance(3) {
+        let damaged = make::damage(r, w, s);
+        if !damaged.sound() {
+            let call = if r.chance(80) {
+                let b = make::batch(r, w, s);
+                make::call(r, w, b, true)
+            } else {
+                Call::Host(r.chance(50))
+            };
+            sink.offer(r, Some(&damaged), &call, &on_unsound(&damaged, &call));
+        }
+    }
+    let call = if r.chance(6) {
+        Call::Host(if r.chance(60) { !s.host } else { s.host })
+    } else {
+        let mut b = make::batch(r, w, s);
+        if r.chance(45) {
+            make::spoil(r, w, Some(s), &mut b);
+            if r.chance(15) {
+                make::spoil(r, w, Some(s), &mut b);
+            }
+        }
+        make::call(r, w, b, true)
+    };
+    run(r, sink, Some(&held), call).unwrap_or(held)
+}
+
+/// A history in which all tree numbers are taken, for row 8. Its way there is not printed.
+fn full_table(r: &mut Rng, w: &World, sink: &mut Sink) {
+    let mut quiet = Sink { wanted: BTreeMap::new(), ..Sink::new(0) };
+    let mut held = accepted_start(r, w, &mut quiet);
+    let roomy = vec![0; 100];
+    for k in 0..4 * TREES as u64 {
+        if held.plain.trees.len() == TREES {
+            break;
+        }
+        for b in make::graft_and_fill(r, w, &held.plain, (9, k)) {
+            let call = Call::Update(Input::Batch(b), roomy.clone());
+            held = run(r, &mut quiet, Some(&held), call).unwrap_or(held);
+        }
+    }
+    if held.plain.trees.len() < TREES {
+        return;
+    }
+    for k in 0..2 {
+        let batches = make::graft_and_fill(r, w, &held.plain, (10, k));
+        for (i, mut b) in batches.into_iter().enumerate() {
+            if i == 1 && r.chance(30) {
+                make::spoil(r, w, Some(&held.plain), &mut b);
+            }
+            let call = make::call(r, w, b, true);
+            let to = if i == 1 { &mut *sink } else { &mut quiet };
+            held = run(r, to, Some(&held), call).unwrap_or(held);
+        }
+    }
+}
+
+fn main() {
+    // the crate's panics are answers; the driver's own are not
+    std::panic::set_hook(Box::new(|p| {
+        if p.location().is_some_and(|l| l.file().starts_with("calls")) {
+            eprintln!("{p}");
+        }
+    }));
+    let (mut calls, mut seed) = (3000, 1);
+    let args: Vec<String> = std::env::args().skip(1).collect();
+    for pair in args.chunks(2) {
+        match (pair[0].as_str(), pair.get(1).and_then(|v| v.parse::<u64>().ok())) {
+            ("--calls", Some(n)) => calls = n as usize,
+            ("--seed", Some(n)) => seed = n,
+            _ => {
+                eprintln!("usage: calls [--calls N] [--seed N]");
+                std::process::exit(2);
+            }
+        }
+    }
+    let outcome = std::panic::catch_unwind(|| {
+        let (mut r, mut sink) = (Rng(seed), Sink::new(calls));
+        for (on, call, number) in cases::known() {
+            let (answer, _) = judge(on.as_ref(), &call);
+            assert_eq!(answer.number, number, "{call:?}");
+            sink.offer(&mut r, on.as_ref().map(|h| &h.plain), &call, &answer);
+        }
+        sink.all = false;
+        let mut tried = 0;
+        while sink.left() > 0 && tried < 2000 + 20 * calls {
+            tried += 1;
+            let w = World::new(&mut r);
+            if sink.wants(('u', 8)) && r.chance(10) {
+                full_table(&mut r, &w, &mut sink);
+            }
+            let mut held = accepted_start(&mut r, &w, &mut sink);
+            for _ in 0..5 + r.below(30) {
+                held = step(&mut r, &w, &mut sink, held);
+            }
+        }
+        sink.out.flush().unwrap();
+        sink.wanted.retain(|_, n| *n > 0);
+        (sink.wanted, sink.seen)
+    });
+    let Ok((missing, seen)) = outcome else {
+        std::process::exit(1);
+    };
+    for (what, n) in seen {
+        eprintln!("{n:6}  {what}");
+    }
+    if !missing.is_empty() {
+        eprintln!("not filled: {missing:?}");
+        std::process::exit(1);
+    }
+}
