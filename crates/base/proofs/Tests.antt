@@ -23,6 +23,19 @@ unfolding _&&_
 and-false true = refl
 and-false false = refl
 
+pub and-assoc : (a b c : Bool) → a && b && c ≡ a && (b && c)
+unfolding _&&_
+and-assoc true b c = refl
+and-assoc false b c = refl
+
+-- tests in pairs, or the first of each pair and then the second of each
+pub and-pairs : (a p u q v : Bool) → a && (p && u) && (q && v) ≡ a && p && q && u && v
+unfolding _&&_
+and-pairs true true u true v = refl
+and-pairs true true u false v = and-false u
+and-pairs true false u q v = refl
+and-pairs false p u q v = refl
+
 pub not-false : {a : Bool} → not a ≡ false → a ≡ true
 not-false {a = true} e = refl
 not-false {a = false} e = absurd (true≢false e)
@@ -30,6 +43,13 @@ not-false {a = false} e = absurd (true≢false e)
 pub not-true : {a : Bool} → not a ≡ true → a ≡ false
 not-true {a = true} e = sym e
 not-true {a = false} e = refl
+
+-- after `if !f(..)`: what the call's result says of the test that the contract names
+pub call-false : {r t : Bool} → r ≡ t → not r ≡ true → t ≡ false
+call-false e h = sym e ∙ not-true h
+
+pub call-true : {r t : Bool} → r ≡ t → not r ≡ false → t ≡ true
+call-true e h = sym e ∙ not-false h
 
 pub or-absorb : (a h : Bool) → (a || (a || h)) ≡ (a || h)
 or-absorb true h = refl

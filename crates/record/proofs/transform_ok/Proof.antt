@@ -1,0 +1,99 @@
+-- `record::transform_ok` meets its contract: each number that is read is zero, or finite, where its f64 is. Assumes nothing.
+use Rattle.base.specs.Tests.{_&&_}
+use Rattle.base.proofs.Floats.{zero-at}
+use Rattle.geometry.specs.Geometry.{affineTest}
+use native.Mathlib.Omega.{arith}
+use borrow.Author.Needs.{needs}
+use Rattle.record.proofs.transform_ok.Statement.{statement}
+use Rattle.record.proofs.transform_ok.Tie as tie
+
+add-u64-at : tie.Need-add-u64-at
+add-u64-at c = search needs
+
+u64-at-requires : tie.Need-u64-at-requires
+u64-at-requires c κs = search needs
+
+add-u64-at-2 : tie.Need-add-u64-at-2
+add-u64-at-2 c = search needs
+
+u64-at-requires-2 : tie.Need-u64-at-requires-2
+u64-at-requires-2 c κs = search needs
+
+add-u64-at-3 : tie.Need-add-u64-at-3
+add-u64-at-3 c = search needs
+
+u64-at-requires-3 : tie.Need-u64-at-requires-3
+u64-at-requires-3 c κs = search needs
+
+add-u64-at-4 : tie.Need-add-u64-at-4
+add-u64-at-4 c = search needs
+
+u64-at-requires-4 : tie.Need-u64-at-requires-4
+u64-at-requires-4 c κs = search needs
+
+add-u64-at-5 : tie.Need-add-u64-at-5
+add-u64-at-5 c = search needs
+
+u64-at-requires-5 : tie.Need-u64-at-requires-5
+u64-at-requires-5 c κs = search needs
+
+add-u64-at-6 : tie.Need-add-u64-at-6
+add-u64-at-6 c = search needs
+
+u64-at-requires-6 : tie.Need-u64-at-requires-6
+u64-at-requires-6 c κs = search needs
+
+finite-bits-requires : tie.Need-finite-bits-requires
+finite-bits-requires c κs = search needs
+
+finite-bits-requires-2 : tie.Need-finite-bits-requires-2
+finite-bits-requires-2 c κs = search needs
+
+finite-bits-requires-3 : tie.Need-finite-bits-requires-3
+finite-bits-requires-3 c κs = search needs
+
+finite-bits-requires-4 : tie.Need-finite-bits-requires-4
+finite-bits-requires-4 c κs = search needs
+
+finite-bits-requires-5 : tie.Need-finite-bits-requires-5
+finite-bits-requires-5 c κs = search needs
+
+finite-bits-requires-6 : tie.Need-finite-bits-requires-6
+finite-bits-requires-6 c κs = search needs
+
+returns : tie.Need-returns
+unfolding affineTest _&&_
+returns c =
+    let last = c .before .before .before .before .before .before in
+    cc (
+      zero-at _ _ (last .before .before .before .before .before .u64-at .ensures) (omega arith),
+      zero-at _ _ (last .before .before .before .before .u64-at2 .ensures) (omega arith),
+      zero-at _ _ (last .before .before .before .u64-at3 .ensures) (omega arith),
+      zero-at _ _ (last .before .before .u64-at4 .ensures) (omega arith),
+      zero-at _ _ (last .before .u64-at5 .ensures) (omega arith),
+      zero-at _ _ (last .u64-at6 .ensures) (omega arith),
+    )
+
+pub transform-ok-spec : {M : Type 1} → statement M
+transform-ok-spec =
+    tie.close
+    (tie.spec
+    add-u64-at
+    u64-at-requires
+    add-u64-at-2
+    u64-at-requires-2
+    add-u64-at-3
+    u64-at-requires-3
+    add-u64-at-4
+    u64-at-requires-4
+    add-u64-at-5
+    u64-at-requires-5
+    add-u64-at-6
+    u64-at-requires-6
+    finite-bits-requires
+    finite-bits-requires-2
+    finite-bits-requires-3
+    finite-bits-requires-4
+    finite-bits-requires-5
+    finite-bits-requires-6
+    returns)
