@@ -2,15 +2,15 @@
 use mathlib.Core.Path.{_≡_, refl, sym, ap, _∙_}
 use mathlib.Core.Bool.{Bool, true, false}
 use mathlib.Core.List.{List, [], _∷_, _++_, map}
-use mathlib.Core.Logic.{⊎-elim}
-use Prim.Native.Nat.{ℕ, zero, suc, _+_, _*_, _^_, _<_, _≤_}
-use native.Mathlib.Nat.{add-zero, zero-add, mul-zero, one-mul, add-assoc, mul-assoc, mul-add, mul-suc, suc-add, pow-succ', eq-or-lt-of-le, le-of-suc-le-suc, le-refl, one-le-pow, zero-lt-suc}
+use mathlib.Core.Logic.{_⊎_, inl, inr, ⊎-elim}
+use Prim.Native.Nat.{ℕ, zero, suc, _+_, _*_, _^_, _-_, min, _<_, _≤_}
+use native.Mathlib.Nat.{add-zero, zero-add, mul-zero, one-mul, add-assoc, mul-assoc, mul-add, mul-suc, suc-add, pow-succ', eq-or-lt-of-le, le-of-suc-le-suc, le-refl, one-le-pow, zero-lt-suc, le-of-lt}
 use native.Mathlib.Numerals.{add-one}
 use native.Mathlib.Omega.{arith}
-use lib.Dec.{eqb}
-use lib.ListN.{length, getD, drop, drop-of-length-le}
-use lib.Seq.{getD-drop, drop-drop}
-use borrow.Author.Tests.{eq-eqb, ne-eqb}
+use lib.Dec.{eqb, leb}
+use lib.ListN.{length, getD, take, drop, drop-of-length-le, length-drop}
+use lib.Seq.{getD-drop, drop-drop, take-nil, take-all}
+use borrow.Author.Tests.{eq-eqb, ne-eqb, leb-true, leb-false}
 use Rattle.base.specs.Tests.{_&&_}
 use Rattle.base.specs.Bytes.{littleEndian, le, allBelow, zeros, listOf, sumOf}
 use Rattle.base.proofs.Tests.{both, and-false}
@@ -53,6 +53,13 @@ module _ (s : List ℕ) (at : ℕ) where
   pub le-past : (w : ℕ) → length s ≤ at → le w s at ≡ 0
   unfolding le
   le-past w h = rw (drop-of-length-le s h) (little-endian-nil w)
+
+le-two : (s : List ℕ) (at : ℕ) → le 2 s at ≡ getD s at 0 + 256 * getD s (at + 1) 0
+le-two s at = rw (le-add s at 1 1, le-one s at, le-one s (at + 1))
+
+-- four bytes, each by itself
+pub le-four : (s : List ℕ) (at : ℕ) → le 4 s at ≡ getD s at 0 + 256 * getD s (at + 1) 0 + 65536 * (getD s (at + 2) 0 + 256 * getD s (at + 3) 0)
+le-four s at = rw (le-add s at 2 2, le-two s at, le-two s (at + 2), add-assoc at 2 1)
 
 -- ## Zero bytes
 
@@ -152,3 +159,34 @@ module _ (f : ℕ → ℕ) where
       ⊎-elim (λ e. rw e (le-refl _))
       (λ l. let r : sumOf i f + f i ≤ sumOf n f = sum-within n i l in omega arith)
       (eq-or-lt-of-le (le-of-suc-le-suc h))
+
+-- ## Parts of a list
+
+le-or-lt : (m n : ℕ) → (m ≤ n) ⊎ (n < m)
+le-or-lt m n = go (leb m n) refl
+  where
+    go : (t : Bool) → leb m n ≡ t → (m ≤ n) ⊎ (n < m)
+    go true e = inl (leb-true m n e)
+    go false e = inr (leb-false m n e)
+
+-- a part whose start and end are cut at the list's end
+pub part-cut : {A : Type 0} (l : List A) (x n start stop : ℕ) → start ≡ min x (length l) → stop ≡ min (start + n) (length l)
+    → take (stop - start) (drop start l) ≡ take n (drop x l)
+part-cut l x n start stop s-is e-is =
+    ⊎-elim inside (λ h. past (le-of-lt h)) (le-or-lt x (length l))
+  where
+    past : length l ≤ x → take (stop - start) (drop start l) ≡ take n (drop x l)
+    past h =
+        let at-end : length l ≤ start = omega arith in
+        rw (drop-of-length-le l at-end, drop-of-length-le l h, take-nil (stop - start), take-nil n)
+
+    inside : x ≤ length l → take (stop - start) (drop start l) ≡ take n (drop x l)
+    inside h =
+        let e : start ≡ x = omega arith in
+        ⊎-elim (λ (k : n ≤ length l - x). let z : stop - start ≡ n = omega arith in rw (z, e))
+        (λ (k : length l - x < n).
+        let z : stop - start ≡ length l - x = omega arith in
+        let short : length (drop x l) ≤ n = rw (length-drop x l) (le-of-lt k) in
+        let all : length (drop x l) ≤ length l - x = rw (length-drop x l) (le-refl (length l - x)) in
+        rw (z, e, take-all (length l - x) (drop x l) all, take-all n (drop x l) short))
+        (le-or-lt n (length l - x))

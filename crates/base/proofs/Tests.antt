@@ -3,7 +3,7 @@ use mathlib.Core.Bool.{Bool, true, false, not, _||_, true≢false, false≢true}
 use mathlib.Core.List.{List, [], _∷_, map, List·Memᴰ, List·Memᴰ·head, List·Memᴰ·tail}
 use mathlib.Core.Option.{Option, none, some}
 use mathlib.Core.Path.{_≡_, refl, sym, ap, _∙_}
-use Rattle.base.specs.Tests.{_&&_, if_then_else_, any, all, keep, sameList, sameOption, has}
+use Rattle.base.specs.Tests.{_&&_, if_then_else_, isSome, any, all, keep, sameList, sameOption, has}
 
 -- ## Bool
 
@@ -43,6 +43,10 @@ not-false {a = false} e = absurd (true≢false e)
 pub not-true : {a : Bool} → not a ≡ true → a ≡ false
 not-true {a = true} e = sym e
 not-true {a = false} e = refl
+
+pub is-some-if : {A : Type 0} (t : Bool) (x : A) → isSome (if t then some x else none) ≡ t
+is-some-if true x = refl
+is-some-if false x = refl
 
 -- after `if !f(..)`: what the call's result says of the test that the contract names
 pub call-false : {r t : Bool} → r ≡ t → not r ≡ true → t ≡ false
