@@ -3,17 +3,17 @@ use mathlib.Core.Path.{_≡_, refl, sym, ap, _∙_}
 use mathlib.Core.Bool.{Bool, true, false}
 use mathlib.Core.List.{List, [], _∷_, _++_, map}
 use mathlib.Core.Logic.{_⊎_, inl, inr, ⊎-elim}
-use Prim.Native.Nat.{ℕ, zero, suc, _+_, _*_, _^_, _-_, min, _<_, _≤_}
+use Prim.Native.Nat.{ℕ, zero, suc, _+_, _*_, _^_, _-_, min, _<_, _≤_, suc-le-suc}
 use native.Mathlib.Nat.{add-zero, zero-add, mul-zero, one-mul, add-assoc, mul-assoc, mul-add, mul-suc, suc-add, pow-succ', eq-or-lt-of-le, le-of-suc-le-suc, le-refl, one-le-pow, zero-lt-suc, le-of-lt}
 use native.Mathlib.Numerals.{add-one}
 use native.Mathlib.Omega.{arith}
 use lib.Dec.{eqb, leb}
 use lib.ListN.{length, getD, take, drop, drop-of-length-le, length-drop}
-use lib.Seq.{getD-drop, drop-drop, take-nil, take-all}
+use lib.Seq.{getD-drop, drop-drop, take-nil, take-all, take-at}
 use borrow.Author.Tests.{eq-eqb, ne-eqb, leb-true, leb-false}
-use Rattle.base.specs.Tests.{_&&_}
+use Rattle.base.specs.Tests.{_&&_, all}
 use Rattle.base.specs.Bytes.{littleEndian, le, allBelow, zeros, listOf, sumOf}
-use Rattle.base.proofs.Tests.{both, and-false}
+use Rattle.base.proofs.Tests.{both, joined, and-false}
 
 -- ## Little-endian numbers
 
@@ -134,6 +134,24 @@ module _ {A : Type 0} where
       go : (n : ℕ) (f : ℕ → A) → listOf (suc n) f ≡ listOf n f ++ (f n ∷ [])
       go zero f = refl
       go (suc n) f = ap {B = List A} (λ l. f zero ∷ l) (go n (λ i. f (suc i)))
+
+  -- m of them, and then n more
+  pub list-of-add : (m n : ℕ) (f : ℕ → A) → listOf (m + n) f ≡ listOf m f ++ listOf n (λ k. f (m + k))
+  unfolding listOf
+  list-of-add zero n f = simp zero-add
+  list-of-add (suc m) n f = simp suc-add (ap {B = List A} (λ l. f zero ∷ l) (list-of-add m n (λ i. f (suc i))))
+
+  -- the first of them
+  pub take-list-of : (m n : ℕ) (f : ℕ → A) → m ≤ n → take m (listOf n f) ≡ listOf m f
+  take-list-of m n f h =
+      let e : n ≡ m + (n - m) = omega arith in
+      rw (e, list-of-add m (n - m) f) (take-at (listOf m f) (listOf (n - m) (λ k. f (m + k))) m (length-list-of m f))
+
+  -- a test that each one passes
+  pub all-list-of : (p : A → Bool) (n : ℕ) (f : ℕ → A) → ((i : ℕ) → i < n → p (f i) ≡ true) → all p (listOf n f) ≡ true
+  unfolding listOf
+  all-list-of p zero f h = refl
+  all-list-of p (suc n) f h = joined (h zero (zero-lt-suc n)) (all-list-of p n (λ i. f (suc i)) (λ i l. h (suc i) (suc-le-suc l)))
 
 pub map-list-of : {A B : Type 0} (g : A → B) (n : ℕ) (f : ℕ → A) → map g (listOf n f) ≡ listOf n (λ i. g (f i))
 unfolding listOf

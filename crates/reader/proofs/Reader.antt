@@ -12,9 +12,11 @@ use Rattle.base.specs.Tests.{if_then_else_, isSome}
 use Rattle.base.specs.Bytes.{le}
 use Rattle.base.proofs.Bytes.{length-list-of, list-of-at, part-cut}
 use Rattle.ids.specs.declared.NodeId.{NodeId}
-use Rattle.record.specs.Batch.{Listed, Batch}
+use Rattle.record.specs.Batch.{Listed, Batch, namedIds}
 use Rattle.record.specs.Layout.{nodeCount, entryCount, hasTreeData, treeRoot, recordAt, entryAt, labelsAt, firstChild, childCount, labelStart, labelLength}
-use Rattle.record.specs.Parse.{nodeOf, batchOf}
+use Rattle.record.specs.Parse.{nodeOf, batchOf, wellFormed}
+use Rattle.record.proofs.Batch.{named-at}
+use Rattle.record.proofs.Parse.{nodes-length, entries-named, first-child-named}
 use Rattle.reader.specs.Reader.{noNode, blank, listedAt, fieldAt, entriesOf, rootOrZero}
 
 -- ## The tree root
@@ -103,3 +105,23 @@ module _ (s : List ℕ) (j : ℕ) where
   pub entry-past : entryCount s ≤ j → getD (entriesOf s) j noNode ≡ noNode
   unfolding entriesOf
   entry-past h = List·getD-eq-default (entriesOf s) noNode (rw (length-list-of (entryCount s) _) h)
+
+-- ## On a record
+
+module _ (s : List ℕ) (h : wellFormed s ≡ true) where
+  -- all child entries are the children that the nodes name
+  pub entries-are : entriesOf s ≡ namedIds (batchOf s .nodes)
+  unfolding entriesOf
+  entries-are = entries-named s h
+
+  -- the children of a node stand after those that the nodes before it name
+  pub first-child-is : (i : ℕ) → i < length (batchOf s .nodes) → fieldAt 2 s i 32 ≡ length (namedIds (take i (batchOf s .nodes)))
+  first-child-is i l =
+      let within : i < nodeCount s = rw (nodes-length s) at l in
+      field-here s i 2 32 refl within ∙ first-child-named s h i within
+
+  -- so entry `first + k` is child k
+  pub entry-is-child : (i k : ℕ) → i < length (batchOf s .nodes) → k < length (listedAt (batchOf s) i .body .children)
+      → getD (entriesOf s) (fieldAt 2 s i 32 + k) noNode ≡ getD (listedAt (batchOf s) i .body .children) k noNode
+  unfolding listedAt
+  entry-is-child i k l m = rw (entries-are, first-child-is i l) (named-at (batchOf s .nodes) i k noNode blank l m)
