@@ -1,3 +1,4 @@
 pub mod Examples
 pub mod Batch
 pub mod Parse
+pub mod Kept

@@ -1,14 +1,8 @@
 // Module 2, the batch record: whether bytes, of any length, are one. The definition stands in specs/.
 ghost use mathlib.Core.Path.{_≡_};
-ghost use mathlib.Core.Bool.{_||_};
-ghost use Prim.Native.Nat.{_+_, _^_, _<_};
-ghost use lib.Dec.{eqb, leb};
-ghost use Rattle.base.specs.Tests.{_&&_};
-ghost use Rattle.base.specs.Bytes.{zeros};
-ghost use Rattle.geometry.specs.Geometry.{zeroRect, zeroAffine, finiteRect, finiteAffine};
-ghost use Rattle.record.specs.Batch.{fieldsOk};
-ghost use Rattle.record.specs.Layout.{firstChild, labelStart, labelLength};
-ghost use Rattle.record.specs.Parse.{boundsOf, transformOf, dataOf, headerOk, wellFormed};
+ghost use Prim.Native.Nat.{_^_, _<_};
+ghost use Rattle.record.specs.Parse.{headerOk, wellFormed};
+ghost use Rattle.record.specs.Kept.{boundsKept, transformKept, fieldsKept, recordKept};
 use wire::finite_bits;
 use wire::u8_at;
 use wire::u16_at;
@@ -69,7 +63,7 @@ fn header_ok(batch: &[u8]) -> bool
 // The record at `at`: six zero bytes, the rules of its fields, its children and its label where those of the nodes before it end.
 fn record_ok(batch: &[u8], at: usize, children: usize, labels: usize) -> bool
     requires { ⌜ at < 2 ^ 32 ⌝ }
-    ensures { λ r. ⌜ r ≡ (zeros 6 (now (batch .entry)) (at + 42) && (leb (labelLength (now (batch .entry)) at) 32 && fieldsOk (dataOf (now (batch .entry)) at)) && eqb (firstChild (now (batch .entry)) at) children && eqb (labelStart (now (batch .entry)) at) labels) ⌝ }
+    ensures { λ r. ⌜ r ≡ recordKept (now (batch .entry)) at children labels ⌝ }
 {
     ((u16_at(batch, at + 42) == 0) & (u32_at(batch, at + 44) == 0))
         & fields_ok(batch, at)
@@ -80,7 +74,7 @@ fn record_ok(batch: &[u8], at: usize, children: usize, labels: usize) -> bool
 // A label of at most 32 bytes, no unused flag bit, nothing under a clear flag, finite floats.
 fn fields_ok(batch: &[u8], at: usize) -> bool
     requires { ⌜ at < 2 ^ 32 ⌝ }
-    ensures { λ r. ⌜ r ≡ (leb (labelLength (now (batch .entry)) at) 32 && fieldsOk (dataOf (now (batch .entry)) at)) ⌝ }
+    ensures { λ r. ⌜ r ≡ fieldsKept (now (batch .entry)) at ⌝ }
 {
     let flags = u8_at(batch, at + 41);
     (u16_at(batch, at + 38) <= 32)
@@ -94,7 +88,7 @@ fn fields_ok(batch: &[u8], at: usize) -> bool
 // The bounds: all zero bytes unless they are given, and finite.
 fn bounds_ok(batch: &[u8], at: usize, given: bool) -> bool
     requires { ⌜ at < 2 ^ 32 ⌝ }
-    ensures { λ r. ⌜ r ≡ ((given || zeroRect (boundsOf (now (batch .entry)) at)) && finiteRect (boundsOf (now (batch .entry)) at)) ⌝ }
+    ensures { λ r. ⌜ r ≡ boundsKept given (now (batch .entry)) at ⌝ }
 {
     let x0 = u64_at(batch, at + 48);
     let y0 = u64_at(batch, at + 56);
@@ -107,7 +101,7 @@ fn bounds_ok(batch: &[u8], at: usize, given: bool) -> bool
 // The transform: all zero bytes unless it is given, and finite.
 fn transform_ok(batch: &[u8], at: usize, given: bool) -> bool
     requires { ⌜ at < 2 ^ 32 ⌝ }
-    ensures { λ r. ⌜ r ≡ ((given || zeroAffine (transformOf (now (batch .entry)) at)) && finiteAffine (transformOf (now (batch .entry)) at)) ⌝ }
+    ensures { λ r. ⌜ r ≡ transformKept given (now (batch .entry)) at ⌝ }
 {
     let a = u64_at(batch, at + 80);
     let b = u64_at(batch, at + 88);

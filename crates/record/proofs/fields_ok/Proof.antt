@@ -1,7 +1,6 @@
--- `record::fields_ok` meets its contract: the tests are the definition's rules, the bounds' and the transform's each together.
--- Assumes nothing.
+-- `record::fields_ok` meets its contract: the tests are the definition's rules, the bounds' and the transform's each together. Assumes nothing.
 use Rattle.base.specs.Tests.{_&&_}
-use Rattle.record.proofs.Parse.{fields-read}
+use Rattle.record.proofs.Kept.{fields-read}
 use borrow.Author.Needs.{needs}
 use Rattle.record.proofs.fields_ok.Statement.{statement}
 use Rattle.record.proofs.fields_ok.Tie as tie

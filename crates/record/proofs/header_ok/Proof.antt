@@ -1,8 +1,6 @@
 -- `record::header_ok` meets its contract: the tests are the definition's, eight zero bytes as one number. Assumes nothing.
-use native.Mathlib.Nat.{div-one}
 use Rattle.base.specs.Tests.{_&&_}
-use Rattle.base.proofs.Bytes.{zeros-le}
-use Rattle.record.specs.Parse.{headerOk}
+use Rattle.record.proofs.Kept.{header-read}
 use borrow.Author.Needs.{needs}
 use Rattle.record.proofs.header_ok.Statement.{statement}
 use Rattle.record.proofs.header_ok.Tie as tie
@@ -71,8 +69,14 @@ u64-at-requires-2 : tie.Need-u64-at-requires-2
 u64-at-requires-2 c κs = search needs
 
 returns : tie.Need-returns
-unfolding headerOk _&&_
-returns c = rw (div-one, zeros-le _ 56 8) (cc)
+unfolding _&&_
+returns c =
+    let second = c .before .before in
+    let total = second .before .before .before in
+    let flags = total .before in
+    header-read _ (flags .before .before .before .u16-at .ensures) (flags .before .before .u16-at2 .ensures) (flags .before .u16-at3 .ensures)
+    (flags .u16-at4 .ensures) (total .u32-at .ensures) (second .before .before .u32-at2 .ensures) (second .before .u32-at3 .ensures)
+    (second .u32-at4 .ensures) (c .before .u64-at .ensures) (c .u64-at2 .ensures)
 
 pub header-ok-spec : {M : Type 1} → statement M
 header-ok-spec =

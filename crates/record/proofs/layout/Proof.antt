@@ -7,14 +7,15 @@ use Prim.Native.Nat.{ℕ, _+_, _*_, _≤_, _<_, _-_}
 use native.Mathlib.Omega.{arith}
 use borrow.Author.Tests.{le-leb, lt-leb}
 use lib.ListN.{length}
-use lib.Dec.{eqb, leb}
+use lib.Dec.{eqb}
 use Rattle.base.specs.Tests.{_&&_}
-use Rattle.base.specs.Bytes.{zeros, allBelow}
-use Rattle.base.proofs.Tests.{and-assoc, call-true, call-false}
+use Rattle.base.specs.Bytes.{allBelow}
+use Rattle.base.proofs.Tests.{call-true, call-false}
 use Rattle.base.proofs.Bytes.{all-none, all-more, all-fails, sum-none, sum-more}
-use Rattle.record.specs.Batch.{fieldsOk}
-use Rattle.record.specs.Layout.{nodeCount, entryCount, labelBytes, recordAt, firstChild, childCount, labelStart, labelLength}
-use Rattle.record.specs.Parse.{dataOf, headerOk, childrenBefore, labelsBefore, recordOk, wellFormed}
+use Rattle.record.specs.Layout.{nodeCount, entryCount, labelBytes, recordAt, childCount, labelLength}
+use Rattle.record.specs.Parse.{headerOk, childrenBefore, labelsBefore, recordOk, wellFormed}
+use Rattle.record.specs.Kept.{recordKept}
+use Rattle.record.proofs.Kept.{record-kept}
 use Rattle.record.proofs.layout.Statement.{statement}
 use Rattle.record.proofs.layout.Tie as tie
 
@@ -30,27 +31,18 @@ record Passed (s : List ℕ) (n children labels i : ℕ) : Type 0 where
   children-small : children ≤ 65535 * i
   labels-small : labels ≤ 65535 * i
 
--- what `record_ok` decides of record i
-abbrev keeps : List ℕ → ℕ → ℕ → ℕ → Bool
-keeps s children labels i =
-    zeros 6 s (recordAt i + 42)
-    && (leb (labelLength s (recordAt i)) 32 && fieldsOk (dataOf s (recordAt i)))
-    && eqb (firstChild s (recordAt i)) children
-    && eqb (labelStart s (recordAt i)) labels
-
 module _ {s : List ℕ} {n children labels i : ℕ} (p : Passed s n children labels i) where
-  is-record : (t : Bool) → keeps s children labels i ≡ t → recordOk s i ≡ t
-  unfolding recordOk
-  is-record t e = rw (← p .children-are, ← p .labels-are, and-assoc (zeros 6 s (recordAt i + 42))) e
+  is-record : (t : Bool) → recordKept s (recordAt i) children labels ≡ t → recordOk s i ≡ t
+  is-record t e = record-kept s i (p .children-are) (p .labels-are) ∙ e
 
   -- a record that breaks a rule: the bytes are none
-  refused : i < n → keeps s children labels i ≡ false → wellFormed s ≡ false
+  refused : i < n → recordKept s (recordAt i) children labels ≡ false → wellFormed s ≡ false
   unfolding wellFormed _&&_
   refused l e =
       rw (le-leb _ _ (p .long), p .header, all-fails (recordOk s) (nodeCount s) i (rw (p .count) at l) (is-record false e))
 
   -- a record that keeps them: one more has passed
-  accepted : i < n → keeps s children labels i ≡ true → (k m : ℕ) → k < 65536 → m < 65536 → k ≡ childCount s (recordAt i) → m ≡ labelLength s (recordAt i)
+  accepted : i < n → recordKept s (recordAt i) children labels ≡ true → (k m : ℕ) → k < 65536 → m < 65536 → k ≡ childCount s (recordAt i) → m ≡ labelLength s (recordAt i)
       → Passed s n (children + k) (labels + m) (i + 1)
   unfolding childrenBefore labelsBefore
   accepted l e k m k-small m-small k-is m-is =

@@ -1,7 +1,6 @@
 -- `record::record_ok` meets its contract: the tests are the definition's, six zero bytes as two numbers. Assumes nothing.
-use denote.Ref.{now}
 use Rattle.base.specs.Tests.{_&&_}
-use Rattle.record.proofs.Parse.{zeros-six}
+use Rattle.record.proofs.Kept.{record-read}
 use borrow.Author.Needs.{needs}
 use Rattle.record.proofs.record_ok.Statement.{statement}
 use Rattle.record.proofs.record_ok.Tie as tie
@@ -42,8 +41,8 @@ cast-result-2 c = search needs
 returns : tie.Need-returns
 unfolding _&&_
 returns c =
-    let a = c .before .before .before .before .before .before .args in
-    cc (zeros-six (now (a .batch)) (a .at))
+    record-read _ _ _ _ (c .before .before .before .before .u16-at .ensures) (c .before .before .before .u32-at .ensures) (c .before .before .fields-ok .ensures)
+    (c .before .u16-at2 .ensures) (c .u16-at3 .ensures)
 
 pub record-ok-spec : {M : Type 1} → statement M
 record-ok-spec =

@@ -1,8 +1,6 @@
 -- `record::transform_ok` meets its contract: each number that is read is zero, or finite, where its f64 is. Assumes nothing.
 use Rattle.base.specs.Tests.{_&&_}
-use Rattle.base.proofs.Floats.{zero-at}
-use Rattle.geometry.specs.Geometry.{affineTest}
-use native.Mathlib.Omega.{arith}
+use Rattle.record.proofs.Kept.{transform-read}
 use borrow.Author.Needs.{needs}
 use Rattle.record.proofs.transform_ok.Statement.{statement}
 use Rattle.record.proofs.transform_ok.Tie as tie
@@ -62,17 +60,15 @@ finite-bits-requires-6 : tie.Need-finite-bits-requires-6
 finite-bits-requires-6 c κs = search needs
 
 returns : tie.Need-returns
-unfolding affineTest _&&_
+unfolding _&&_
 returns c =
-    let last = c .before .before .before .before .before .before in
-    cc (
-      zero-at _ _ (last .before .before .before .before .before .u64-at .ensures) (omega arith),
-      zero-at _ _ (last .before .before .before .before .u64-at2 .ensures) (omega arith),
-      zero-at _ _ (last .before .before .before .u64-at3 .ensures) (omega arith),
-      zero-at _ _ (last .before .before .u64-at4 .ensures) (omega arith),
-      zero-at _ _ (last .before .u64-at5 .ensures) (omega arith),
-      zero-at _ _ (last .u64-at6 .ensures) (omega arith),
-    )
+    transform-read _ _ _
+    (record { is = c .before .before .before .before .before .before .before .before .before .before .before .u64-at .ensures; fits = c .before .before .before .before .before .before .before .before .before .before .before .u64-at .ok; tested = c .before .before .before .before .before .finite-bits .ensures })
+    (record { is = c .before .before .before .before .before .before .before .before .before .before .u64-at2 .ensures; fits = c .before .before .before .before .before .before .before .before .before .before .u64-at2 .ok; tested = c .before .before .before .before .finite-bits2 .ensures })
+    (record { is = c .before .before .before .before .before .before .before .before .before .u64-at3 .ensures; fits = c .before .before .before .before .before .before .before .before .before .u64-at3 .ok; tested = c .before .before .before .finite-bits3 .ensures })
+    (record { is = c .before .before .before .before .before .before .before .before .u64-at4 .ensures; fits = c .before .before .before .before .before .before .before .before .u64-at4 .ok; tested = c .before .before .finite-bits4 .ensures })
+    (record { is = c .before .before .before .before .before .before .before .u64-at5 .ensures; fits = c .before .before .before .before .before .before .before .u64-at5 .ok; tested = c .before .finite-bits5 .ensures })
+    (record { is = c .before .before .before .before .before .before .u64-at6 .ensures; fits = c .before .before .before .before .before .before .u64-at6 .ok; tested = c .finite-bits6 .ensures })
 
 pub transform-ok-spec : {M : Type 1} → statement M
 transform-ok-spec =
