@@ -2,4 +2,5 @@ pub mod Tests
 pub mod Lists
 pub mod Tables
 pub mod Bytes
+pub mod Floats
 pub mod Examples

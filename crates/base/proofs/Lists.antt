@@ -141,12 +141,6 @@ module _ {A : Type 0} where
 
 -- ## Numbers in order
 
--- f 0, .., f (n - 1) are n
-pub length-list-of : {A : Type 0} (n : ℕ) (f : ℕ → A) → length (listOf n f) ≡ n
-unfolding listOf
-length-list-of zero f = refl
-length-list-of (suc n) f = ap suc (length-list-of n (λ i. f (suc i)))
-
 -- f k is among f 0, .., f (n - 1), for k below n
 pub has-list-of : {A : Type 0} (same : A → A → Bool) → ((x : A) → same x x ≡ true) → (n : ℕ) (f : ℕ → A) (k : ℕ) → k < n → has same (listOf n f) (f k) ≡ true
 unfolding listOf

@@ -1,9 +1,14 @@
 -- Laws of the Bool tests on options and lists. Assumes nothing.
 use mathlib.Core.Bool.{Bool, true, false, not, _||_, true≢false, false≢true}
 use mathlib.Core.List.{List, [], _∷_, map, List·Memᴰ, List·Memᴰ·head, List·Memᴰ·tail}
+use mathlib.Core.Logic.{_↔_}
 use mathlib.Core.Option.{Option, none, some}
 use mathlib.Core.Path.{_≡_, refl, sym, ap, _∙_}
-use Rattle.base.specs.Tests.{_&&_, if_then_else_, any, all, keep, sameList, sameOption, has}
+use Prim.Native.Nat.{ℕ, zero, suc, _<_, suc-le-suc}
+use native.Mathlib.Nat.{le-of-suc-le-suc, zero-lt-suc}
+use native.Mathlib.Omega.{arith}
+use lib.ListN.{length, getD}
+use Rattle.base.specs.Tests.{_&&_, if_then_else_, isSome, any, all, keep, position, sameList, sameOption, has}
 
 -- ## Bool
 
@@ -18,10 +23,27 @@ unfolding _&&_
 joined {a = true} {b} p q = q
 joined {a = false} {b} p q = p
 
+-- for `simp`, which takes a row of tests apart with it
+pub and-true : (a b : Bool) → (a && b ≡ true) ↔ ((a ≡ true) × (b ≡ true))
+and-true a b = (λ e. both e, λ k. joined (k .0) (k .1))
+
 pub and-false : (a : Bool) → a && false ≡ false
 unfolding _&&_
 and-false true = refl
 and-false false = refl
+
+pub and-assoc : (a b c : Bool) → a && b && c ≡ a && (b && c)
+unfolding _&&_
+and-assoc true b c = refl
+and-assoc false b c = refl
+
+-- tests in pairs, or the first of each pair and then the second of each
+pub and-pairs : (a p u q v : Bool) → a && (p && u) && (q && v) ≡ a && p && q && u && v
+unfolding _&&_
+and-pairs true true u true v = refl
+and-pairs true true u false v = and-false u
+and-pairs true false u q v = refl
+and-pairs false p u q v = refl
 
 pub not-false : {a : Bool} → not a ≡ false → a ≡ true
 not-false {a = true} e = refl
@@ -30,6 +52,17 @@ not-false {a = false} e = absurd (true≢false e)
 pub not-true : {a : Bool} → not a ≡ true → a ≡ false
 not-true {a = true} e = sym e
 not-true {a = false} e = refl
+
+pub is-some-if : {A : Type 0} (t : Bool) (x : A) → isSome (if t then some x else none) ≡ t
+is-some-if true x = refl
+is-some-if false x = refl
+
+-- after `if !f(..)`: what the call's result says of the test that the contract names
+pub call-false : {r t : Bool} → r ≡ t → not r ≡ true → t ≡ false
+call-false e h = sym e ∙ not-true h
+
+pub call-true : {r t : Bool} → r ≡ t → not r ≡ false → t ≡ true
+call-true e h = sym e ∙ not-false h
 
 pub or-absorb : (a h : Bool) → (a || (a || h)) ≡ (a || h)
 or-absorb true h = refl
@@ -104,6 +137,26 @@ module _ {A : Type 0} where
       go true e false f h = h ∙ ap (λ (d : Bool). any (t x) ys && d) (ap q (eq x y e) ∙ f) ∙ and-false (any (t x) ys) ∙ sym (ap q (eq x y e) ∙ f)
       go false e true f h = rw e h
       go false e false f h = h
+
+  -- ## Positions
+
+  -- what stands at an index stands in the list
+  pub has-at : (t : A → A → Bool) (xs : List A) (x d : A) (i : ℕ) → i < length xs → t x (getD xs i d) ≡ true → has t xs x ≡ true
+  has-at t [] x d i h e = let no : ⊥ = omega arith in absurd no
+  has-at t (y ∷ ys) x d zero h e = rw e
+  has-at t (y ∷ ys) x d (suc i) h e = or-right (t x y) (has-at t ys x d i (le-of-suc-le-suc h) e)
+
+  -- what stands in the list stands at its position
+  pub at-position : (t : A → A → Bool) (xs : List A) (x d : A) → has t xs x ≡ true
+      → (position t xs x < length xs) × (t x (getD xs (position t xs x) d) ≡ true)
+  at-position t [] x d e = absurd (false≢true e)
+  at-position t (y ∷ ys) x d e = go (t x y) refl e (λ h. at-position t ys x d h)
+    where
+      go : (c : Bool) → t x y ≡ c → (c || any (t x) ys) ≡ true
+          → (any (t x) ys ≡ true → (position t ys x < length ys) × (t x (getD ys (position t ys x) d) ≡ true))
+          → ((if c then zero else suc (position t ys x)) < suc (length ys)) × (t x (getD (y ∷ ys) (if c then zero else suc (position t ys x)) d) ≡ true)
+      go true f h rest = (zero-lt-suc (length ys), f)
+      go false f h rest = (suc-le-suc (rest h .0), rest h .1)
 
 pub map-keep : {A B : Type 0} (f : A → B) (q : B → Bool) (xs : List A) → map f (keep (λ x. q (f x)) xs) ≡ keep q (map f xs)
 map-keep f q [] = refl

@@ -16,7 +16,7 @@ use Rattle.ids.specs.declared.NodeId.{NodeId}
 use Rattle.ids.specs.declared.FullNodeId.{FullNodeId}
 use Rattle.record.specs.Batch.{fieldsOk, Batch}
 use Rattle.record.specs.Parse.{parse}
-use Rattle.record.proofs.Parse.{parse-fields}
+use Rattle.record.proofs.Parse.{batch-facts}
 use Rattle.tree.specs.State.{Forest, State, present, SubtreeState, subtreeOf}
 use Rattle.tree.specs.Down.{rootOf}
 use Rattle.tree.specs.Sound.{sound}
@@ -115,7 +115,7 @@ leaves-batch s k bytes slice b e i = go (updateNumber s b slice) refl
         let after1 = first-zero _ _ (λ z _. omega arith) q in
         let after20 = first-found-zero _ _ (after1 .1) in
         subst (λ (c : Book). Held (outcome (s .forest) b) c) (sym (entered-parsed k bytes slice b (removed (s .forest) (outcome (s .forest) b)) e))
-        (held-batch (s .forest) b k i (parse-fields bytes b e) (after20 .0))
+        (held-batch (s .forest) b k i (batch-facts bytes b e .fields) (after20 .0))
     go (suc n) q = i
 
 entered-unparsed : (k : Book) (bytes slice : List ℕ) (n : ℕ) (xs : List FullNodeId) → parse bytes ≡ none → entered k (batch bytes slice) n xs ≡ k

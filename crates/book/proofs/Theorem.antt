@@ -14,7 +14,7 @@ use Rattle.ids.specs.declared.TreeIndex.{TreeIndex}
 use Rattle.ids.specs.declared.NodeId.{NodeId}
 use Rattle.record.specs.Batch.{fieldsOk, Batch}
 use Rattle.record.specs.Parse.{parse}
-use Rattle.record.proofs.Parse.{parse-fields}
+use Rattle.record.proofs.Parse.{batch-facts}
 use Rattle.tree.specs.State.{idsOf, TreeEntry, Forest, State}
 use Rattle.tree.specs.Sound.{grafted, allGrafted}
 use Rattle.tree.proofs.Sound.{shape-parts, sound-parts, root-of-shape, focus-of-sound}
@@ -153,7 +153,7 @@ held-started bytes h z = go (parse bytes) refl z
 
     go : (o : Option Batch) → parse bytes ≡ o → begun o .number ≡ 0 → Held (begun o .state .forest) (book o)
     go none e q = absurd (omega arith)
-    go (some b) e q = held-start-batch b h (parse-fields bytes b e) q
+    go (some b) e q = held-start-batch b h (batch-facts bytes b e .fields) q
 
 -- ## The demand
 

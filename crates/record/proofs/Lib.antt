@@ -1,2 +1,4 @@
+pub mod Batch
 pub mod Parse
+pub mod Kept
 pub mod Examples

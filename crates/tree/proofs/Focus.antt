@@ -14,7 +14,8 @@ use borrow.Author.Tests.{eqb-true, eq-eqb}
 use Rattle.base.specs.Tests.{_&&_, if_then_else_, isNone, keep, has}
 use Rattle.base.specs.Bytes.{listOf}
 use Rattle.base.proofs.Tests.{and-false, has-keep}
-use Rattle.base.proofs.Lists.{some-from, keep-less, length-list-of, has-list-of}
+use Rattle.base.proofs.Lists.{some-from, keep-less, has-list-of}
+use Rattle.base.proofs.Bytes.{length-list-of}
 use Rattle.ids.specs.Ids.{ROOT, sameTree}
 use Rattle.ids.proofs.Ids.{same-tree→≡}
 use Rattle.ids.specs.declared.TreeId.{TreeId}
