@@ -7,16 +7,16 @@ use native.Mathlib.Nat.{zero-add, add-assoc, le-of-suc-le-suc}
 use native.Mathlib.Numerals.{add-one}
 use native.Mathlib.Omega.{arith}
 use lib.Dec.{eqb, ltb, leb}
-use lib.ListN.{length, getD, take, length-append, List·getD-append, List·getD-map}
+use lib.ListN.{length, getD, take, length-append, length-map, List·getD-append, List·getD-map}
 use lib.Seq.{getD-append-add}
-use borrow.Author.Tests.{leb-true, ltb-true, eqb-true}
-use Rattle.base.specs.Tests.{_&&_}
+use borrow.Author.Tests.{leb-true, ltb-true, eqb-true, eq-eqb}
+use Rattle.base.specs.Tests.{_&&_, has, position}
 use Rattle.base.specs.Bytes.{listOf, sumOf}
-use Rattle.base.proofs.Tests.{both, and-pairs}
+use Rattle.base.proofs.Tests.{both, and-pairs, has-at, at-position}
 use Rattle.base.proofs.Bytes.{list-of-more, list-of-add}
 use Rattle.ids.specs.declared.NodeId.{NodeId}
-use Rattle.ids.proofs.Ids.{same-tree→≡}
-use Rattle.ids.specs.Ids.{ROOT, sameTree}
+use Rattle.ids.proofs.Ids.{same-tree→≡, same-node→≡}
+use Rattle.ids.specs.Ids.{ROOT, sameTree, sameNode}
 use Rattle.geometry.specs.Geometry.{finiteRect, finiteAffine, zeroRect, zeroAffine}
 use Rattle.record.specs.Batch.{NodeData, hasActiveDescendant, hasGraft, hasBounds, hasTransform, fieldsOk, Listed, listedIds, namedIds}
 
@@ -76,10 +76,28 @@ field-rules d h =
 
 -- ## The lists of a batch
 
+pub listed-length : (ls : List Listed) → length (listedIds ls) ≡ length ls
+unfolding listedIds
+listed-length ls = length-map ls (λ (l : Listed). l .id)
+
 -- the node number listed at position i
 pub listed-at : (ls : List Listed) (i : ℕ) (d : Listed) → getD (listedIds ls) i (d .id) ≡ getD ls i d .id
 unfolding listedIds
 listed-at ls i d = List·getD-map (λ (l : Listed). l .id) ls i d
+
+-- a node number that is listed stands at its position
+pub listed-position : (ls : List Listed) (x d : NodeId) → has sameNode (listedIds ls) x ≡ true
+    → (position sameNode (listedIds ls) x < length ls) × (getD (listedIds ls) (position sameNode (listedIds ls) x) d ≡ x)
+listed-position ls x d e =
+    let found = at-position sameNode (listedIds ls) x d e in
+    (rw (listed-length ls) at (found .0), sym (same-node→≡ x (getD (listedIds ls) (position sameNode (listedIds ls) x) d) (found .1)))
+
+-- and what stands at a position is listed
+pub listed-has : (ls : List Listed) (i : ℕ) (d : Listed) → i < length ls → has sameNode (listedIds ls) (getD ls i d .id) ≡ true
+unfolding sameNode
+listed-has ls i d h =
+    let n = getD ls i d .id .0 in
+    has-at sameNode (listedIds ls) (getD ls i d .id) (d .id) i (rw (listed-length ls) h) (rw (listed-at ls i d) (eq-eqb n n refl))
 
 pub named-append : (ls ms : List Listed) → namedIds (ls ++ ms) ≡ namedIds ls ++ namedIds ms
 unfolding namedIds

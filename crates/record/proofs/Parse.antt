@@ -1,25 +1,23 @@
 -- Laws of the record's definition. Assumes nothing.
-use mathlib.Core.Bool.{Bool, true, false, _||_}
+use mathlib.Core.Bool.{true, false}
 use mathlib.Core.List.{List}
 use mathlib.Core.Option.{none, some}
-use mathlib.Core.Path.{_≡_, refl, sym, ap, _∙_}
+use mathlib.Core.Path.{_≡_, sym, ap, _∙_}
 use Prim.Native.Nat.{ℕ, _+_, _≤_, _<_}
 use native.Mathlib.Nat.{le-refl, le-of-lt}
 use native.Mathlib.Omega.{arith}
-use lib.Dec.{eqb, ltb, leb}
+use lib.Dec.{leb}
 use lib.ListN.{length, getD, take, drop, length-take, length-drop}
 use borrow.Author.Tests.{leb-true, ltb-true, eqb-true, le-leb}
-use Rattle.base.specs.Tests.{_&&_, isSome, all}
-use Rattle.base.specs.Bytes.{le, zeros, bit, listOf}
+use Rattle.base.specs.Tests.{isSome, all}
+use Rattle.base.specs.Bytes.{le, listOf}
 use Rattle.base.proofs.Tests.{and-true, is-some-if}
-use Rattle.base.proofs.Bytes.{zeros-le, le-zero, all-at, length-list-of, list-of-at, take-list-of, all-list-of, sum-within}
+use Rattle.base.proofs.Bytes.{all-at, length-list-of, list-of-at, take-list-of, all-list-of, map-list-of, sum-within}
 use Rattle.ids.specs.declared.NodeId.{NodeId}
-use Rattle.ids.specs.Ids.{sameTree}
-use Rattle.geometry.specs.Geometry.{finiteRect, finiteAffine, zeroRect, zeroAffine}
-use Rattle.record.specs.Batch.{fieldsOk, Listed, Batch, namedIds}
-use Rattle.record.specs.Layout.{nodeCount, entryCount, labelBytes, headerFlags, recordAt, entryAt, labelAt, endAt, activeNumber, graftHigh, graftLow, firstChild, childCount, labelStart, labelLength, nodeFlags}
-use Rattle.record.specs.Parse.{childrenOf, labelOf, boundsOf, transformOf, dataOf, nodeOf, batchOf, headerOk, childrenBefore, labelsBefore, recordOk, wellFormed, parse}
-use Rattle.record.proofs.Batch.{fields-grouped, named-run}
+use Rattle.record.specs.Batch.{fieldsOk, Listed, Batch, listedIds, namedIds}
+use Rattle.record.specs.Layout.{nodeCount, entryCount, labelBytes, headerFlags, recordAt, entryAt, labelAt, endAt, nodeNumber, firstChild, childCount, labelStart, labelLength}
+use Rattle.record.specs.Parse.{labelOf, dataOf, nodeOf, batchOf, headerOk, childrenBefore, labelsBefore, recordOk, wellFormed, parse}
+use Rattle.record.proofs.Batch.{named-run}
 
 -- ## A node record at an offset
 
@@ -107,6 +105,11 @@ nodes-length s = length-list-of (nodeCount s) (nodeOf s)
 -- the node listed at position i
 pub node-at : (s : List ℕ) (i : ℕ) (d : Listed) → i < nodeCount s → getD (batchOf s .nodes) i d ≡ nodeOf s i
 node-at s i d l = list-of-at (nodeCount s) i (nodeOf s) d l
+
+-- the node numbers, in order
+pub ids-listed : (s : List ℕ) → listedIds (batchOf s .nodes) ≡ listOf (nodeCount s) (λ i. record { 0 = nodeNumber s (recordAt i) })
+unfolding listedIds
+ids-listed s = map-list-of (λ (l : Listed). l .id) (nodeCount s) (nodeOf s)
 
 -- the child entry at a place
 abbrev pub entryOf : List ℕ → ℕ → NodeId
