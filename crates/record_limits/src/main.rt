@@ -122,7 +122,7 @@ fn judge(bytes: &[u8; 12800], n: usize) {
 
 fn first(bytes: &[u8], n: usize) {
     if n <= bytes.len() {
-        say(record::layout(&bytes[..n]));
+        say(layout::layout(&bytes[..n]));
     }
 }
 

@@ -1,9 +1,9 @@
--- `record::fields_ok` meets its contract: the tests are the definition's rules, the bounds' and the transform's each together. Assumes nothing.
+-- `layout::fields_ok` meets its contract: the tests are the definition's rules, the bounds' and the transform's each together. Assumes nothing.
 use Rattle.base.specs.Tests.{_&&_}
-use Rattle.record.proofs.Kept.{fields-read}
+use Rattle.layout.proofs.Kept.{fields-read}
 use borrow.Author.Needs.{needs}
-use Rattle.record.proofs.fields_ok.Statement.{statement}
-use Rattle.record.proofs.fields_ok.Tie as tie
+use Rattle.layout.proofs.fields_ok.Statement.{statement}
+use Rattle.layout.proofs.fields_ok.Tie as tie
 
 add-u8-at : tie.Need-add-u8-at
 add-u8-at c = search needs

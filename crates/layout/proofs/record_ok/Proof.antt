@@ -1,9 +1,9 @@
--- `record::record_ok` meets its contract: the tests are the definition's, six zero bytes as two numbers. Assumes nothing.
+-- `layout::record_ok` meets its contract: the tests are the definition's, six zero bytes as two numbers. Assumes nothing.
 use Rattle.base.specs.Tests.{_&&_}
-use Rattle.record.proofs.Kept.{record-read}
+use Rattle.layout.proofs.Kept.{record-read}
 use borrow.Author.Needs.{needs}
-use Rattle.record.proofs.record_ok.Statement.{statement}
-use Rattle.record.proofs.record_ok.Tie as tie
+use Rattle.layout.proofs.record_ok.Statement.{statement}
+use Rattle.layout.proofs.record_ok.Tie as tie
 
 add-u16-at : tie.Need-add-u16-at
 add-u16-at c = search needs

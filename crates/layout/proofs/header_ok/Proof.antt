@@ -1,9 +1,9 @@
--- `record::header_ok` meets its contract: the tests are the definition's, eight zero bytes as one number. Assumes nothing.
+-- `layout::header_ok` meets its contract: the tests are the definition's, eight zero bytes as one number. Assumes nothing.
 use Rattle.base.specs.Tests.{_&&_}
-use Rattle.record.proofs.Kept.{header-read}
+use Rattle.layout.proofs.Kept.{header-read}
 use borrow.Author.Needs.{needs}
-use Rattle.record.proofs.header_ok.Statement.{statement}
-use Rattle.record.proofs.header_ok.Tie as tie
+use Rattle.layout.proofs.header_ok.Statement.{statement}
+use Rattle.layout.proofs.header_ok.Tie as tie
 
 u16-at-requires : tie.Need-u16-at-requires
 u16-at-requires c κs = search needs

@@ -14,12 +14,12 @@ use Rattle.base.proofs.Bytes.{zeros-le, le-zero}
 use Rattle.base.proofs.Floats.{FloatRead, float-zero, float-finite}
 use Rattle.ids.specs.Ids.{sameTree}
 use Rattle.geometry.specs.Geometry.{rectTest, affineTest}
 use Rattle.record.specs.Batch.{fieldsOk}
 use Rattle.record.specs.Layout.{nodeCount, entryCount, labelBytes, headerFlags, nodesOffset, entriesOffset, labelsOffset, totalLength, treeRoot, recordAt, activeNumber, graftHigh, graftLow, firstChild, labelStart, labelLength, nodeFlags}
 use Rattle.record.specs.Parse.{dataOf, headerOk, childrenBefore, labelsBefore, recordOk}
-use Rattle.record.specs.Kept.{boundsKept, transformKept, fieldsKept, recordKept}
+use Rattle.layout.specs.Kept.{boundsKept, transformKept, fieldsKept, recordKept}
 use Rattle.record.proofs.Batch.{fields-grouped}
 use Rattle.record.proofs.Parse.{label-short}
 
 -- the header's rules; eight zero bytes are one number
 pub header-read : (s : List ℕ) {nodes entries labels flags first second third total root zero-bytes : ℕ}

@@ -1,9 +1,9 @@
--- `record::transform_ok` meets its contract: each number that is read is zero, or finite, where its f64 is. Assumes nothing.
+-- `layout::transform_ok` meets its contract: each number that is read is zero, or finite, where its f64 is. Assumes nothing.
 use Rattle.base.specs.Tests.{_&&_}
-use Rattle.record.proofs.Kept.{transform-read}
+use Rattle.layout.proofs.Kept.{transform-read}
 use borrow.Author.Needs.{needs}
-use Rattle.record.proofs.transform_ok.Statement.{statement}
-use Rattle.record.proofs.transform_ok.Tie as tie
+use Rattle.layout.proofs.transform_ok.Statement.{statement}
+use Rattle.layout.proofs.transform_ok.Tie as tie
 
 add-u64-at : tie.Need-add-u64-at
 add-u64-at c = search needs

@@ -1,4 +1,4 @@
--- `record::layout` meets its contract. The loop has passed i records that keep their rules, with the sums of their children and of their label bytes.
+-- `layout::layout` meets its contract. The loop has passed i records that keep their rules, with the sums of their children and of their label bytes.
 -- Assumes nothing.
 use mathlib.Core.Path.{_≡_, sym, _∙_}
 use mathlib.Core.Bool.{Bool, true, false}
@@ -12,12 +12,12 @@ use Rattle.base.specs.Tests.{_&&_}
 use Rattle.base.specs.Bytes.{allBelow}
 use Rattle.base.proofs.Tests.{call-true, call-false}
 use Rattle.base.proofs.Bytes.{all-none, all-more, all-fails, sum-none, sum-more}
 use Rattle.record.specs.Layout.{nodeCount, entryCount, labelBytes, recordAt, childCount, labelLength}
 use Rattle.record.specs.Parse.{headerOk, childrenBefore, labelsBefore, recordOk, wellFormed}
-use Rattle.record.specs.Kept.{recordKept}
-use Rattle.record.proofs.Kept.{record-kept}
-use Rattle.record.proofs.layout.Statement.{statement}
-use Rattle.record.proofs.layout.Tie as tie
+use Rattle.layout.specs.Kept.{recordKept}
+use Rattle.layout.proofs.Kept.{record-kept}
+use Rattle.layout.proofs.layout.Statement.{statement}
+use Rattle.layout.proofs.layout.Tie as tie
 
 record Passed (s : List ℕ) (n children labels i : ℕ) : Type 0 where
   long : 64 ≤ length s
