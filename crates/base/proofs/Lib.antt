@@ -2,4 +2,6 @@ pub mod Tests
 pub mod Lists
 pub mod Tables
 pub mod Bytes
+pub mod Search
+pub mod Indexed
 pub mod Examples

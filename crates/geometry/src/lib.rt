@@ -1,6 +1,7 @@
 // The records of floats that a node carries. Both are passed by value.
 
 // Bounds: the corner with the least coordinates, then the one with the greatest.
+#[repr(C)]
 pub struct Rect {
     pub x0: f64,
     pub y0: f64,
@@ -9,6 +10,7 @@ pub struct Rect {
 }
 
 // A transform: x goes to a·x + c·y + e, and y to b·x + d·y + f.
+#[repr(C)]
 pub struct Affine {
     pub a: f64,
     pub b: f64,

@@ -3,4 +3,5 @@ pub mod Sound
 pub mod Down
 pub mod Grafts
 pub mod Focus
+pub mod View
 pub mod Examples
