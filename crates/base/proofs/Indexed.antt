@@ -56,6 +56,12 @@ module _ (p : ℕ → Bool) where
   all-below-each zero h = refl
   all-below-each (suc n) h = joined (all-below-each n (λ i l. h i (omega arith))) (h n (omega arith))
 
+-- two tests that agree below n
+pub all-below-cong : (n : ℕ) (p q : ℕ → Bool) → ((i : ℕ) → i < n → p i ≡ q i) → allBelow n p ≡ allBelow n q
+unfolding allBelow
+all-below-cong zero p q h = refl
+all-below-cong (suc n) p q h = ap₂ _&&_ (all-below-cong n p q (λ i l. h i (omega arith))) (h n (omega arith))
+
 -- ## A list by index
 
 module _ {A : Type 0} where

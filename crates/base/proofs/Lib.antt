@@ -4,4 +4,5 @@ pub mod Tables
 pub mod Bytes
 pub mod Search
 pub mod Indexed
+pub mod Floats
 pub mod Examples

@@ -23,6 +23,11 @@ unfolding _&&_
 and-false true = refl
 and-false false = refl
 
+pub and-true : (a : Bool) → a && true ≡ a
+unfolding _&&_
+and-true true = refl
+and-true false = refl
+
 pub not-false : {a : Bool} → not a ≡ false → a ≡ true
 not-false {a = true} e = refl
 not-false {a = false} e = absurd (true≢false e)
