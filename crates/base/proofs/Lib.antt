@@ -2,5 +2,8 @@ pub mod Tests
 pub mod Lists
 pub mod Tables
 pub mod Bytes
+pub mod Search
+pub mod Indexed
 pub mod Floats
+pub mod Finite
 pub mod Examples

@@ -45,6 +45,18 @@ and-pairs true true u false v = and-false u
 and-pairs true false u q v = refl
 and-pairs false p u q v = refl
 
+pub and-right : (a : Bool) → a && true ≡ a
+unfolding _&&_
+and-right true = refl
+and-right false = refl
+
+-- two tests that imply each other are equal
+pub iff : {a b : Bool} → (a ≡ true → b ≡ true) → (b ≡ true → a ≡ true) → a ≡ b
+iff {a = true} {b = true} f g = refl
+iff {a = true} {b = false} f g = sym (f refl)
+iff {a = false} {b = true} f g = g refl
+iff {a = false} {b = false} f g = refl
+
 pub not-false : {a : Bool} → not a ≡ false → a ≡ true
 not-false {a = true} e = refl
 not-false {a = false} e = absurd (true≢false e)

@@ -1,8 +1,11 @@
 -- Laws of same and before. Assumes nothing.
-use mathlib.Core.Bool.{Bool, true, false}
+use mathlib.Core.Bool.{Bool, true, false, _||_}
 use mathlib.Core.Path.{_≡_, refl, sym, ap, _∙_}
+use Prim.Native.Nat.{_<_}
 use native.Mathlib.Omega.{arith}
-use borrow.Author.Tests.{eqb-true, eq-eqb, le-ltb}
+use lib.Dec.{ltb}
+use borrow.Author.Tests.{eqb-true, eq-eqb, ltb-true, lt-ltb, le-ltb}
+use Rattle.base.specs.Tests.{_&&_}
 use Rattle.base.proofs.Tests.{both, joined, and-false}
 use Rattle.ids.specs.Ids.{sameTree, sameIndex, sameNode, sameId, before}
 use Rattle.ids.specs.declared.TreeId.{TreeId}
@@ -73,3 +76,30 @@ before-other x y e = go (sameId x y) refl
     go : (c : Bool) → sameId x y ≡ c → c ≡ false
     go true q = sym e ∙ ap (λ (z : FullNodeId). before z y) (same-id→≡ x y q) ∙ before-self y
     go false q = refl
+
+-- before, by tree number or by node number
+data Earlier (x y : FullNodeId) : Type 0 where
+  by-tree : x .tree .0 < y .tree .0 → Earlier x y
+  by-node : x .tree .0 ≡ y .tree .0 → x .node .0 < y .node .0 → Earlier x y
+
+earlier : (x y : FullNodeId) → before x y ≡ true → Earlier x y
+unfolding before sameIndex
+earlier x y e = go (ltb (x .tree .0) (y .tree .0)) refl e
+  where
+    go : (b : Bool) → ltb (x .tree .0) (y .tree .0) ≡ b → (b || (sameIndex (x .tree) (y .tree) && ltb (x .node .0) (y .node .0))) ≡ true → Earlier x y
+    go true q h = by-tree (ltb-true (x .tree .0) (y .tree .0) q)
+    go false q h = by-node (eqb-true (x .tree .0) (y .tree .0) (both h .0)) (ltb-true (x .node .0) (y .node .0) (both h .1))
+
+earlier-before : (x y : FullNodeId) → Earlier x y → before x y ≡ true
+unfolding before sameIndex
+earlier-before x y (by-tree h) = rw (lt-ltb (x .tree .0) (y .tree .0) h)
+earlier-before x y (by-node e h) = rw (le-ltb (x .tree .0) (y .tree .0) (omega arith)) (joined (eq-eqb (x .tree .0) (y .tree .0) e) (lt-ltb (x .node .0) (y .node .0) h))
+
+pub before-trans : (x y z : FullNodeId) → before x y ≡ true → before y z ≡ true → before x z ≡ true
+before-trans x y z p q = go (earlier x y p) (earlier y z q)
+  where
+    go : Earlier x y → Earlier y z → before x z ≡ true
+    go (by-tree a) (by-tree b) = earlier-before x z (by-tree (omega arith))
+    go (by-tree a) (by-node c b) = earlier-before x z (by-tree (omega arith))
+    go (by-node a d) (by-tree b) = earlier-before x z (by-tree (omega arith))
+    go (by-node a d) (by-node c b) = earlier-before x z (by-node (omega arith) (omega arith))

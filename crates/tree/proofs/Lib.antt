@@ -4,4 +4,5 @@ pub mod Down
 pub mod Ends
 pub mod Grafts
 pub mod Focus
+pub mod View
 pub mod Examples

@@ -2,4 +2,5 @@ pub mod State
 pub mod Down
 pub mod Focus
 pub mod Sound
+pub mod View
 pub mod ExampleStates

@@ -11,7 +11,7 @@ use lib.Dec.{eqb}
 use Rattle.base.specs.Tests.{_&&_}
 use Rattle.base.specs.Bytes.{allBelow}
 use Rattle.base.proofs.Tests.{call-true, call-false}
-use Rattle.base.proofs.Bytes.{all-none, all-more, all-fails, sum-none, sum-more}
+use Rattle.base.proofs.Bytes.{all-below-none, all-below-more, all-below-fails, sum-none, sum-more}
 use Rattle.record.specs.Layout.{nodeCount, entryCount, labelBytes, recordAt, childCount, labelLength}
 use Rattle.record.specs.Parse.{headerOk, childrenBefore, labelsBefore, recordOk, wellFormed}
 use Rattle.layout.specs.Kept.{recordKept}
@@ -39,7 +39,7 @@ module _ {s : List ℕ} {n children labels i : ℕ} (p : Passed s n children lab
   refused : i < n → recordKept s (recordAt i) children labels ≡ false → wellFormed s ≡ false
   unfolding wellFormed _&&_
   refused l e =
-      rw (le-leb _ _ (p .long), p .header, all-fails (recordOk s) (nodeCount s) i (rw (p .count) at l) (is-record false e))
+      rw (le-leb _ _ (p .long), p .header, all-below-fails (recordOk s) (nodeCount s) i (rw (p .count) at l) (is-record false e))
 
   -- a record that keeps them: one more has passed
   accepted : i < n → recordKept s (recordAt i) children labels ≡ true → (k m : ℕ) → k < 65536 → m < 65536 → k ≡ childCount s (recordAt i) → m ≡ labelLength s (recordAt i)
@@ -52,7 +52,7 @@ module _ {s : List ℕ} {n children labels i : ℕ} (p : Passed s n children lab
         count = p .count;
         few = p .few;
         within = omega arith;
-        records = all-more (recordOk s) i (p .records) (is-record true e);
+        records = all-below-more (recordOk s) i (p .records) (is-record true e);
         children-are = rw (sum-more, ← k-is, ← p .children-are);
         labels-are = rw (sum-more, ← m-is, ← p .labels-are);
         children-small = omega arith;
@@ -98,7 +98,7 @@ loop-holds c =
       count = c .u16-at .ensures;
       few = omega arith;
       within = omega arith;
-      records = all-none _;
+      records = all-below-none _;
       children-are = sym (sum-none _);
       labels-are = sym (sum-none _);
       children-small = omega arith;
