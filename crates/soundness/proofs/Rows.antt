@@ -2,19 +2,19 @@
 use mathlib.Core.Bool.{true, false}
 use mathlib.Core.List.{List, [], _∷_, _++_}
 use mathlib.Core.Option.{none, some}
-use mathlib.Core.Path.{_≡_, ap₂, _∙_}
+use mathlib.Core.Path.{_≡_, sym, ap₂, _∙_}
 use Prim.Native.Nat.{ℕ, _+_, _<_}
 use native.Mathlib.Omega.{arith}
 use borrow.Author.Tests.{eq-eqb, ne-eqb}
 use lib.Dec.{eqb}
 use lib.ListN.{length, set}
 use lib.Seq.{getD-set-same, getD-set-other}
-use Rattle.base.proofs.Bytes.{list-of-more}
-use Rattle.base.specs.Tests.{sameOption}
+use Rattle.base.specs.Tests.{_&&_, sameOption}
 use Rattle.base.specs.Bytes.{bit}
-use Rattle.base.proofs.Tests.{and-false, and-right}
+use Rattle.base.proofs.Tests.{joined, and-false, and-right}
+use Rattle.base.proofs.Bytes.{list-of-more}
 use Rattle.base.proofs.Indexed.{list-of-cong}
-use Rattle.ids.specs.Ids.{sameId}
+use Rattle.ids.specs.Ids.{sameTree, sameId}
 use Rattle.ids.specs.declared.TreeId.{TreeId}
 use Rattle.ids.specs.declared.FullNodeId.{FullNodeId}
 use Rattle.tree.specs.declared.LinkRow.{LinkRow}
@@ -76,3 +76,17 @@ names-stored high low g t p q =
     ∙ ap₂ {A = List TreeId} {B = TreeId} {C = List TreeId} (λ l x. l ++ x ∷ [])
     (list-of-cong g _ _ (λ i b. rw (getD-set-other high g i (t .high) 0 (λ e. omega arith), getD-set-other low g i (t .low) 0 (λ e. omega arith))))
     (rw (getD-set-same high g (t .high) 0 p, getD-set-same low g (t .low) 0 q))
+
+-- tree ids that differ in a half, or in none
+module _ (x y : TreeId) where
+  pub same-tree-low : (y .low ≡ x .low → ⊥) → sameTree x y ≡ false
+  unfolding sameTree
+  same-tree-low h = rw (ne-eqb (x .low) (y .low) (λ e. h (sym e))) (and-false (eqb (x .high) (y .high)))
+
+  pub same-tree-high : (y .high ≡ x .high → ⊥) → sameTree x y ≡ false
+  unfolding sameTree _&&_
+  same-tree-high h = rw (ne-eqb (x .high) (y .high) (λ e. h (sym e)))
+
+  pub same-tree-both : y .low ≡ x .low → y .high ≡ x .high → sameTree x y ≡ true
+  unfolding sameTree
+  same-tree-both p q = joined (eq-eqb (x .high) (y .high) (sym q)) (eq-eqb (x .low) (y .low) (sym p))

@@ -250,21 +250,21 @@ fn grafts_are_bare(shapes: [ShapeRow; 320], n: usize) -> bool
     true
 }
 
-// Whether a tree id stands among the first n names from a place on.
+// Whether a tree id stands among the first n names from a place on. Few names agree in the low half, so it is compared first.
 fn is_named<'a>(high: &'a [u64], low: &'a [u64], n: usize, from: usize, id: TreeId) -> bool
     requires { ⌜ (n ≤ length (now high)) × (n ≤ length (now low)) ⌝ }
     ensures { λ r. ⌜ r ≡ any (sameTree id) (drop from (names (now (high .entry)) (now (low .entry)) n)) ⌝ }
 {
     let mut i = from;
     while i < n {
-        let x = TreeId {
-            high: high[i],
-            low: low[i],
-        };
-        if ids::same_tree(id, x) {
+        let at = i;
+        i += 1;
+        if low[at] != id.low {
+            continue;
+        }
+        if high[at] == id.high {
             return true;
         }
-        i += 1;
     }
     false
 }
