@@ -1,4 +1,6 @@
+pub mod Gone
 pub mod Outcome
+pub mod Write
 pub mod Pass
 pub mod Focus
 pub mod Sound

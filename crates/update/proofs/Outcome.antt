@@ -1,23 +1,27 @@
--- Laws of the outcome: which nodes it holds, and that their data is old data or listed data. Assumes nothing.
+-- Laws of the outcome: which nodes it holds, what is found there, and that their data is old data or listed data. Assumes nothing.
 use mathlib.Core.Bool.{Bool, true, false, not, _||_, false≢true}
 use mathlib.Core.List.{List, [], _∷_, map}
 use mathlib.Core.Option.{Option, none, some}
 use mathlib.Core.Path.{_≡_, refl, sym, ap, _∙_}
-use Prim.Native.Nat.{ℕ, zero, suc}
-use lib.ListN.{length}
-use Rattle.base.specs.Tests.{_&&_, if_then_else_, isSome, any, all, keep, has}
+use Prim.Native.Nat.{ℕ, zero, suc, _+_, _≤_}
+use native.Mathlib.Omega.{arith}
+use lib.ListN.{length, length-map}
+use Rattle.base.specs.Tests.{_&&_, if_then_else_, isSome, any, all, keep, has, distinct}
 use Rattle.base.proofs.Tests.{both, joined, or-absorb, or-swap, or-right, all-keep}
-use Rattle.base.proofs.Lists.{all-map}
+use Rattle.base.proofs.Lists.{all-map, count-rest}
 use Rattle.ids.specs.Ids.{sameIndex, sameNode, sameId, before}
 use Rattle.ids.proofs.Ids.{same-id→≡}
 use Rattle.ids.specs.declared.TreeIndex.{TreeIndex}
 use Rattle.ids.specs.declared.FullNodeId.{FullNodeId}
-use Rattle.record.specs.Batch.{NodeData, sameData, Listed, Batch}
+use Rattle.record.specs.Batch.{NodeData, sameData, Listed, Batch, listedIds}
 use Rattle.tree.specs.State.{NodeState, idsOf, Forest, find, present}
+use Rattle.tree.specs.Sound.{ascending}
 use Rattle.tree.proofs.State.{present-has, present-keep}
-use Rattle.update.specs.Words.{number}
+use Rattle.tree.proofs.Order.{find-keep, ascending-keep, find-map, ascending-map}
+use Rattle.update.specs.Words.{listing, number, mine, listed}
 use Rattle.update.specs.Gone.{replaced, fares, fate, goneWithin, gone}
-use Rattle.update.specs.Outcome.{renewed, write, writeAll, written, relink, outcome}
+use Rattle.update.specs.Outcome.{renewed, write, writeAll, written, linkAfter, relink, outcome}
+use Rattle.update.proofs.Write.{merged, listing-some, ascending-write-all, length-write-all, find-write-all}
 
 -- ## Writing
 
@@ -66,21 +70,6 @@ ids-relink s b [] = refl
 ids-relink s b (n ∷ ns) = ap {B = List FullNodeId} (λ xs. n .id ∷ xs) (ids-relink s b ns)
 
 module _ (s : Forest) (b : Batch) where
-  -- only an old node goes
-  pub gone-old : (x : FullNodeId) → gone s b x ≡ true → present (s .nodes) x ≡ true
-  unfolding gone goneWithin present
-  gone-old x e = go (length (s .nodes)) e
-    where
-      inner : (o : Option NodeState) (f : NodeState → Bool) → (elim o as (λ _. Bool) [ none ↦ false | some n ↦ f n ]) ≡ true → isSome o ≡ true
-      inner none f q = q
-      inner (some n) f q = refl
-
-      go : (room : ℕ) → goneWithin s b room x ≡ true → isSome (find x (s .nodes)) ≡ true
-      go zero q = absurd (false≢true q)
-      go (suc room) q =
-          inner (find x (s .nodes))
-          (λ n. elim (n .parentAndIndex) [ none ↦ replaced s b x | some l ↦ fares (fate s b x l) (goneWithin s b room (l .parent)) ]) q
-
   pub old-written : (x : FullNodeId) → present (s .nodes) x ≡ true → has sameId (idsOf (written s b)) x ≡ true
   unfolding written
   old-written x e = has-write-all (number s b) (b .nodes) (s .nodes) x (sym (present-has (s .nodes) x) ∙ e)
@@ -94,6 +83,101 @@ module _ (s : Forest) (b : Batch) where
       ∙ sym (present-has (keep (λ n. not (gone s b (n .id))) (written s b)) x)
       ∙ present-keep (λ y. not (gone s b y)) (written s b) x
       ∙ ap (λ (c : Bool). c && not (gone s b x)) (present-has (written s b) x)
+
+-- ## What is found in the outcome
+
+module _ (s : Forest) (b : Batch) where
+  -- the node found once all listed nodes are written: with the listed data, or as it was
+  unfoldable pub foundWritten : FullNodeId → Option NodeState
+  foundWritten x =
+      if mine s b x
+      then elim (listing (b .nodes) (x .node)) [ none ↦ find x (s .nodes) | some d ↦ some (merged x d (find x (s .nodes))) ]
+      else find x (s .nodes)
+
+  -- what was found, with the link that it then records
+  abbrev relinked : Option NodeState → Option NodeState
+  relinked o = elim o [ none ↦ none | some n ↦ some (relink s b n) ]
+
+  -- the node found in the outcome: none if it goes, else with the link that it then records
+  unfoldable pub foundAfter : FullNodeId → Option NodeState
+  foundAfter x = if gone s b x then none else relinked (foundWritten x)
+
+  relink-id : (n : NodeState) → relink s b n .id ≡ n .id
+  unfolding relink
+  relink-id n = refl
+
+  pub find-outcome : ascending (s .nodes) ≡ true → distinct sameNode (listedIds (b .nodes)) ≡ true
+      → (x : FullNodeId) → find x (outcome s b .nodes) ≡ foundAfter x
+  unfolding outcome written foundAfter foundWritten mine
+  find-outcome e u x =
+      find-map (relink s b) relink-id (keep (λ n. not (gone s b (n .id))) (written s b)) x
+      ∙ ap relinked (find-keep (λ y. not (gone s b y)) (written s b) x)
+      ∙ go (gone s b x) (find-write-all (number s b) (b .nodes) (s .nodes) e u x)
+    where
+      go : (c : Bool) → find x (written s b) ≡ foundWritten x
+          → relinked (if not c then find x (written s b) else none) ≡ (if c then none else relinked (foundWritten x))
+      go true h = refl
+      go false h = ap relinked h
+
+  -- the data of an old node after the listed nodes are written
+  unfoldable pub bodyAfter : NodeState → NodeData
+  bodyAfter n =
+      if mine s b (n .id) then elim (listing (b .nodes) (n .id .node)) [ none ↦ n .body | some d ↦ renewed (n .body) d ] else n .body
+
+  -- an old node that does not go, as the outcome holds it
+  unfoldable pub nodeAfter : NodeState → NodeState
+  nodeAfter n = record { id = n .id; parentAndIndex = linkAfter s b (n .id) (n .parentAndIndex); body = bodyAfter n }
+
+  -- what is found of an old node
+  pub find-old-outcome : ascending (s .nodes) ≡ true → distinct sameNode (listedIds (b .nodes)) ≡ true
+      → (n : NodeState) → find (n .id) (s .nodes) ≡ some n
+      → find (n .id) (outcome s b .nodes) ≡ (if gone s b (n .id) then none else some (nodeAfter n))
+  unfolding foundAfter foundWritten merged relink bodyAfter nodeAfter
+  find-old-outcome e u n f =
+      find-outcome e u (n .id)
+      ∙ ap (λ (o : Option NodeState). if gone s b (n .id) then none else relinked o) (go (mine s b (n .id)) (listing (b .nodes) (n .id .node)) (find (n .id) (s .nodes)) f)
+    where
+      go : (c : Bool) (o : Option NodeData) (was : Option NodeState) → was ≡ some n
+          → (if c then elim o [ none ↦ was | some d ↦ some (merged (n .id) d was) ] else was)
+          ≡ some (record { id = n .id; parentAndIndex = n .parentAndIndex; body = if c then elim o [ none ↦ n .body | some d ↦ renewed (n .body) d ] else n .body })
+      go true none was h = h
+      go true (some d) was h = ap (λ (w : Option NodeState). some (merged (n .id) d w)) h
+      go false o was h = h
+
+  -- a node is present afterwards if it does not go and was there or is listed
+  pub present-after : ascending (s .nodes) ≡ true → distinct sameNode (listedIds (b .nodes)) ≡ true
+      → (x : FullNodeId) → present (outcome s b .nodes) x ≡ (not (gone s b x) && (present (s .nodes) x || listed s b x))
+  unfolding present foundAfter foundWritten listed _&&_
+  present-after e u x =
+      ap isSome (find-outcome e u x)
+      ∙ go (gone s b x) (mine s b x) (find x (s .nodes)) (listing (b .nodes) (x .node)) (has sameNode (listedIds (b .nodes)) (x .node)) (listing-some (b .nodes) (x .node))
+    where
+      go : (g c : Bool) (was : Option NodeState) (o : Option NodeData) (l : Bool) → isSome o ≡ l
+          → isSome (if g then none else relinked (if c then elim o [ none ↦ was | some d ↦ some (merged x d was) ] else was))
+          ≡ (not g && (isSome was || (c && l)))
+      go true c was o l h = refl
+      go false true none none l h = h
+      go false true none (some d) l h = h
+      go false true (some n) none l h = refl
+      go false true (some n) (some d) l h = refl
+      go false false none o l h = refl
+      go false false (some n) o l h = refl
+
+  pub ascending-outcome : ascending (s .nodes) ≡ true → ascending (outcome s b .nodes) ≡ true
+  unfolding outcome written
+  ascending-outcome e =
+      ascending-map (relink s b) relink-id (keep (λ n. not (gone s b (n .id))) (written s b))
+      (ascending-keep (λ n. not (gone s b (n .id))) (written s b) (ascending-write-all (number s b) (b .nodes) (s .nodes) e))
+
+  pub length-outcome : length (outcome s b .nodes) ≤ length (s .nodes) + length (b .nodes)
+  unfolding outcome written
+  length-outcome =
+      omega (
+        arith,
+        length-map (keep (λ n. not (gone s b (n .id))) (written s b)) (relink s b),
+        count-rest (λ n. gone s b (n .id)) (written s b),
+        length-write-all (number s b) (b .nodes) (s .nodes),
+      )
 
 -- ## Data
 
