@@ -1,271 +1,219 @@
--- What the parts of the decider say of the definition: each law ties a contract over the tables to a part of `soundShape` or `sound`.
+-- What the parts of the decider say of the definition: each law ties a contract over the columns to a part of `soundShape` or `sound`.
 -- Assumes nothing.
-use mathlib.Core.Bool.{Bool, true, false, _||_, false≢true}
+use mathlib.Core.Bool.{Bool, true, false, false≢true}
 use mathlib.Core.List.{List, [], _∷_, append-nil}
 use mathlib.Core.Option.{Option, none, some}
 use mathlib.Core.Path.{_≡_, refl, sym, ap, ap₂, _∙_}
-use Prim.Native.Nat.{ℕ, zero, suc, _+_, _-_, _≤_, _<_}
-use native.Mathlib.Nat.{add-zero, zero-add}
-use native.Mathlib.Numerals.{add-one}
+use Prim.Native.Nat.{ℕ, _-_, _/_, _≤_, _<_}
+use native.Mathlib.Decide.{decLt}
 use native.Mathlib.Omega.{arith}
-use lib.Dec.{eqb}
-use lib.ListN.{length, getD}
-use borrow.Author.Tests.{eq-eqb, ne-eqb}
-use Rattle.base.specs.Tests.{_&&_, if_then_else_, isSome, isNone, isNil, any, all, sameOption, distinct, given}
-use Rattle.base.specs.Bytes.{allBelow, listOf}
+use lib.Dec.{ltb, leb}
+use lib.ListN.{length}
+use borrow.Author.Tests.{eq-eqb, ne-eqb, le-leb, leb-true}
+use Rattle.base.specs.Tests.{_&&_, if_then_else_, all, sameOption}
+use Rattle.base.specs.Bytes.{allBelow}
 use Rattle.base.specs.Search.{First}
-use Rattle.base.proofs.Tests.{both, joined, iff}
-use Rattle.base.proofs.Bytes.{all-below-at, length-list-of, map-list-of}
-use Rattle.base.proofs.Lists.{first-given-some}
-use Rattle.base.proofs.Indexed.{all-below-each, all-below-cong, all-indexed, given-indexed}
-use Rattle.ids.specs.Ids.{ROOT, sameTree, sameId}
-use Rattle.ids.proofs.Ids.{same-tree→≡, same-tree-refl}
-use Rattle.ids.specs.declared.TreeId.{TreeId}
-use Rattle.ids.specs.declared.NodeId.{NodeId}
+use Rattle.base.proofs.Tests.{both, joined, iff, and-right}
+use Rattle.base.proofs.Bytes.{length-list-of}
+use Rattle.base.proofs.Indexed.{all-indexed}
 use Rattle.ids.specs.declared.FullNodeId.{FullNodeId}
-use Rattle.record.specs.Batch.{graft?}
-use Rattle.tree.specs.declared.ShapeRow.{ShapeRow}
-use Rattle.tree.specs.State.{NodeState, Subtree, TreeEntry, Forest, idsOf, present, holder, SubtreeState, subtreeState, subtreeFrom, subtreeOf, sameLink}
-use Rattle.tree.specs.Down.{Met, below, belowId, rootOf}
-use Rattle.tree.specs.Focus.{throughGrafts, effectiveFocus}
-use Rattle.tree.specs.Sound.{graftIsBare, soundLinks, graftsDiffer, grafted, allGrafted, rootFirst, oneIdEach, soundTrees, ascending, wayEnds, soundShape, focusPresent}
-use Rattle.tree.specs.View.{childrenOf, bodyOf, nodeOf, noShape, noLink}
-use Rattle.tree.proofs.State.{present-has}
-use Rattle.tree.proofs.Sound.{Shape, shape-parts}
+use Rattle.record.specs.Batch.{fieldsOk}
+use Rattle.tree.specs.declared.TreeState.{TreeState}
+use Rattle.tree.specs.State.{sameLink, Forest, present}
+use Rattle.tree.specs.Down.{Met, belowId, rootOf}
+use Rattle.tree.specs.Focus.{effectiveFocus}
+use Rattle.tree.specs.Sound.{rootFirst, soundLinks, soundTrees, ascending, wayEnds, soundShape, focusPresent, sound}
+use Rattle.tree.specs.View.{Columns, linkIn, linkOf, treeIn, bodyIn, nodeIn, entryIn, forestIn, slotCount, columnsOf, view}
+use Rattle.tree.proofs.Sound.{Shape, shape-parts, sound-parts}
+use Rattle.lookup.specs.Lookup.{inOrder, standsAt}
+use Rattle.lookup.proofs.Order.{ordered-is}
+use Rattle.lookup.proofs.Found.{present-slot}
+use Rattle.focus.specs.declared.FoundNode.{FoundNode}
+use Rattle.focus.specs.declared.FoundNode.the-variants as node
+use Rattle.focus.specs.Focus.{foundOf}
 use Rattle.soundness.specs.Counted.{counted}
-use Rattle.soundness.specs.Tables.{idIn, nameIn, TreeTables, entryIn, NodeTables, nodeIn, forestIn, graftOf}
-use Rattle.soundness.specs.Parts.{inOrder, standsAt, names, graftsIn, bareRow, rootedRow, allRooted, focusedFrom}
+use Rattle.soundness.specs.Parts.{soundGrafts, countedBelow, countedAll, HasRoom, soundState}
 use Rattle.soundness.proofs.Pigeons.{links-counted}
-use Rattle.soundness.proofs.Order.{ascending-indexed}
-use Rattle.soundness.proofs.Rows.{link-none, link-some}
-use Rattle.soundness.proofs.Walks.{counted-refused, counted-on, recorded-missing, recorded-found, below-found}
+use Rattle.soundness.proofs.Order.{out-of-order}
+use Rattle.soundness.proofs.Trees.{root-is, root-twice}
+use Rattle.soundness.proofs.Walks.{counted-refused, counted-on, recorded-absent, recorded-there, below-there}
 
--- ## The parts of the shape
+-- a test cannot hold and fail
+pub clash : {b : Bool} → b ≡ false → b ≡ true → ⊥
+clash p q = false≢true (sym p ∙ q)
 
-pub shape-of : (s : Forest) → Shape s → soundShape s ≡ true
+-- a test that cannot hold fails
+refuted : {b : Bool} → (b ≡ true → ⊥) → b ≡ false
+refuted {b = true} h = absurd (h refl)
+refuted {b = false} h = refl
+
+-- ## The shape
+
+-- the parts make the shape
+shape-of : (s : Forest) → Shape s → soundShape s ≡ true
 unfolding soundShape soundLinks soundTrees wayEnds
 shape-of s p =
     joined (joined (joined (joined (joined (p .once) (p .only)) (p .bare)) (joined (joined (joined (p .differ) (p .first)) (p .one-id)) (p .held))) (p .ordered)) (p .ends)
 
--- a part that fails
-pub shape-refuted : (s : Forest) → (Shape s → ⊥) → soundShape s ≡ false
-shape-refuted s h = go (soundShape s) refl
+-- over ids that ascend, the shape is the rules that do not go down, and the way down in one pass
+by-passes : (s : Forest) (r : FullNodeId) → (rootFirst (s .trees) ≡ true → rootOf s ≡ some r) → ascending (s .nodes) ≡ true
+    → soundShape s ≡ soundGrafts s && counted (length (s .nodes)) s (record { id = r; link = none } ∷ [])
+unfolding wayEnds soundGrafts
+by-passes s r root up = iff there back
   where
-    go : (b : Bool) → soundShape s ≡ b → b ≡ false
-    go true e = absurd (h (shape-parts s e))
-    go false e = refl
+    there : soundShape s ≡ true → soundGrafts s && counted (length (s .nodes)) s (record { id = r; link = none } ∷ []) ≡ true
+    there e =
+        let p = shape-parts s e in
+        joined (joined (joined (joined (joined (p .bare) (p .differ)) (p .first)) (p .one-id)) (p .held))
+        (sym (links-counted s r (root (p .first)) up) ∙ joined (joined (p .once) (p .only)) (p .ends))
 
-pub clash : {b : Bool} → b ≡ false → b ≡ true → ⊥
-clash p q = false≢true (sym p ∙ q)
-
--- what is left of the shape where the rest holds: the way down, in one pass
-pub shape-linked : (s : Forest) (r : FullNodeId) → rootOf s ≡ some r → ascending (s .nodes) ≡ true → all graftIsBare (s .nodes) ≡ true
-    → graftsDiffer (s .nodes) ≡ true → rootFirst (s .trees) ≡ true → oneIdEach (s .trees) ≡ true → allGrafted (s .nodes) 0 (s .trees) ≡ true
-    → soundShape s ≡ counted (length (s .nodes)) s (record { id = r; link = none } ∷ [])
-unfolding wayEnds
-shape-linked s r q up bare differ first one-id held = iff there back
-  where
-    there : soundShape s ≡ true → counted (length (s .nodes)) s (record { id = r; link = none } ∷ []) ≡ true
-    there e = let p = shape-parts s e in sym (links-counted s r q up) ∙ joined (joined (p .once) (p .only)) (p .ends)
-
-    back : counted (length (s .nodes)) s (record { id = r; link = none } ∷ []) ≡ true → soundShape s ≡ true
+    back : soundGrafts s && counted (length (s .nodes)) s (record { id = r; link = none } ∷ []) ≡ true → soundShape s ≡ true
     back e =
-        let w = both (links-counted s r q up ∙ e) in
+        let four = both (both e .0) in
+        let three = both (four .0) in
+        let two = both (three .0) in
+        let w = both (links-counted s r (root (two .1)) up ∙ both e .1) in
         shape-of s (record {
           once = both (w .0) .0;
           only = both (w .0) .1;
-          bare = bare;
-          differ = differ;
-          first = first;
-          one-id = one-id;
-          held = held;
+          bare = both (two .0) .0;
+          differ = both (two .0) .1;
+          first = two .1;
+          one-id = three .1;
+          held = four .1;
           ordered = up;
           ends = w .1;
         })
 
--- ## Rows
-
-nil-of : (k : ℕ) (f : ℕ → NodeId) → isNil (listOf k f) ≡ eqb k 0
-unfolding listOf
-nil-of zero f = sym (eq-eqb 0 0 refl)
-nil-of (suc k) f = sym (ne-eqb (suc k) 0 (λ e. omega arith))
-
-module _ (t : NodeTables) (u : TreeTables) (n m : ℕ) where
+module _ (c : Columns) (table : List ℕ) (n m : ℕ) where
+  -- the forest that the columns show
   abbrev f : Forest
-  f = forestIn t u n m
+  f = forestIn c table n m
 
-  bare-row : (i : ℕ) → graftIsBare (nodeIn t i) ≡ bareRow (getD (t .shapes) i noShape)
-  unfolding graftIsBare nodeIn nodeOf bodyOf childrenOf graft? graftOf bareRow
-  bare-row i = go (graftOf d)
-    where
-      d : ShapeRow
-      d = getD (t .shapes) i noShape
-
-      go : (o : Option TreeId)
-          → (isNone o || isNil (childrenOf (t .pool) (idIn (t .treeNumbers) (t .nodeNumbers) i .node) d)) ≡ (elim o as (λ _. Bool) [ none ↦ true | some g ↦ eqb (d .«child_count») 0 ])
-      go none = refl
-      go (some g) = nil-of (d .«child_count») (λ j. record { 0 = getD (t .pool) (d .«first_child» + j) (getD (t .nodeNumbers) i 0) })
-
-  pub bare-is : all graftIsBare (f .nodes) ≡ allBelow n (λ i. bareRow (getD (t .shapes) i noShape))
+  -- how many nodes it has, and how many trees
+  many : length (f .nodes) ≡ n
   unfolding forestIn
-  bare-is = all-indexed graftIsBare n (nodeIn t) ∙ all-below-cong n _ _ (λ i l. bare-row i)
+  many = length-list-of n (nodeIn c)
 
-  pub ordered-is : ascending (f .nodes) ≡ inOrder (t .treeNumbers) (t .nodeNumbers) n
-  unfolding forestIn nodeIn nodeOf
-  ordered-is = ascending-indexed n (nodeIn t) (t .treeNumbers) (t .nodeNumbers) (λ i. refl)
-
-  grafts-are : given (λ k. graft? (k .body)) (f .nodes) ≡ graftsIn (t .shapes) n
-  unfolding forestIn nodeIn nodeOf bodyOf graft? graftOf
-  grafts-are = given-indexed (λ k. graft? (k .body)) graftOf n (nodeIn t) (λ i. getD (t .shapes) i noShape) (λ i. refl)
-
-  pub differ-is : graftsDiffer (f .nodes) ≡ distinct sameTree (graftsIn (t .shapes) n)
-  unfolding graftsDiffer
-  differ-is = ap (distinct sameTree) grafts-are
-
-  -- ## The tree table
-
-  pub first-is : rootFirst (f .trees) ≡ rootFirst (listOf m (entryIn u))
+  taken : length (f .trees) ≡ m
   unfolding forestIn
-  first-is = refl
+  taken = length-list-of m (entryIn table)
 
-  pub one-id-is : oneIdEach (f .trees) ≡ distinct sameTree (names (u .high) (u .low) m)
-  unfolding oneIdEach forestIn entryIn
-  one-id-is = ap (distinct sameTree) (map-list-of (λ e. e .id) m (entryIn u))
+  -- the nodes' fields, by index
+  fields-are : all (λ k. fieldsOk (k .body)) (f .nodes) ≡ allBelow n (λ i. fieldsOk (bodyIn c i))
+  unfolding forestIn nodeIn
+  fields-are = all-indexed (λ k. fieldsOk (k .body)) n (nodeIn c)
 
-  present-is : (x : FullNodeId) → present (f .nodes) x ≡ any (sameId x) (listOf n (idIn (t .treeNumbers) (t .nodeNumbers)))
-  unfolding forestIn idsOf nodeIn nodeOf
-  present-is x = present-has (listOf n (nodeIn t)) x ∙ ap (any (sameId x)) (map-list-of (λ k. k .id) n (nodeIn t))
+  -- the shape over columns in order
+  pub shape-ordered : inOrder (c .trees) (c .nodes) n ≡ true → soundShape f ≡ soundGrafts f && countedAll c table n m
+  unfolding countedAll
+  shape-ordered up =
+      by-passes f (record { tree = record { 0 = 0 }; node = treeIn table 0 .root }) (root-is table c n m) (ordered-is c table n m ∙ up)
+      ∙ ap (λ (k : ℕ). soundGrafts f && counted k f (record { id = record { tree = record { 0 = 0 }; node = treeIn table 0 .root }; link = none } ∷ [])) many
 
-  same-tree-swap : (a b : TreeId) → sameTree a b ≡ sameTree b a
-  same-tree-swap a b =
-      iff (λ e. ap (λ c. sameTree c a) (sym (same-tree→≡ a b e)) ∙ same-tree-refl a) (λ e. ap (λ c. sameTree c b) (sym (same-tree→≡ b a e)) ∙ same-tree-refl b)
+  -- and over columns out of order
+  pub shape-unordered : inOrder (c .trees) (c .nodes) n ≡ false → soundShape f ≡ false
+  shape-unordered e = refuted (λ h. clash (ordered-is c table n m ∙ e) (shape-parts f h .ordered))
 
-  any-given : (x : TreeId) (ns : List NodeState) → any (λ k. sameOption sameTree (graft? (k .body)) (some x)) ns ≡ any (sameTree x) (given (λ k. graft? (k .body)) ns)
-  any-given x [] = refl
-  any-given x (k ∷ ns) = go (graft? (k .body)) (any-given x ns)
-    where
-      go : (o : Option TreeId) → any (λ k. sameOption sameTree (graft? (k .body)) (some x)) ns ≡ any (sameTree x) (given (λ k. graft? (k .body)) ns)
-          → (sameOption sameTree o (some x) || any (λ k. sameOption sameTree (graft? (k .body)) (some x)) ns)
-          ≡ any (sameTree x) (elim o as (λ _. List TreeId) [ none ↦ given (λ k. graft? (k .body)) ns | some y ↦ y ∷ given (λ k. graft? (k .body)) ns ])
-      go none h = h
-      go (some y) h = ap₂ _||_ (same-tree-swap y x) h
+  -- more nodes or more trees than there is room for
+  pub shape-crowded : length (c .trees) ≡ 320 → length (c .nodes) ≡ 320 → 320 < n → soundShape f ≡ false
+  shape-crowded p q h = shape-unordered (out-of-order (c .trees) (c .nodes) n 319 p q h)
 
-  holder-is : (x : TreeId) → isSome (holder (f .nodes) x) ≡ any (sameTree x) (graftsIn (t .shapes) n)
-  unfolding holder
-  holder-is x =
-      first-given-some (λ k. sameOption sameTree (graft? (k .body)) (some x)) (λ k. k .id) (f .nodes)
-      ∙ any-given x (f .nodes)
-      ∙ ap (any (sameTree x)) grafts-are
-
-  -- a tree that exists where the flag is not 0
-  abbrev subtreeAt : ℕ → Bool → Option Subtree
-  subtreeAt k b = if b then none else some (record { root = record { 0 = getD (u .roots) k 0 }; focus = record { 0 = getD (u .focuses) k 0 } })
-
-  rooted-row : (k : ℕ) → grafted (f .nodes) k (entryIn u k)
-      ≡ rootedRow (t .treeNumbers) (t .nodeNumbers) n (graftsIn (t .shapes) n) k (getD (u .exists) k 0) (record { 0 = getD (u .roots) k 0 }) (nameIn (u .high) (u .low) k)
-  unfolding grafted rootedRow entryIn
-  rooted-row k = go (eqb (getD (u .exists) k 0) 0)
-    where
-      go : (b : Bool)
-          → (elim (subtreeAt k b) as (λ _. Bool) [
-            | none ↦ true
-            | some v ↦ present (f .nodes) (record { tree = record { 0 = k }; node = v .root }) && (eqb k 0 || isSome (holder (f .nodes) (nameIn (u .high) (u .low) k)))
-          ])
-          ≡ (b || (any (sameId (record { tree = record { 0 = k }; node = record { 0 = getD (u .roots) k 0 } })) (listOf n (idIn (t .treeNumbers) (t .nodeNumbers)))
-          && (eqb k 0 || any (sameTree (nameIn (u .high) (u .low) k)) (graftsIn (t .shapes) n))))
-      go true = refl
-      go false =
-          ap₂ _&&_ (present-is (record { tree = record { 0 = k }; node = record { 0 = getD (u .roots) k 0 } }))
-          (ap (λ (b : Bool). eqb k 0 || b) (holder-is (nameIn (u .high) (u .low) k)))
-
-  -- every tree is rooted, by index; k is the number of the first
-  rooted-each : (ns : List NodeState) (k m : ℕ) (entry : ℕ → TreeEntry) → ((j : ℕ) → j < m → grafted ns (k + j) (entry j) ≡ true) → allGrafted ns k (listOf m entry) ≡ true
-  unfolding allGrafted listOf
-  rooted-each ns k zero entry h = refl
-  rooted-each ns k (suc m) entry h =
-      joined (rw add-zero at (h 0 (omega arith)))
-      (rooted-each ns (suc k) m (λ i. entry (suc i)) (λ j l. let next : suc k + j ≡ k + suc j = omega arith in rw next (h (suc j) (omega arith))))
-
-  rooted-at : (ns : List NodeState) (k m : ℕ) (entry : ℕ → TreeEntry) → allGrafted ns k (listOf m entry) ≡ true → (j : ℕ) → j < m → grafted ns (k + j) (entry j) ≡ true
-  unfolding allGrafted listOf
-  rooted-at ns k zero entry e j l = absurd (omega arith)
-  rooted-at ns k (suc m) entry e zero l = rw add-zero (both e .0)
-  rooted-at ns k (suc m) entry e (suc j) l =
-      let next : suc k + j ≡ k + suc j = omega arith in
-      rw (← next) (rooted-at ns (suc k) m (λ i. entry (suc i)) (both e .1) j (omega arith))
-
-  pub rooted-is : (grafts : List TreeId) → grafts ≡ graftsIn (t .shapes) n
-      → allGrafted (f .nodes) 0 (f .trees) ≡ allRooted (t .treeNumbers) (t .nodeNumbers) n grafts u m
-  unfolding forestIn allRooted
-  rooted-is grafts e =
-      rw e (iff (λ h. all-below-each _ m (λ k l. sym (rooted-row k) ∙ rw zero-add at (rooted-at (f .nodes) 0 m (entryIn u) h k l)))
-      (λ h. rooted-each (f .nodes) 0 m (entryIn u) (λ k l. rw zero-add (rooted-row k ∙ all-below-at _ m k h l))))
-
-  -- ## The root
-
-  abbrev rootState : SubtreeState
-  rootState = record {
-    root = record { tree = record { 0 = 0 }; node = record { 0 = getD (u .roots) 0 0 } };
-    focus = record { tree = record { 0 = 0 }; node = record { 0 = getD (u .focuses) 0 0 } };
-  }
-
-  first-tree : (m : ℕ) → rootFirst (listOf m (entryIn u)) ≡ true → subtreeFrom 0 (listOf m (entryIn u)) ROOT ≡ some rootState
-  unfolding rootFirst listOf subtreeFrom subtreeState entryIn
-  first-tree zero e = absurd (false≢true e)
-  first-tree (suc k) e =
-      ap (λ (b : Bool). if b then elim (entryIn u 0 .subtree) as (λ _. Option SubtreeState) [ none ↦ none | some v ↦ some (subtreeState 0 v) ] else subtreeFrom 1 (listOf k (λ i. entryIn u (suc i))) ROOT)
-      (same-tree-swap ROOT (entryIn u 0 .id) ∙ both e .0)
-      ∙ born (eqb (getD (u .exists) 0 0) 0) (both e .1)
-    where
-      born : (b : Bool) → isSome (subtreeAt 0 b) ≡ true
-          → (elim (subtreeAt 0 b) as (λ _. Option SubtreeState) [ none ↦ none | some v ↦ some (subtreeState 0 v) ]) ≡ some rootState
-      born true h = absurd (false≢true h)
-      born false h = refl
-
-  pub root-tree : rootFirst (f .trees) ≡ true → subtreeOf f ROOT ≡ some rootState
-  unfolding subtreeOf forestIn
-  root-tree e = first-tree m e
-
-  pub root-is : rootFirst (f .trees) ≡ true → rootOf f ≡ some (rootState .root)
-  unfolding rootOf
-  root-is e = ap (λ (o : Option SubtreeState). elim o as (λ _. Option FullNodeId) [ none ↦ none | some v ↦ some (v .root) ]) (root-tree e)
-
-  -- ## The way down
-
-  pub many : length (f .nodes) ≡ n
+  pub shape-overgrown : length table ≡ 160 → 32 < m → soundShape f ≡ false
   unfolding forestIn
-  many = length-list-of n (nodeIn t)
+  shape-overgrown p h = refuted (λ e. let w = shape-parts f e in root-twice table m 32 (w .first) (omega arith) (omega arith) h (w .one-id))
 
-  pub taken : length (f .trees) ≡ m
-  unfolding forestIn
-  taken = length-list-of m (entryIn u)
+  -- ## From the root
 
+  -- the root as it is met
   abbrev start : Met
-  start = record { id = rootState .root; link = none }
+  start = record { id = record { tree = record { 0 = 0 }; node = treeIn table 0 .root }; link = none }
 
-  module _ (r : ℕ) (found : First (standsAt (t .treeNumbers) (t .nodeNumbers) (rootState .root)) n r) where
-    pub linked-missing : n ≤ r → counted n f (start ∷ []) ≡ false
-    linked-missing h = counted-refused f start [] n (recorded-missing t u n m (rootState .root) r found none h)
+  module _ (r : ℕ) (found : First (standsAt (c .trees) (c .nodes) (record { tree = record { 0 = 0 }; node = treeIn table 0 .root })) n r) where
+    -- an absent root
+    pub linked-absent : n ≤ r → countedAll c table n m ≡ false
+    unfolding countedAll forestIn
+    linked-absent h = counted-refused f start [] n (recorded-absent c (start .id) n r found none h)
 
     module _ (h : r < n) where
-      pub linked-parented : (getD (t .links) r noLink .linked ≡ 0 → ⊥) → counted n f (start ∷ []) ≡ false
+      -- a root with a parent
+      pub linked-parented : (linkIn (c .parents) (c .rows) r .linked ≡ 0 → ⊥) → countedAll c table n m ≡ false
+      unfolding countedAll forestIn linkOf
       linked-parented p =
           counted-refused f start [] n
-          (recorded-found t u n m (rootState .root) r found none h ∙ ap (λ o. sameOption sameLink o none) (link-some (getD (t .links) r noLink) p))
+          (recorded-there c (start .id) n r found none h ∙ ap (λ (b : Bool). sameOption sameLink (if b then none else some (record { parent = linkIn (c .parents) (c .rows) r .parent; index = linkIn (c .parents) (c .rows) r .index })) none) (ne-eqb (linkIn (c .parents) (c .rows) r .linked) 0 p))
 
-      pub linked-below : getD (t .links) r noLink .linked ≡ 0 → counted n f (start ∷ []) ≡ counted (n - 1) f (below f (nodeIn t r))
+      -- a root without one
+      pub linked-below : linkIn (c .parents) (c .rows) r .linked ≡ 0 → countedAll c table n m ≡ countedBelow c table n m r
+      unfolding countedAll countedBelow forestIn linkOf
       linked-below p =
-          counted-on f start [] n (omega arith) (recorded-found t u n m (rootState .root) r found none h ∙ ap (λ o. sameOption sameLink o none) (link-none (getD (t .links) r noLink) p))
-          ∙ ap (counted (n - 1) f) (append-nil (belowId f (rootState .root)) ∙ below-found t u n m (rootState .root) r found h)
+          counted-on f start [] n (omega arith)
+          (recorded-there c (start .id) n r found none h ∙ ap (λ (b : Bool). sameOption sameLink (if b then none else some (record { parent = linkIn (c .parents) (c .rows) r .parent; index = linkIn (c .parents) (c .rows) r .index })) none) (eq-eqb (linkIn (c .parents) (c .rows) r .linked) 0 p))
+          ∙ ap (counted (n - 1) f) (append-nil (belowId f (start .id)) ∙ below-there c (start .id) n r found table m h)
 
   -- ## The focus
 
-  pub focus-is : rootFirst (f .trees) ≡ true → focusPresent f ≡ focusedFrom (m + 1) f (rootState .focus)
-  unfolding focusPresent effectiveFocus focusedFrom
-  focus-is e =
-      ap (λ (o : Option SubtreeState). elim (elim o as (λ _. Option FullNodeId) [ none ↦ none | some v ↦ throughGrafts (suc (length (f .trees))) f (v .focus) ]) as (λ _. Bool) [
-        | none ↦ false
-        | some y ↦ present (f .nodes) y
-      ]) (root-tree e)
-      ∙ ap (λ (k : ℕ). elim (throughGrafts k f (rootState .focus)) as (λ _. Bool) [ none ↦ false | some y ↦ present (f .nodes) y ])
-      (ap suc taken ∙ sym (add-one m))
+  -- a focus that is present
+  abbrev leads : Option FullNodeId → Bool
+  leads o = elim o [ none ↦ false | some y ↦ present (f .nodes) y ]
+
+  module _ (r : FoundNode) (e : foundOf r ≡ effectiveFocus f) where
+    -- no effective focus
+    pub focus-nowhere : r ≡ node.Nothing → focusPresent f ≡ false
+    unfolding focusPresent foundOf
+    focus-nowhere q = ap leads (sym e ∙ ap foundOf q)
+
+    -- an effective focus, with its slot
+    pub focus-found : (x : FullNodeId) → r ≡ node.At x → (i : ℕ) → First (standsAt (c .trees) (c .nodes) x) n i → focusPresent f ≡ ltb i n
+    unfolding focusPresent foundOf forestIn
+    focus-found x q i found = ap leads (sym e ∙ ap foundOf q) ∙ present-slot c x n i found
+
+-- what the lengths of the columns decide
+pub room-is : (trees nodes table : List ℕ) (n m : ℕ) → length trees ≡ 320 → length nodes ≡ 320 → length table ≡ 160
+    → HasRoom trees nodes table n m (leb n (length trees) && leb n (length nodes) && leb m (length table / 5))
+room-is trees nodes table n m long wide tall = record {
+  few-nodes = λ e. omega (arith, leb-true n (length trees) (both (both e .0) .0));
+  few-trees = λ e. let h = leb-true m (length table / 5) (both e .1) in omega arith;
+  past = λ e c p q. go e c p q (decLt 320 n) (decLt 32 m);
+}
+  where
+    go : leb n (length trees) && leb n (length nodes) && leb m (length table / 5) ≡ false
+        → (c : Columns) → c .trees ≡ trees → c .nodes ≡ nodes → Dec (320 < n) → Dec (32 < m) → soundShape (forestIn c table n m) ≡ false
+    go e c p q (yes h) b = shape-crowded c table n m (ap length p ∙ long) (ap length q ∙ wide) h
+    go e c p q (no h) (yes k) = shape-overgrown c table n m tall k
+    go e c p q (no h) (no k) =
+        absurd (clash e (joined (joined (le-leb n (length trees) (omega arith)) (le-leb n (length nodes) (omega arith))) (le-leb m (length table / 5) (omega arith))))
+
+-- ## The whole
+
+module _ (c : Columns) (table : List ℕ) (n m : ℕ) where
+  -- too many nodes
+  pub sound-crowded : 256 < n → sound (forestIn c table n m) ≡ false
+  sound-crowded h =
+      refuted (λ e. omega (arith, leb-true (length (forestIn c table n m .nodes)) 256 (sound-parts (forestIn c table n m) e .few-nodes), many c table n m))
+
+  -- too many trees
+  pub sound-overgrown : 32 < m → sound (forestIn c table n m) ≡ false
+  sound-overgrown h =
+      refuted (λ e. omega (arith, leb-true (length (forestIn c table n m .trees)) 32 (sound-parts (forestIn c table n m) e .few-trees), taken c table n m))
+
+  -- what is left of soundness where there are not too many
+  pub sound-small : n ≤ 256 → m ≤ 32 → {shape fields focus : Bool} → shape ≡ soundShape (forestIn c table n m)
+      → fields ≡ allBelow n (λ i. fieldsOk (bodyIn c i)) → focus ≡ focusPresent (forestIn c table n m) → shape && fields && focus ≡ sound (forestIn c table n m)
+  unfolding sound
+  sound-small few-nodes few-trees p q r =
+      ap₂ {A = Bool} {B = Bool} {C = Bool} (λ a b. a && b) (ap₂ {A = Bool} {B = Bool} {C = Bool} (λ a b. a && b) p (q ∙ sym (fields-are c table n m))) r
+      ∙ sym (fit (soundShape s) (all (λ k. fieldsOk (k .body)) (s .nodes)) (focusPresent s)
+      (le-leb (length (s .nodes)) 256 (omega (arith, many c table n m))) (le-leb (length (s .trees)) 32 (omega (arith, taken c table n m))))
+    where
+      s : Forest
+      s = forestIn c table n m
+
+      fit : (a d e : Bool) {p q : Bool} → p ≡ true → q ≡ true → a && p && q && d && e ≡ a && d && e
+      fit a d e {p} {q} h k =
+          ap₂ {A = Bool} {B = Bool} {C = Bool} (λ x y. a && x && y && d && e) h k ∙ ap (λ (x : Bool). x && d && e) (and-right (a && true) ∙ and-right a)
+
+-- the state that a struct stands for
+pub sound-shown : (s : TreeState) (n : ℕ) → n ≡ slotCount (s .count) → sound (forestIn (columnsOf s) (s .table) n (s .«tree_count»)) ≡ soundState s
+unfolding view
+sound-shown s n e = ap (λ (k : ℕ). sound (forestIn (columnsOf s) (s .table) k (s .«tree_count»))) e

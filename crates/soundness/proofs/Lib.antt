@@ -1,12 +1,8 @@
 pub mod Once
 pub mod Pigeons
 pub mod Order
-pub mod Stored
-pub mod Rows
+pub mod Grafts
 pub mod Trees
-pub mod Rooted
 pub mod Kids
 pub mod Walks
-pub mod Focus
 pub mod Decide
-pub mod Shown

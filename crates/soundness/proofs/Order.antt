@@ -1,131 +1,30 @@
--- Ids in ascending order: neighbours in order are all in order, an id stands in one slot, and bisection finds it. Assumes nothing.
-use mathlib.Core.Bool.{Bool, true, false, false≢true}
+-- No more ids ascend than the columns have room for. Assumes nothing.
+use mathlib.Core.Bool.{false}
 use mathlib.Core.List.{List}
-use mathlib.Core.Logic.{_⊎_, inl, inr}
-use mathlib.Core.Path.{_≡_, refl, sym, _∙_}
-use Prim.Native.Nat.{ℕ, zero, suc, _+_, _-_, _≤_, _<_}
-use native.Mathlib.Decide.{decLt}
-use native.Mathlib.Nat.{eq-or-lt-of-le, le-of-suc-le-suc}
-use native.Mathlib.Numerals.{add-one}
+use mathlib.Core.Path.{_≡_}
+use Prim.Native.Nat.{ℕ, suc, _+_, _-_, _≤_, _<_}
 use native.Mathlib.Omega.{arith}
-use borrow.Author.Tests.{ltb-true, lt-ltb}
-use Rattle.base.specs.Bytes.{listOf}
-use Rattle.base.specs.Search.{First}
-use Rattle.base.proofs.Tests.{both, joined, iff}
-use Rattle.base.proofs.Bytes.{all-below-at, all-list-of}
-use Rattle.base.proofs.Indexed.{all-below-each, all-list-of-at}
-use Rattle.ids.specs.Ids.{before}
-use Rattle.ids.proofs.Ids.{same-id→≡, before-apart, before-trans}
+use lib.ListN.{length, List·getD-eq-default}
+use borrow.Author.Tests.{le-ltb}
+use Rattle.base.proofs.Tests.{and-false}
+use Rattle.base.proofs.Bytes.{all-below-fails}
+use Rattle.ids.specs.Ids.{sameIndex, before}
 use Rattle.ids.specs.declared.FullNodeId.{FullNodeId}
-use Rattle.tree.specs.State.{NodeState}
-use Rattle.tree.specs.Sound.{ascending}
-use Rattle.soundness.specs.Tables.{idIn}
-use Rattle.soundness.specs.Parts.{inOrder, standsAt, inSlot}
+use Rattle.tree.specs.View.{idIn}
+use Rattle.lookup.specs.Lookup.{inOrder}
 
-clash : {b : Bool} → b ≡ false → b ≡ true → ⊥
-clash p q = false≢true (sym p ∙ q)
+-- nothing stands before the least id
+before-least : (x : FullNodeId) → before x (record { tree = record { 0 = 0 }; node = record { 0 = 0 } }) ≡ false
+unfolding before
+before-least x = rw (le-ltb (x .tree .0) 0 (omega arith), le-ltb (x .node .0) 0 (omega arith)) (and-false (sameIndex (x .tree) (record { 0 = 0 })))
 
-module _ (trees nodes : List ℕ) (n : ℕ) (up : inOrder trees nodes n ≡ true) where
-  neighbours : (i : ℕ) → suc i < n → before (idIn trees nodes i) (idIn trees nodes (suc i)) ≡ true
-  unfolding inOrder
-  neighbours i h = rw add-one at (all-below-at (λ k. before (idIn trees nodes k) (idIn trees nodes (k + 1))) (n - 1) i up (omega arith))
+-- past the ends of the columns stands the least id
+id-past : (trees nodes : List ℕ) (i : ℕ) → length trees ≤ i → length nodes ≤ i → idIn trees nodes i ≡ record { tree = record { 0 = 0 }; node = record { 0 = 0 } }
+id-past trees nodes i p q = rw (List·getD-eq-default trees 0 p, List·getD-eq-default nodes 0 q)
 
-  pub in-order-pair : (i k : ℕ) → i < k → k < n → before (idIn trees nodes i) (idIn trees nodes k) ≡ true
-  in-order-pair i zero h l = absurd (omega arith)
-  in-order-pair i (suc k) h l = go (eq-or-lt-of-le (le-of-suc-le-suc h)) (λ b. in-order-pair i k b (omega arith))
-    where
-      go : (i ≡ k) ⊎ (i < k) → (i < k → before (idIn trees nodes i) (idIn trees nodes k) ≡ true) → before (idIn trees nodes i) (idIn trees nodes (suc k)) ≡ true
-      go (inl e) f = rw e (neighbours k l)
-      go (inr b) f = before-trans (idIn trees nodes i) (idIn trees nodes k) (idIn trees nodes (suc k)) (f b) (neighbours k l)
-
-  module _ (x : FullNodeId) where
-    -- what stands before an id is not it, and what an id stands before is not it
-    not-before : (k : ℕ) → before (idIn trees nodes k) x ≡ true → standsAt trees nodes x k ≡ false
-    not-before k b = before-apart (idIn trees nodes k) x b
-
-    not-after : (i k : ℕ) → i < k → k < n → before (idIn trees nodes i) x ≡ false → standsAt trees nodes x k ≡ false
-    not-after i k h l b = go (standsAt trees nodes x k) refl
-      where
-        go : (c : Bool) → standsAt trees nodes x k ≡ c → c ≡ false
-        go false q = refl
-        go true q = absurd (clash b (rw (same-id→≡ x (idIn trees nodes k) q) (in-order-pair i k h l)))
-
-    -- where the id stands, a search from the first slot would find it
-    pub stands-first : (i : ℕ) → inSlot trees nodes n x i ≡ true → First (standsAt trees nodes x) n i
-    unfolding inSlot
-    stands-first i e =
-        let h = ltb-true i n (both e .0) in
-        let at = same-id→≡ x (idIn trees nodes i) (both e .1) in
-        record {
-          within = omega arith;
-          passed = λ k l. not-before k (rw at (in-order-pair k i l h));
-          hit = λ _. both e .1;
-        }
-
-    -- a middle that stands before the id: so do all slots before it
-    pub before-middle : (middle : ℕ) → middle < n → before (idIn trees nodes middle) x ≡ true
-        → (k : ℕ) → k < middle + 1 → before (idIn trees nodes k) x ≡ true
-    before-middle middle h b k l = go (eq-or-lt-of-le (le-of-suc-le-suc (rw add-one at l)))
-      where
-        go : (k ≡ middle) ⊎ (k < middle) → before (idIn trees nodes k) x ≡ true
-        go (inl e) = rw e b
-        go (inr m) = before-trans (idIn trees nodes k) (idIn trees nodes middle) x (in-order-pair k middle m h) b
-
-    -- one that does not: nor does any slot after it
-    pub after-middle : (middle : ℕ) → before (idIn trees nodes middle) x ≡ false
-        → (k : ℕ) → middle ≤ k → k < n → before (idIn trees nodes k) x ≡ false
-    after-middle middle b k l h = on (eq-or-lt-of-le l)
-      where
-        go : middle < k → (c : Bool) → before (idIn trees nodes k) x ≡ c → c ≡ false
-        go m false q = refl
-        go m true q = absurd (clash b (before-trans (idIn trees nodes middle) (idIn trees nodes k) x (in-order-pair middle k m h) q))
-
-        on : (middle ≡ k) ⊎ (middle < k) → before (idIn trees nodes k) x ≡ false
-        on (inl e) = rw (← e) b
-        on (inr m) = go m (before (idIn trees nodes k) x) refl
-
-    -- between the slots that stand before the id and those that do not, the id does not stand: it stands nowhere
-    pub stands-nowhere : (low : ℕ) → ((k : ℕ) → k < low → before (idIn trees nodes k) x ≡ true)
-        → ((k : ℕ) → low ≤ k → k < n → before (idIn trees nodes k) x ≡ false) → inSlot trees nodes n x low ≡ false → First (standsAt trees nodes x) n n
-    unfolding inSlot
-    stands-nowhere low under over e = record { within = omega arith; passed = λ k l. at k l (decLt k low); hit = λ l. absurd (omega arith) }
-      where
-        here : low < n → (c : Bool) → standsAt trees nodes x low ≡ c → c ≡ false
-        here h false q = refl
-        here h true q = absurd (clash e (joined (lt-ltb low n h) q))
-
-        past : (k : ℕ) → k < n → (low ≡ k) ⊎ (low < k) → standsAt trees nodes x k ≡ false
-        past k h (inl q) = rw (← q) (here (omega arith) (standsAt trees nodes x low) refl)
-        past k h (inr l) = not-after low k l h (over low (omega arith) (omega arith))
-
-        at : (k : ℕ) → k < n → Dec (k < low) → standsAt trees nodes x k ≡ false
-        at k h (yes l) = not-before k (under k l)
-        at k h (no l) = let m : low ≤ k = omega arith in past k h (eq-or-lt-of-le m)
-
--- ## The order of nodes
-
-module _ (node : ℕ → NodeState) where
-  after-all : (n : ℕ) → ((i : ℕ) → i < n → before (node i .id) (node (suc i) .id) ≡ true) → (i : ℕ) → i < n → before (node 0 .id) (node (suc i) .id) ≡ true
-  after-all n h zero l = h zero l
-  after-all n h (suc i) l = before-trans (node 0 .id) (node (suc i) .id) (node (suc (suc i)) .id) (after-all n h i (omega arith)) (h (suc i) l)
-
-ascending-each : (n : ℕ) (node : ℕ → NodeState) → ((i : ℕ) → suc i < n → before (node i .id) (node (suc i) .id) ≡ true) → ascending (listOf n node) ≡ true
-unfolding ascending listOf
-ascending-each zero node h = refl
-ascending-each (suc n) node h =
-    joined (all-list-of (λ k. before (node 0 .id) (k .id)) n (λ i. node (suc i)) (λ i l. after-all node n (λ k b. h k (omega arith)) i l))
-    (ascending-each n (λ i. node (suc i)) (λ i l. h (suc i) (omega arith)))
-
-ascending-at : (n : ℕ) (node : ℕ → NodeState) → ascending (listOf n node) ≡ true → (i : ℕ) → suc i < n → before (node i .id) (node (suc i) .id) ≡ true
-unfolding ascending listOf
-ascending-at zero node e i l = absurd (omega arith)
-ascending-at (suc n) node e zero l = all-list-of-at (λ k. before (node 0 .id) (k .id)) n (λ i. node (suc i)) (both e .0) zero (omega arith)
-ascending-at (suc n) node e (suc i) l = ascending-at n (λ i. node (suc i)) (both e .1) i (omega arith)
-
--- neighbours in order is all in order
-pub ascending-indexed : (n : ℕ) (node : ℕ → NodeState) (trees nodes : List ℕ) → ((i : ℕ) → node i .id ≡ idIn trees nodes i)
-    → ascending (listOf n node) ≡ inOrder trees nodes n
+-- one id more than the columns have room for is out of order
+pub out-of-order : (trees nodes : List ℕ) (n k : ℕ) → length trees ≡ suc k → length nodes ≡ suc k → suc k < n → inOrder trees nodes n ≡ false
 unfolding inOrder
-ascending-indexed n node trees nodes same =
-    iff (λ e. all-below-each _ (n - 1) (λ i l. rw (add-one i, ← same i, ← same (suc i)) (ascending-at n node e i (omega arith))))
-    (λ e. ascending-each n node (λ i l. rw (same i, same (suc i), ← add-one i) (all-below-at (λ k. before (idIn trees nodes k) (idIn trees nodes (k + 1))) (n - 1) i e (omega arith))))
+out-of-order trees nodes n k p q h =
+    let e : before (idIn trees nodes k) (idIn trees nodes (k + 1)) ≡ false = rw (id-past trees nodes (k + 1) (omega arith) (omega arith)) (before-least (idIn trees nodes k)) in
+    all-below-fails (λ i. before (idIn trees nodes i) (idIn trees nodes (i + 1))) (n - 1) k (omega arith) e

@@ -1,50 +1,34 @@
--- `soundness::fields_are_ok` meets its contract: each row passed obeys the rules. Assumes nothing.
+-- `soundness::fields_are_ok` meets its contract: each node passed obeys the rules. Assumes nothing.
 use mathlib.Core.Bool.{true}
 use mathlib.Core.List.{List}
 use mathlib.Core.Path.{_≡_, sym}
 use Prim.Native.Nat.{ℕ, _≤_, _-_}
-use lib.ListN.{getD}
 use Rattle.base.proofs.Bytes.{all-below-none, all-below-more, all-below-fails}
+use Rattle.base.proofs.Indexed.{all-below-end}
 use Rattle.base.proofs.Tests.{call-true, call-false}
 use Rattle.base.specs.Bytes.{allBelow}
-use Rattle.base.proofs.Indexed.{all-below-end}
-use Rattle.ids.specs.declared.NodeId.{NodeId}
 use Rattle.record.specs.Batch.{fieldsOk}
-use Rattle.tree.specs.View.{bodyOf, noShape, noData}
+use Rattle.tree.specs.View.{bodyIn}
+use Rattle.focus.specs.Focus.{columns}
 use borrow.Author.Needs.{needs}
 use native.Mathlib.Omega.{arith}
 use Rattle.soundness.proofs.fields_are_ok.Statement.{statement}
 use Rattle.soundness.proofs.fields_are_ok.Tie as tie
 
 abbrev Inv-loop : tie.InvT-loop
-Inv-loop n shapes rows i₀ i = (i ≤ n) × ((pool : List ℕ) (own : ℕ → NodeId) → allBelow i (λ k. fieldsOk (bodyOf pool (own k) (getD shapes k noShape) (getD rows k noData))) ≡ true)
+Inv-loop rows texts floats n i₀ i = (i ≤ n) × ((trees nodes parents children : List ℕ) → allBelow i (λ k. fieldsOk (bodyIn (columns trees nodes rows parents children texts floats) k)) ≡ true)
 
 abbrev μ-loop : tie.MeasureT-loop
-μ-loop n shapes rows i₀ i = n - i
+μ-loop rows texts floats n i₀ i = n - i
 
 loop-holds : tie.Need-loop-holds Inv-loop μ-loop
-loop-holds c = (omega arith, λ pool own. all-below-none _)
+loop-holds c = (omega arith, λ trees nodes parents children. all-below-none _)
 
-mul-s : tie.Need-mul-s Inv-loop μ-loop
-mul-s c = omega arith
-
-array-copy-out-s : tie.Need-array-copy-out-s Inv-loop μ-loop
-array-copy-out-s c = omega arith
-
-mul-d : tie.Need-mul-d Inv-loop μ-loop
-mul-d c = omega arith
-
-array-copy-out-d : tie.Need-array-copy-out-d Inv-loop μ-loop
-array-copy-out-d c = omega arith
-
-fields-ok-requires : tie.Need-fields-ok-requires Inv-loop μ-loop
-fields-ok-requires c κs = search needs
+fields-ok-at-requires : tie.Need-fields-ok-at-requires Inv-loop μ-loop
+fields-ok-at-requires c κs = search needs
 
 returns : tie.Need-returns Inv-loop μ-loop
-returns c =
-    let a = c .before .before .before .before .before .before .args in
-    let l = c .before .before .before .before .before .loop in
-    λ pool own. sym (all-below-fails (λ k. fieldsOk (bodyOf pool (own k) (getD (a .t1) k noShape) (getD (a .t2) k noData))) (a .n) (l .i) (omega arith) (call-false (c .before .fields-ok .ensures pool (own (l .i))) (c .if1 .taken)))
+returns c = λ trees nodes parents children. sym (all-below-fails _ _ _ (omega arith) (call-false (c .before .fields-ok-at .ensures trees nodes parents children) (c .if1 .taken)))
 
 add-i : tie.Need-add-i Inv-loop μ-loop
 add-i c = omega arith
@@ -53,16 +37,10 @@ loop-less : tie.Need-loop-less Inv-loop μ-loop
 loop-less c = omega arith
 
 loop-again : tie.Need-loop-again Inv-loop μ-loop
-loop-again c =
-    let a = c .before .before .before .before .before .before .args in
-    let l = c .before .before .before .before .before .loop in
-    (omega arith, λ pool own. all-below-more (λ k. fieldsOk (bodyOf pool (own k) (getD (a .t1) k noShape) (getD (a .t2) k noData))) (l .i) (l .inv .1 pool own) (call-true (c .before .fields-ok .ensures pool (own (l .i))) (c .if1 .left)))
+loop-again c = (omega arith, λ trees nodes parents children. all-below-more _ _ (c .before .before .before .loop .inv .1 trees nodes parents children) (call-true (c .before .fields-ok-at .ensures trees nodes parents children) (c .if1 .left)))
 
 returns-2 : tie.Need-returns-2 Inv-loop μ-loop
-returns-2 c =
-    let a = c .before .before .args in
-    let l = c .before .loop in
-    λ pool own. sym (all-below-end (λ k. fieldsOk (bodyOf pool (own k) (getD (a .t1) k noShape) (getD (a .t2) k noData))) (a .n) (l .i) (omega arith) (l .inv .1 pool own))
+returns-2 c = λ trees nodes parents children. sym (all-below-end _ _ _ (omega arith) (c .before .loop .inv .1 trees nodes parents children))
 
 pub fields-are-ok-spec : {M : Type 1} → statement M
 fields-are-ok-spec =
@@ -71,11 +49,7 @@ fields-are-ok-spec =
     Inv-loop
     μ-loop
     loop-holds
-    mul-s
-    array-copy-out-s
-    mul-d
-    array-copy-out-d
-    fields-ok-requires
+    fields-ok-at-requires
     returns
     add-i
     loop-less

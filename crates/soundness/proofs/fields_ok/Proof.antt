@@ -1,9 +1,6 @@
 -- `soundness::fields_ok` meets its contract: one test for each rule. Assumes nothing.
-use lib.ListN.{getD}
-use Rattle.base.proofs.Bytes.{length-list-of}
 use Rattle.base.specs.Tests.{_&&_}
 use Rattle.record.specs.Batch.{fieldsOk}
-use Rattle.tree.specs.View.{labelOf, bodyOf}
 use borrow.Author.Needs.{needs}
 use Rattle.soundness.proofs.fields_ok.Statement.{statement}
 use Rattle.soundness.proofs.fields_ok.Tie as tie
@@ -36,8 +33,8 @@ affine-is-finite-requires : tie.Need-affine-is-finite-requires
 affine-is-finite-requires c κs = search needs
 
 returns : tie.Need-returns
-unfolding fieldsOk bodyOf labelOf _&&_
-returns c = let d = c .before .before .before .before .before .before .before .before .before .before .before .before .args .d in λ pool own. cc (length-list-of (d .«label_length») (λ i. getD (d .label) i 0))
+unfolding fieldsOk _&&_
+returns c = λ d label flags active graft bounds transform. cc
 
 pub fields-ok-spec : {M : Type 1} → statement M
 fields-ok-spec =

@@ -1,0 +1,45 @@
+-- `soundness::trees_are_sound` meets its contract: one part for each rule. Assumes nothing.
+use denote.Ref.{now}
+use mathlib.Core.Path.{refl}
+use Rattle.base.specs.Tests.{_&&_}
+use Rattle.tree.specs.View.{forestIn}
+use Rattle.focus.specs.Focus.{columns}
+use Rattle.soundness.specs.Parts.{soundGrafts}
+use Rattle.soundness.proofs.Grafts.{all-bare}
+use Rattle.soundness.proofs.Trees.{rooted-is}
+use borrow.Author.Needs.{needs}
+use Rattle.soundness.proofs.trees_are_sound.Statement.{statement}
+use Rattle.soundness.proofs.trees_are_sound.Tie as tie
+
+grafts-are-bare-requires : tie.Need-grafts-are-bare-requires
+grafts-are-bare-requires c κs = search needs
+
+grafts-differ-requires : tie.Need-grafts-differ-requires
+grafts-differ-requires c κs = search needs
+
+root-is-first-requires : tie.Need-root-is-first-requires
+root-is-first-requires c κs = search needs
+
+ids-differ-requires : tie.Need-ids-differ-requires
+ids-differ-requires c κs = search needs
+
+all-rooted-requires : tie.Need-all-rooted-requires
+all-rooted-requires c κs = search needs
+
+returns : tie.Need-returns
+unfolding soundGrafts forestIn _&&_
+returns c = let a = c .before .before .before .before .before .args in
+    λ parents children texts floats.
+    let cs = columns (now (a .trees)) (now (a .nodes)) (now (a .rows)) parents children texts floats in
+    cc (all-bare cs (a .n), c .before .before .before .grafts-differ .ensures cs refl, rooted-is cs (now (a .table)) (a .n) (a .m))
+
+pub trees-are-sound-spec : {M : Type 1} → statement M
+trees-are-sound-spec =
+    tie.close
+    (tie.spec
+    grafts-are-bare-requires
+    grafts-differ-requires
+    root-is-first-requires
+    ids-differ-requires
+    all-rooted-requires
+    returns)
