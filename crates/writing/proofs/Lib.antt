@@ -1,0 +1,5 @@
+pub mod Rows
+pub mod Sources
+pub mod Texts
+pub mod Plan
+pub mod Nodes
