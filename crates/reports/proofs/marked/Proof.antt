@@ -1,0 +1,24 @@
+-- `reports::marked` meets its contract: the scope says the batch's root, its tree and whether it has tree data. Assumes nothing.
+use mathlib.Core.Option.{Option, some}
+use mathlib.Core.Path.{ap, _∙_}
+use Rattle.base.specs.Tests.{_&&_, sameOption}
+use Rattle.ids.specs.Ids.{sameId}
+use Rattle.ids.specs.declared.FullNodeId.{FullNodeId}
+use Rattle.update.specs.Words.{isRoot}
+use Rattle.update.specs.Outcome.{paneRoot}
+use borrow.Author.Needs.{needs}
+use Rattle.reports.proofs.marked.Statement.{statement}
+use Rattle.reports.proofs.marked.Tie as tie
+
+is-root-requires : tie.Need-is-root-requires
+is-root-requires c κs = search needs
+
+returns : tie.Need-returns
+unfolding paneRoot isRoot _&&_
+returns c =
+    let a = c .before .before .before .args in
+    λ s b scoped.
+    rw (c .before .before .is-root .ensures ∙ ap (λ (o : Option FullNodeId). sameOption sameId o (some (a .x))) (scoped .root), scoped .tree-data, scoped .root-tree)
+
+pub marked-spec : {M : Type 1} → statement M
+marked-spec = tie.close (tie.spec is-root-requires returns)
