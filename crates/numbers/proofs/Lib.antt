@@ -1,0 +1,5 @@
+pub mod Tables
+pub mod Trees
+pub mod Records
+pub mod Scopes
+pub mod Outcomes
