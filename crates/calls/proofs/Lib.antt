@@ -1,0 +1,9 @@
+pub mod Focus
+pub mod Hosts
+pub mod Numbers
+pub mod Starts
+pub mod Slices
+pub mod Extras
+pub mod Updates
+pub mod Answered
+pub mod Seeds
