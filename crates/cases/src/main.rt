@@ -1,41 +1,398 @@
-// Prints the number that each of document 01's cases 1 to 14 answers. That these are the definitions' answers is proved.
-ghost use mathlib.Core.Path.{_≡_};
-ghost use lib.ListN.{getD};
-ghost use Rattle.update.specs.Cases.{caseNumbers};
+// Runs document 01's cases and other worked cases through the three calls. Standard input has a case to a line:
+//   WORDS: CALL; CALL; ..
+// A line's calls follow document 01's S, each on the state that the one before left. After the words stands what the last one answers: its
+// number; if that is 0 how many nodes there are; and the four lists, the focus before and after, the extra ids, each unless it is empty.
+// A call is a batch for ROOT without tree data, with focus 2, and has these marks:
+//   1       node 1 is listed, role 4       /T    the batch is for the tree T
+//   1[2 3]  with the children 2 and 3      =1    it has tree data with the root 1
+//   3^T     it grafts T; ^R grafts ROOT    @3    its focus is 3
+//   3"a     its label is a                 &     a byte follows the record
+//   2>3     its active descendant is 3     |3    three elements are lent for the lists
+//   3+ 3-   its bounds are 0 or -0         !     it is a start, with host focus
+//   4..9    each number from 4 to 9        h H   it is a host focus change, to none or back
+// The file stdout has what document 01 says of each. Nothing of this program is proved but that it is safe and ends.
+ghost use Prim.Native.Nat.{_<_, _≤_};
+ghost use lib.ListN.{length};
+use calls::Answer;
+use draft::Draft;
+use focus::FoundNode;
+use ids::TreeId;
+use libc::STDIN_FILENO;
+use libc::STDOUT_FILENO;
+use tree::TreeState;
 
-const NUMBERS: [u8; 16] = [0, 9, 0, 17, 14, 13, 18, 19, 10, 0, 0, 7, 12, 15, 0, 19];
-
-// What call i of the cases answers, in their order; 255 past the last.
-fn number(i: usize) -> u8
-    ensures { λ r. ⌜ r ≡ getD caseNumbers i 255 ⌝ }
-{
-    if i < 16 {
-        return NUMBERS[i];
-    }
-    255
-}
-
-fn print(words: &[u8], i: usize) {
-    io::write_all(1, words);
-    io::print_decimal(1, number(i) as u64);
-    io::write_all(1, b"\n");
+// A call, as far as its text is read.
+struct Script {
+    draft: Draft,
+    // The last of the marks !, h and H, or 0: a batch.
+    kind: u8,
+    // The mark that says what the next number or letter is, a space where it is a node.
+    mark: u8,
+    // The number that is read, while one is, and the last one before it.
+    reading: bool,
+    number: u64,
+    earlier: u64,
+    // Whether the number ends a row of numbers.
+    row: bool,
+    // How many elements are lent, and how many bytes follow the record.
+    room: usize,
+    more: usize,
 }
 
 fn main() {
-    print(b"case 1, S: ", 0);
-    print(b"case 2, 1 has [2, 2]: ", 1);
-    print(b"case 3, 1 has [2]: ", 2);
-    print(b"case 4, 1 has [2], focus 3: ", 3);
-    print(b"case 5, 1 has [2, 3, 4], no node 4: ", 4);
-    print(b"case 6, node 4 alone: ", 5);
-    print(b"case 7, 3 with a new label, then 1 has [2]: ", 6);
-    print(b"case 7, in the other order: ", 7);
-    print(b"case 8, 3 grafts T with child 2: ", 8);
-    print(b"case 9, 3 grafts T: ", 9);
-    print(b"case 9, then T with root 1: ", 10);
-    print(b"case 10, T without tree data: ", 11);
-    print(b"case 11, 2 and 3 both graft T: ", 12);
-    print(b"case 12, 3 grafts T, focus 3: ", 13);
-    print(b"case 13, 3 plain and 2 grafts T: ", 14);
-    print(b"case 14, 3 has [3]: ", 15);
+    let mut text = io::large_buffer();
+    let n = io::read_full(STDIN_FILENO, &mut text);
+    run(&text[..n]);
+}
+
+// Every line.
+fn run(text: &[u8]) {
+    let mut at: usize = 0;
+    while at < text.len() {
+        at = line(text, at);
+    }
+}
+
+// The line from `from`; where the next one starts.
+fn line(text: &[u8], from: usize) -> usize
+    requires { ⌜ from < length (now text) ⌝ }
+    ensures { λ r. ⌜ (from < r) × (r ≤ length (now (text .entry))) ⌝ }
+{
+    let colon = find(text, from, b':', b'\n');
+    let end = find(text, colon, b'\n', b'\n');
+    io::write_all(STDOUT_FILENO, &text[from..colon]);
+    all_calls(&text[colon..end]);
+    if end < text.len() {
+        end + 1
+    } else {
+        text.len()
+    }
+}
+
+// The first place from `from` on where one of two bytes stands, or the end.
+fn find(text: &[u8], from: usize, byte: u8, other: u8) -> usize
+    requires { ⌜ from ≤ length (now text) ⌝ }
+    ensures { λ r. ⌜ (from ≤ r) × (r ≤ length (now (text .entry))) ⌝ }
+{
+    let mut at = from;
+    while at < text.len() {
+        if (text[at] == byte) | (text[at] == other) {
+            return at;
+        }
+        at += 1;
+    }
+    at
+}
+
+// A line's calls, of which the last one's answer is written.
+fn all_calls(text: &[u8]) {
+    let mut s = first_state();
+    let mut at: usize = 0;
+    loop {
+        let mut lists = [99u64; 1024];
+        let end = find(text, at, b';', b';');
+        let p = read(&text[at..end]);
+        if text.len() <= end {
+            tell(call(s, p, &mut lists), &lists);
+            return;
+        }
+        at = end + 1;
+        s = call(s, p, &mut lists).state;
+    }
+}
+
+// Document 01's S.
+fn first_state() -> TreeState {
+    let mut lists = [0u64; 1024];
+    let p = read(b"! =1 1[2 3] 2 3");
+    call(tree::blank(), p, &mut lists).state
+}
+
+// ## Reading a call
+
+// The call that a text says.
+fn read(text: &[u8]) -> Script {
+    let mut p = Script {
+        draft: draft::batch(2),
+        kind: 0,
+        mark: b' ',
+        reading: false,
+        number: 0,
+        earlier: 0,
+        row: false,
+        room: 1024,
+        more: 0,
+    };
+    let mut i: usize = 0;
+    while i < text.len() {
+        p = step(p, text[i]);
+        i += 1;
+    }
+    taken(p)
+}
+
+// With one byte more.
+fn step(p: Script, byte: u8) -> Script {
+    if (b'0' <= byte) & (byte <= b'9') {
+        return with_digit(p, byte % 16);
+    }
+    let q = taken(p);
+    let mark = q.mark;
+    match mark {
+        b'^' | b'/' | b'"' => letter(q, byte),
+        _ => marked(q, byte),
+    }
+}
+
+// With a digit more of the number.
+fn with_digit(p: Script, digit: u8) -> Script {
+    let mut q = p;
+    q.reading = true;
+    q.number = 10 * (p.number % 65536) + digit as u64;
+    q
+}
+
+// With the number that was read, if one was, put where the mark says.
+fn taken(p: Script) -> Script {
+    if !p.reading {
+        return p;
+    }
+    let mark = p.mark;
+    let n = p.number;
+    let mut q = p;
+    q.reading = false;
+    q.row = false;
+    q.number = 0;
+    q.earlier = n;
+    if mark != b'[' {
+        q.mark = b' ';
+    }
+    if mark == b'|' {
+        q.room = (n % 1025) as usize;
+        return q;
+    }
+    let d = p.draft;
+    let e = with_row(d, mark, first_of(p), n);
+    q.draft = e;
+    q
+}
+
+// The first of the numbers that the number read stands for.
+fn first_of(p: Script) -> u64 {
+    if p.row {
+        return std::num::wrapping_add_u64(p.earlier, 1);
+    }
+    p.number
+}
+
+// With the numbers from first to last put where the mark says.
+fn with_row(d: Draft, mark: u8, first: u64, last: u64) -> Draft {
+    let mut e = d;
+    let mut n = first;
+    while n < last {
+        e = with_number(e, mark, n);
+        n += 1;
+    }
+    with_number(e, mark, last)
+}
+
+// With a number put where the mark says.
+fn with_number(d: Draft, mark: u8, n: u64) -> Draft {
+    match mark {
+        b'[' => d.child(n),
+        b'=' => d.with_root(n),
+        b'@' => d.with_focus(n),
+        b'>' => d.active_descendant(n),
+        _ => d.node(n),
+    }
+}
+
+// With the letter after the mark ^, / or ".
+fn letter(p: Script, byte: u8) -> Script {
+    let mark = p.mark;
+    let d = p.draft;
+    let e = match mark {
+        b'^' => d.graft(tree_named(byte)),
+        b'/' => d.for_tree(tree_named(byte)),
+        _ => d.label(byte),
+    };
+    let mut q = p;
+    q.mark = b' ';
+    q.draft = e;
+    q
+}
+
+// A tree id for each letter, R being ROOT. Capitals differ in the high half, the others in the low one.
+fn tree_named(byte: u8) -> TreeId {
+    if byte == b'R' {
+        return TreeId { high: 0, low: 0 };
+    }
+    if byte < b'a' {
+        return TreeId {
+            high: byte as u64,
+            low: 0,
+        };
+    }
+    TreeId {
+        high: 0,
+        low: byte as u64,
+    }
+}
+
+// With a byte that is no digit and belongs to no mark before it.
+fn marked(p: Script, byte: u8) -> Script {
+    let mut q = p;
+    match byte {
+        b'!' | b'h' | b'H' => q.kind = byte,
+        b'&' => q.more = 1,
+        b'.' => q.row = true,
+        b']' => q.mark = b' ',
+        b'[' | b'=' | b'@' | b'>' | b'|' | b'^' | b'/' | b'"' => q.mark = byte,
+        b'+' | b'-' => {
+            let d = p.draft;
+            let e = d.bounds(zero(byte));
+            q.draft = e;
+        }
+        _ => {}
+    }
+    q
+}
+
+// The bits of 0 or -0.
+fn zero(sign: u8) -> u64 {
+    if sign == b'-' { 9223372036854775808 } else { 0 }
+}
+
+// ## Making a call
+
+// What a call on a state answers.
+fn call(s: TreeState, p: Script, lists: &mut [u64; 1024]) -> Answer {
+    let mut bytes = [0u8; 12352];
+    let d = p.draft;
+    let n = std::num::wrapping_add_usize(d.write(&mut bytes), p.more);
+    call_with(s, p.kind, &bytes, n, lists, p.room)
+}
+
+// The same with the first n bytes for a record.
+fn call_with(
+    s: TreeState,
+    kind: u8,
+    bytes: &[u8; 12352],
+    n: usize,
+    lists: &mut [u64; 1024],
+    room: usize,
+) -> Answer {
+    match kind {
+        b'!' => start(bytes, n),
+        b'h' => calls::host_focus(s, false),
+        b'H' => calls::host_focus(s, true),
+        _ => update(s, bytes, n, lists, room),
+    }
+}
+
+// A start with the first n bytes.
+fn start(bytes: &[u8], n: usize) -> Answer {
+    if n <= bytes.len() {
+        return calls::start(&bytes[0..n], true);
+    }
+    calls::start(bytes, true)
+}
+
+// A batch with the first n bytes, and `room` elements for the lists.
+fn update(s: TreeState, bytes: &[u8], n: usize, lists: &mut [u64], room: usize) -> Answer {
+    if n <= bytes.len() {
+        if room <= lists.len() {
+            return calls::update(s, &bytes[0..n], &mut lists[0..room]);
+        }
+    }
+    calls::update(s, bytes, lists)
+}
+
+// ## Writing an answer
+
+// An answer, with what was lent for its lists.
+fn tell(a: Answer, lists: &[u64; 1024]) {
+    io::write_all(STDOUT_FILENO, b": ");
+    io::print_decimal(STDOUT_FILENO, a.number as u64);
+    if a.number == 0 {
+        io::write_all(STDOUT_FILENO, b" nodes ");
+        io::print_decimal(STDOUT_FILENO, a.state.count as u64);
+    }
+    let from_updated = tell_list(b" added", lists, 0, a.added);
+    let from_removed = tell_list(b" updated", lists, from_updated, a.updated);
+    let from_relinked = tell_list(b" removed", lists, from_removed, a.removed);
+    let end = tell_list(b" relinked", lists, from_relinked, a.relinked);
+    tell_rest(lists, end);
+    let focus_before = a.focus_before;
+    let focus_after = a.focus_after;
+    tell_both(b" focus", focus_before, focus_after);
+    let extra_before = a.extra_before;
+    let extra_after = a.extra_after;
+    tell_both(b" extra", extra_before, extra_after);
+    io::write_all(STDOUT_FILENO, b"\n");
+}
+
+// A list of n ids from `from` on; where it ends.
+fn tell_list(words: &[u8], lists: &[u64; 1024], from: usize, n: usize) -> usize {
+    if n == 0 {
+        return from;
+    }
+    io::write_all(STDOUT_FILENO, words);
+    let mut at = from;
+    let mut left = n;
+    while 0 < left {
+        if 1022 < at {
+            return at;
+        }
+        tell_id(lists[at], lists[at + 1]);
+        at += 2;
+        left -= 1;
+    }
+    at
+}
+
+// Says so where what was lent has changed past the lists.
+fn tell_rest(lists: &[u64; 1024], from: usize) {
+    let mut i = from;
+    while i < 1024 {
+        if lists[i] != 99 {
+            io::write_all(STDOUT_FILENO, b" and more");
+            return;
+        }
+        i += 1;
+    }
+}
+
+// Two nodes, unless there is none.
+fn tell_both(words: &[u8], before: FoundNode, after: FoundNode) {
+    if !(is_found(before) | is_found(after)) {
+        return;
+    }
+    io::write_all(STDOUT_FILENO, words);
+    tell_found(before);
+    tell_found(after);
+}
+
+fn is_found(f: FoundNode) -> bool {
+    if let FoundNode::Nothing = f {
+        false
+    } else {
+        true
+    }
+}
+
+fn tell_found(f: FoundNode) {
+    let FoundNode::At(x) = f else {
+        io::write_all(STDOUT_FILENO, b" none");
+        return;
+    };
+    tell_id(x.tree.0 as u64, x.node.0);
+}
+
+fn tell_id(tree: u64, node: u64) {
+    io::write_all(STDOUT_FILENO, b" (");
+    io::print_decimal(STDOUT_FILENO, tree);
+    io::write_all(STDOUT_FILENO, b",");
+    io::print_decimal(STDOUT_FILENO, node);
+    io::write_all(STDOUT_FILENO, b")");
 }
