@@ -168,7 +168,7 @@ fn updated(s: TreeState, batch: &[u8], changes: &mut [u64]) -> Answer
     let mut floats = [0.0f64; 3200];
     let mut table = s.table;
     let scope = numbers::scope_of(batch, &table, s.tree_count);
-    let a = apply::apply(
+    let done = apply::apply(
         batch,
         scope,
         &s.trees,
@@ -189,13 +189,13 @@ fn updated(s: TreeState, batch: &[u8], changes: &mut [u64]) -> Answer
         &mut floats,
         &mut table,
     );
-    if a.number != 0 {
-        return refused(a.number, s);
+    if done.number != 0 {
+        return refused(done.number, s);
     }
-    let count = a.count;
+    let count = done.count;
     let l = write_lists(
-        &a.before,
-        &a.after,
+        &done.before,
+        &done.after,
         n,
         count,
         &s.trees,
@@ -209,8 +209,8 @@ fn updated(s: TreeState, batch: &[u8], changes: &mut [u64]) -> Answer
     }
     let host_focused = s.host_focused;
     let f = moved_focus(
-        &a.before,
-        &a.after,
+        &done.before,
+        &done.after,
         n,
         m,
         &s.trees,
@@ -218,7 +218,7 @@ fn updated(s: TreeState, batch: &[u8], changes: &mut [u64]) -> Answer
         &s.rows,
         &s.table,
         count,
-        a.trees,
+        done.trees,
         &trees,
         &nodes,
         &rows,
@@ -234,7 +234,7 @@ fn updated(s: TreeState, batch: &[u8], changes: &mut [u64]) -> Answer
         trees,
         parents,
         count: count as u16,
-        tree_count: a.trees as u16,
+        tree_count: done.trees as u16,
         texts,
         host_focused,
     };
