@@ -11,6 +11,8 @@
 //   3+ 3-   its bounds are 0 or -0         !     it is a start, with host focus
 //   4..9    each number from 4 to 9        h H   it is a host focus change, to none or back
 // The file stdout has what document 01 says of each. Nothing of this program is proved but that it is safe and ends.
+mod draft;
+
 ghost use Prim.Native.Nat.{_<_, _≤_};
 ghost use lib.ListN.{length};
 use calls::Answer;

@@ -145,7 +145,7 @@ fn goes_down<'a>(
 }
 
 // Whether going down from ROOT's root, which has no parent, meets each node once, by its recorded link.
-pub fn is_linked<'a>(
+pub(crate) fn is_linked<'a>(
     trees: &'a [u32; 320],
     nodes: &'a [u64; 320],
     parents: &'a [u32; 320],

@@ -1,14 +1,14 @@
--- `draft::put_words` meets its contract: every place stays within the bytes. Assumes nothing.
+-- `cases::draft::put_bytes` meets its contract: every place stays within the bytes. Assumes nothing.
 use Prim.Native.Nat.{_≤_, _-_}
 use borrow.Author.Needs.{needs}
-use Rattle.draft.proofs.put_words.Statement.{statement}
-use Rattle.draft.proofs.put_words.Tie as tie
+use Rattle.cases.proofs.draft.put_bytes.Statement.{statement}
+use Rattle.cases.proofs.draft.put_bytes.Tie as tie
 
 abbrev Inv-loop : tie.InvT-loop
-Inv-loop bytes₀ at words n i₀ to₀ bytes i to = 0 ≤ i
+Inv-loop bytes₀ at label n i₀ to₀ bytes i to = 0 ≤ i
 
 abbrev μ-loop : tie.MeasureT-loop
-μ-loop bytes₀ at words n i₀ to₀ bytes i to = n - i
+μ-loop bytes₀ at label n i₀ to₀ bytes i to = n - i
 
 loop-holds : tie.Need-loop-holds Inv-loop μ-loop
 loop-holds c = search needs
@@ -19,14 +19,11 @@ returns c = search needs
 returns-2 : tie.Need-returns-2 Inv-loop μ-loop
 returns-2 c = search needs
 
-mul-put-word : tie.Need-mul-put-word Inv-loop μ-loop
-mul-put-word c = search needs
+shared-slice-read-bytes : tie.Need-shared-slice-read-bytes Inv-loop μ-loop
+shared-slice-read-bytes c = search needs
 
-shared-slice-read-put-word : tie.Need-shared-slice-read-put-word Inv-loop μ-loop
-shared-slice-read-put-word c = search needs
-
-put-word-requires : tie.Need-put-word-requires Inv-loop μ-loop
-put-word-requires c κs = search needs
+element-write-bytes : tie.Need-element-write-bytes Inv-loop μ-loop
+element-write-bytes c = search needs
 
 add-to : tie.Need-add-to Inv-loop μ-loop
 add-to c = search needs
@@ -43,8 +40,8 @@ loop-again c = search needs
 returns-3 : tie.Need-returns-3 Inv-loop μ-loop
 returns-3 c = search needs
 
-pub put-words-spec : {M : Type 1} → statement M
-put-words-spec =
+pub put-bytes-spec : {M : Type 1} → statement M
+put-bytes-spec =
     tie.close
     (tie.spec
     Inv-loop
@@ -52,9 +49,8 @@ put-words-spec =
     loop-holds
     returns
     returns-2
-    mul-put-word
-    shared-slice-read-put-word
-    put-word-requires
+    shared-slice-read-bytes
+    element-write-bytes
     add-to
     add-i
     loop-less

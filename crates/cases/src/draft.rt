@@ -4,7 +4,7 @@ ghost use Prim.Native.Nat.{_≤_};
 use ids::TreeId;
 
 // A batch in the making, with room for one node past the limit. What finds no room is left out, and what is never said is zero.
-pub struct Draft {
+pub(crate) struct Draft {
     tree: TreeId,
     tree_data: usize,
     root: u64,
@@ -19,7 +19,7 @@ pub struct Draft {
 }
 
 // A batch for ROOT without tree data that lists nothing.
-pub fn batch(focus: u64) -> Draft {
+pub(crate) fn batch(focus: u64) -> Draft {
     Draft {
         tree: TreeId { high: 0, low: 0 },
         tree_data: 0,
@@ -36,26 +36,26 @@ pub fn batch(focus: u64) -> Draft {
 
 impl Draft {
     // For another tree.
-    pub fn for_tree(mut self, tree: TreeId) -> Draft {
+    pub(crate) fn for_tree(mut self, tree: TreeId) -> Draft {
         self.tree = tree;
         self
     }
 
     // With tree data.
-    pub fn with_root(mut self, root: u64) -> Draft {
+    pub(crate) fn with_root(mut self, root: u64) -> Draft {
         self.tree_data = 1;
         self.root = root;
         self
     }
 
     // With another focus.
-    pub fn with_focus(mut self, focus: u64) -> Draft {
+    pub(crate) fn with_focus(mut self, focus: u64) -> Draft {
         self.focus = focus;
         self
     }
 
     // Lists a node of role 4. What follows is said of the node listed last.
-    pub fn node(mut self, id: u64) -> Draft {
+    pub(crate) fn node(mut self, id: u64) -> Draft {
         let i = self.node_count;
         if 65 <= i {
             return self;
@@ -70,7 +70,7 @@ impl Draft {
     }
 
     // Names a child.
-    pub fn child(mut self, id: u64) -> Draft {
+    pub(crate) fn child(mut self, id: u64) -> Draft {
         let k = self.child_count;
         if 256 <= k {
             return self;
@@ -84,7 +84,7 @@ impl Draft {
     }
 
     // A byte more of its label.
-    pub fn label(mut self, byte: u8) -> Draft {
+    pub(crate) fn label(mut self, byte: u8) -> Draft {
         let k = self.label_length;
         if 64 <= k {
             return self;
@@ -98,7 +98,7 @@ impl Draft {
     }
 
     // The tree that it grafts.
-    pub fn graft(mut self, tree: TreeId) -> Draft {
+    pub(crate) fn graft(mut self, tree: TreeId) -> Draft {
         let at = last(self.node_count);
         self.nodes[at + 2] = tree.high;
         self.nodes[at + 3] = tree.low;
@@ -106,14 +106,14 @@ impl Draft {
     }
 
     // Its active descendant.
-    pub fn active_descendant(mut self, id: u64) -> Draft {
+    pub(crate) fn active_descendant(mut self, id: u64) -> Draft {
         let at = last(self.node_count);
         self.nodes[at + 1] = id;
         self.flag(4)
     }
 
     // Its bounds, four numbers of these bits.
-    pub fn bounds(mut self, bits: u64) -> Draft {
+    pub(crate) fn bounds(mut self, bits: u64) -> Draft {
         let at = last(self.node_count);
         self.nodes[at + 6] = bits;
         self.nodes[at + 7] = bits;
@@ -131,7 +131,7 @@ impl Draft {
     }
 
     // Writes the record; how long it is.
-    pub fn write(self, bytes: &mut [u8; 12352]) -> usize {
+    pub(crate) fn write(self, bytes: &mut [u8; 12352]) -> usize {
         let n = least(self.node_count, 65);
         let c = least(self.child_count, 256);
         let k = least(self.label_length, 64);

@@ -1,8 +1,8 @@
--- `draft::put_word` meets its contract: every place stays within the bytes. Assumes nothing.
+-- `cases::draft::put_word` meets its contract: every place stays within the bytes. Assumes nothing.
 use Prim.Native.Nat.{_≤_, _-_}
 use borrow.Author.Needs.{needs}
-use Rattle.draft.proofs.put_word.Statement.{statement}
-use Rattle.draft.proofs.put_word.Tie as tie
+use Rattle.cases.proofs.draft.put_word.Statement.{statement}
+use Rattle.cases.proofs.draft.put_word.Tie as tie
 
 abbrev Inv-loop : tie.InvT-loop
 Inv-loop bytes₀ at word rest₀ i₀ bytes rest i = (i ≤ 8) × (at ≤ 12344)
