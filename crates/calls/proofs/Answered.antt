@@ -25,13 +25,14 @@ use Rattle.numbers.specs.Rows.{firstNumber, ScopeOf}
 use Rattle.apply.specs.Applied.{laterNumber, Given, AppliedTo, AppliedOf, treesAfter}
 use Rattle.apply.specs.declared.Applied.{Applied}
 use Rattle.apply.proofs.Outcome.{trees-after}
-use Rattle.calls.specs.declared.Answer.{Answer}
-use Rattle.calls.specs.declared.Lists.{Lists}
-use Rattle.calls.specs.declared.Moved.{Moved}
+use Rattle.calls.specs.declared.in_place.Step.{Step}
+use Rattle.calls.specs.declared.parts.Lists.{Lists}
+use Rattle.calls.specs.declared.parts.Moved.{Moved}
 use Rattle.calls.specs.Answers.{Says, Keeps}
-use Rattle.calls.specs.Parts.{Refused, FocusMoved, changesIn, ListsWritten}
+use Rattle.calls.specs.InPlace.{stateIn, answerIn, refusedStep}
+use Rattle.calls.specs.Parts.{FocusMoved, changesIn, ListsWritten}
 use Rattle.calls.proofs.Numbers.{later-pass, first-passed, update-later, update-full, update-done, listable}
-use Rattle.calls.proofs.Updates.{refusal, lists-are, focus-was, focus-becomes, lost-is, got-is}
+use Rattle.calls.proofs.Updates.{step-refusal, lists-are, focus-was, focus-becomes, lost-is, got-is}
 
 -- at most one tree more
 trees-few : (c : Scope) (m : ℕ) → treesAfter c m ≤ m + 1
@@ -62,35 +63,21 @@ module _ (bytes : List ℕ) (f : Forest) (b : Batch) (c : Scope) (given : Given 
     trees-fit =
         omega (arith, length-list-of (a .trees) (entryIn table), ap (λ (g : Forest). length (g .trees)) (does .forest-is (later-pass f b done)), trees-after-few)
 
--- the columns of the next state
-abbrev pub nextState : Columns → List ℕ → ℕ → ℕ → ℕ → TreeState
-nextState out table count trees host = record {
-  rows = out .rows;
-  nodes = out .nodes;
-  children = out .children;
-  table = table;
-  floats = out .floats;
-  trees = out .trees;
-  parents = out .parents;
-  count = count;
-  «tree_count» = trees;
-  texts = out .texts;
-  «host_focused» = host;
-}
-
 -- what it stands for
 pub next-view : (out : Columns) (table : List ℕ) (count trees host : ℕ) (o : Forest) → count ≤ 320 → forestIn out table count trees ≡ o
-    → view (nextState out table count trees host) ≡ record { forest = o; hostFocused = not (eqb host 0) }
+    → view (stateIn out table count trees host) ≡ record { forest = o; hostFocused = not (eqb host 0) }
 unfolding view
 next-view out table count trees host o few is =
     let same : min count 320 ≡ count = omega arith in
     ap (λ (g : Forest). record { forest = g; hostFocused = not (eqb host 0) }) (ap (λ (k : ℕ). forestIn out table k trees) same ∙ is)
 
--- the answer with lists
-abbrev pub listAnswer : TreeState → Lists → Moved → Answer
-listAnswer next l r = record {
+-- the step with lists
+abbrev pub listStep : ℕ → ℕ → ℕ → Lists → Moved → Step
+listStep count trees host l r = record {
   number = 0;
-  state = next;
+  count = count;
+  «tree_count» = trees;
+  «host_focused» = host;
   added = l .added;
   updated = l .updated;
   removed = l .removed;
@@ -144,13 +131,15 @@ module _ (s : TreeState) (bytes slice : List ℕ) (n : ℕ) (slots : n ≡ slotC
   applied = does b given
 
   -- a number of rows 9 to 20
-  pub later-refused : (x : Answer) → (a .number ≡ 0 → ⊥) → Refused (a .number) s x → Keeps s x slice (definition.update (view s) bytes slice)
+  pub later-refused : (x : Step) → (a .number ≡ 0 → ⊥) → x ≡ refusedStep (a .number) (s .count) (s .«tree_count») (s .«host_focused»)
+      → Keeps s (answerIn x (columnsOf s) (s .table)) slice (definition.update (view s) bytes slice)
   later-refused x wrong r = go (a .number) refl r
     where
-      go : (k : ℕ) → a .number ≡ k → Refused k s x → Keeps s x slice (definition.update (view s) bytes slice)
+      go : (k : ℕ) → a .number ≡ k → x ≡ refusedStep k (s .count) (s .«tree_count») (s .«host_focused»)
+          → Keeps s (answerIn x (columnsOf s) (s .table)) slice (definition.update (view s) bytes slice)
       go zero e q = absurd (wrong e)
       go (suc k) e q =
-          refusal s x (suc k) slice _ q
+          step-refusal s x (suc k) slice _ q
           (update-later (view s) bytes slice passed k (ap (λ (v : State). laterNumber (v .forest) b) (sym shown) ∙ sym (applied .number-is) ∙ e))
 
   module _ (none : a .number ≡ 0) where
@@ -175,12 +164,13 @@ module _ (s : TreeState) (bytes slice : List ℕ) (n : ℕ) (slots : n ≡ slotC
           at lists
 
       -- row 21
-      pub short-refused : (x : Answer) → not (l .fit) ≡ true → Refused 21 s x → Keeps s x after (definition.update (view s) bytes slice)
+      pub short-refused : (x : Step) → not (l .fit) ≡ true → x ≡ refusedStep 21 (s .count) (s .«tree_count») (s .«host_focused»)
+          → Keeps s (answerIn x (columnsOf s) (s .table)) after (definition.update (view s) bytes slice)
       short-refused x short r =
           let fit : l .fit ≡ false = not-true short in
           let same : after ≡ slice = written .slice-is ∙ rw fit in
           rw same
-          (refusal s x 21 slice _ r
+          (step-refusal s x 21 slice _ r
           (ap (λ (v : State). definition.update v bytes slice) (sym shown)
           ∙ update-full st bytes slice passed-here done (not-false (sym (written .fit-is) ∙ fit))
           ∙ ap (λ (v : State). definition.refused 21 v slice) shown))
@@ -200,7 +190,7 @@ module _ (s : TreeState) (bytes slice : List ℕ) (n : ℕ) (slots : n ≡ slotC
             ap (λ (v : State). definition.update v bytes slice) (sym shown)
             ∙ update-done st bytes slice passed-here done (not-true (sym (written .fit-is) ∙ fit))
 
-        says : Says (listAnswer (nextState out table (a .count) (a .trees) (s .«host_focused»)) l r) after (definition.accepted st st′ (changesOf f b) slice)
+        says : Says (answerIn (listStep (a .count) (a .trees) (s .«host_focused») l r) out table) after (definition.accepted st st′ (changesOf f b) slice)
         unfolding definition.accepted lengthsOf
         says =
             let before-says = applied .before-is (later-pass f b done) in
@@ -221,5 +211,5 @@ module _ (s : TreeState) (bytes slice : List ℕ) (n : ℕ) (slots : n ≡ slotC
             }
 
         -- no number
-        pub answered : Keeps s (listAnswer (nextState out table (a .count) (a .trees) (s .«host_focused»)) l r) after (definition.update (view s) bytes slice)
+        pub answered : Keeps s (answerIn (listStep (a .count) (a .trees) (s .«host_focused») l r) out table) after (definition.update (view s) bytes slice)
         answered = record { says = rw accepted-is says; handed-back = λ wrong. absurd (wrong refl) }

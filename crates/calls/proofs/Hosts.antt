@@ -17,31 +17,23 @@ use Rattle.focus.specs.Focus.{foundOf}
 use Rattle.focus.specs.declared.FoundNode.{FoundNode}
 use Rattle.update.specs.Reports.{noChanges, lengthsOf, words, changeWords, lent, unlessIn, focusMoved, extraBefore, extraAfter}
 use Rattle.update.specs.Calls as definition
-use Rattle.calls.specs.declared.Answer.{Answer}
+use Rattle.calls.specs.declared.in_place.Step.{Step}
 use Rattle.calls.specs.Answers.{Says, Keeps}
-use Rattle.calls.specs.Parts.{Refused, FocusIn}
+use Rattle.calls.specs.InPlace.{stateIn, answerIn, refusedStep}
+use Rattle.calls.specs.Parts.{FocusIn}
+use Rattle.calls.proofs.Updates.{step-refusal}
 
 -- the state with another host flag
 abbrev pub flaggedState : TreeState → ℕ → TreeState
-flaggedState s next = record {
-  rows = s .rows;
-  nodes = s .nodes;
-  children = s .children;
-  table = s .table;
-  floats = s .floats;
-  trees = s .trees;
-  parents = s .parents;
+flaggedState s next = stateIn (columnsOf s) (s .table) (s .count) (s .«tree_count») next
+
+-- the step with no lists
+abbrev pub hostStep : TreeState → ℕ → FoundNode → FoundNode → FoundNode → FoundNode → Step
+hostStep s next was is lost got = record {
+  number = 0;
   count = s .count;
   «tree_count» = s .«tree_count»;
-  texts = s .texts;
   «host_focused» = next;
-}
-
--- the answer with no lists
-abbrev pub hostAnswer : TreeState → ℕ → FoundNode → FoundNode → FoundNode → FoundNode → Answer
-hostAnswer s next was is lost got = record {
-  number = 0;
-  state = flaggedState s next;
   added = 0;
   updated = 0;
   removed = 0;
@@ -64,9 +56,10 @@ extra-of moved x = ap (λ o. if moved then o else none) (sym (unless-in-none x))
 
 module _ (s : TreeState) (h : Bool) where
   -- a refusal of a state that is not sound
-  pub host-refused : (a : Answer) → sound (view s .forest) ≡ false → Refused 1 s a → Keeps s a [] (definition.hostFocus (view s) h)
+  pub host-refused : (x : Step) → sound (view s .forest) ≡ false → x ≡ refusedStep 1 (s .count) (s .«tree_count») (s .«host_focused»)
+      → Keeps s (answerIn x (columnsOf s) (s .table)) [] (definition.hostFocus (view s) h)
   unfolding definition.hostFocus
-  host-refused a e r = record { says = rw e (r .says []); handed-back = λ _. r .state-is }
+  host-refused x e r = step-refusal s x 1 [] _ r (rw e)
 
   module _ (n next : ℕ) (slots : n ≡ slotCount (s .count)) (flag : not (eqb next 0) ≡ h) where
     -- the flag is the one asked for
@@ -101,7 +94,7 @@ module _ (s : TreeState) (h : Bool) where
       unfolding focusMoved
       moved-is = ap not (compared ∙ ap₂ (sameOption sameId) before-is after-is)
 
-      host-says : Says (hostAnswer s next was is lost got) [] (definition.accepted (view s) s′ noChanges [])
+      host-says : Says (answerIn (hostStep s next was is lost got) (columnsOf s) (s .table)) [] (definition.accepted (view s) s′ noChanges [])
       unfolding definition.accepted noChanges lengthsOf words changeWords lent extraBefore extraAfter
       host-says = record {
         number-is = refl;
@@ -118,6 +111,6 @@ module _ (s : TreeState) (h : Bool) where
       }
 
       -- the answer for a sound state
-      pub host-kept : sound (view s .forest) ≡ true → Keeps s (hostAnswer s next was is lost got) [] (definition.hostFocus (view s) h)
+      pub host-kept : sound (view s .forest) ≡ true → Keeps s (answerIn (hostStep s next was is lost got) (columnsOf s) (s .table)) [] (definition.hostFocus (view s) h)
       unfolding definition.hostFocus
       host-kept e = record { says = rw e host-says; handed-back = λ no. absurd (no refl) }

@@ -1,5 +1,4 @@
 pub mod Focus
-pub mod Hosts
 pub mod Numbers
 pub mod Starts
 pub mod Slices
@@ -7,3 +6,4 @@ pub mod Extras
 pub mod Updates
 pub mod Answered
 pub mod Seeds
+pub mod Hosts

@@ -13,8 +13,7 @@ use Rattle.record.specs.Batch.{Batch}
 use Rattle.reader.specs.Reader.{batchIn, rootOrZero}
 use Rattle.tree.specs.State.{TreeEntry, Forest}
 use Rattle.tree.specs.Focus.{stateFocus}
-use Rattle.tree.specs.View.{Columns, entryIn, forestIn, view, emptyState}
-use Rattle.tree.specs.declared.TreeState.{TreeState}
+use Rattle.tree.specs.View.{Columns, entryIn, forestIn, view}
 use Rattle.focus.specs.Focus.{foundOf}
 use Rattle.focus.specs.declared.FoundNode.{FoundNode}
 use Rattle.focus.specs.declared.FoundNode.the-variants as node
@@ -27,24 +26,34 @@ use Rattle.words.proofs.Kept.{kept-seed}
 use Rattle.numbers.specs.Rows.{startRows, StartScope}
 use Rattle.apply.specs.Applied.{laterNumber, Given, AppliedTo, AppliedOf}
 use Rattle.apply.specs.declared.Applied.{Applied}
-use Rattle.calls.specs.declared.Answer.{Answer}
+use Rattle.calls.specs.declared.in_place.Step.{Step}
 use Rattle.calls.specs.Answers.{Says}
-use Rattle.calls.specs.Parts.{Refused, FocusIn}
+use Rattle.calls.specs.InPlace.{stateIn, answerIn, refusedStep, StartedIn}
+use Rattle.calls.specs.Parts.{FocusIn}
 use Rattle.calls.proofs.Numbers.{later-pass}
+use Rattle.calls.proofs.Updates.{refused-step}
 use Rattle.calls.proofs.Starts.{start-first, start-begun, start-later, start-done, start-listable}
-use Rattle.calls.proofs.Answered.{count-fits, trees-fit, nextState, next-view}
+use Rattle.calls.proofs.Answered.{count-fits, trees-fit, next-view}
 
--- a refusal hands the blank state back
-blank-refusal : (s : TreeState) (a : Answer) (k : ℕ) (d : definition.Answer) → view s ≡ emptyState → Refused k s a → d ≡ definition.refused k definition.blank []
-    → Says a [] d
-unfolding definition.blank emptyState
-blank-refusal s a k d e r q = rw (q, ← e) (r .says [])
+-- no node and no tree counted: the blank state, whatever the columns hold
+blank-view : (c : Columns) (table : List ℕ) → view (stateIn c table 0 0 0) ≡ definition.blank
+unfolding view forestIn listOf definition.blank
+blank-view c table = refl
+
+-- a refusal counts no node and no tree
+blank-refusal : (c : Columns) (table : List ℕ) (x : Step) (k : ℕ) (d : definition.Answer) → x ≡ refusedStep k 0 0 0 → d ≡ definition.refused k definition.blank []
+    → StartedIn c table c table x d
+blank-refusal c table x k d e q = record {
+  says = rw (e, q, ← blank-view c table) (refused-step k 0 0 0 c table .says []);
+  untouched = λ _. refl;
+  table-untouched = λ _. refl;
+}
 
 -- rows 2 to 5
-pub begun-refused : (s : TreeState) (bytes : List ℕ) (h : Bool) (a : Answer) (k : ℕ) → view s ≡ emptyState → k ≡ startRows bytes → (k ≡ 0 → ⊥) → Refused k s a
-    → Says a [] (definition.start bytes h)
-begun-refused s bytes h a zero v e wrong r = absurd (wrong refl)
-begun-refused s bytes h a (suc k) v e wrong r = blank-refusal s a (suc k) _ v r (start-first bytes h k (sym e))
+pub begun-refused : (c : Columns) (table : List ℕ) (bytes : List ℕ) (h : Bool) (x : Step) (k : ℕ) → k ≡ startRows bytes → (k ≡ 0 → ⊥)
+    → x ≡ refusedStep k 0 0 0 → StartedIn c table c table x (definition.start bytes h)
+begun-refused c table bytes h x zero e wrong r = absurd (wrong refl)
+begun-refused c table bytes h x (suc k) e wrong r = blank-refusal c table x (suc k) _ r (start-first bytes h k (sym e))
 
 -- ROOT's entry
 abbrev rootEntry : NodeId → NodeId → TreeEntry
@@ -61,11 +70,13 @@ seed-shown c table b e q = ap (λ (t : TreeEntry). record { nodes = []; trees = 
     go none f = absurd (true≢false f)
     go (some r) f = refl
 
--- the answer of a start
-abbrev pub startAnswer : TreeState → FoundNode → Answer
-startAnswer next is = record {
+-- the step of a start
+abbrev pub startStep : ℕ → ℕ → ℕ → FoundNode → Step
+startStep count trees host is = record {
   number = 0;
-  state = next;
+  count = count;
+  «tree_count» = trees;
+  «host_focused» = host;
   added = 0;
   updated = 0;
   removed = 0;
@@ -76,7 +87,7 @@ startAnswer next is = record {
   «extra_after» = node.Nothing;
 }
 
-module _ (s : TreeState) (blank : view s ≡ emptyState) (bytes : List ℕ) (host : ℕ) (passed : startRows bytes ≡ 0) (cols : Columns) (was : List ℕ)
+module _ (bytes : List ℕ) (host : ℕ) (passed : startRows bytes ≡ 0) (cols : Columns) (lent was : List ℕ)
     (root focus : NodeId) (root-is : root ≡ rootOrZero (batchIn bytes .root)) (focus-is : focus ≡ batchIn bytes .focus) (seeded : entryIn was 0 ≡ rootEntry root focus)
     (c : Scope) (scope-is : StartScope bytes c) (out : Columns) (table : List ℕ) (a : Applied)
     (does : AppliedOf bytes c cols was 0 1 out table a) where
@@ -108,12 +119,12 @@ module _ (s : TreeState) (blank : view s ≡ emptyState) (bytes : List ℕ) (hos
   applied = (rw (seed-shown cols was (batchIn bytes) (start-begun bytes h passed .rooted) (seeded ∙ ap₂ rootEntry root-is focus-is)) at (does b)) given
 
   -- a number of rows 9 to 20
-  pub start-refused : (x : Answer) → (a .number ≡ 0 → ⊥) → Refused (a .number) s x → Says x [] (definition.start bytes h)
+  pub start-refused : (x : Step) → (a .number ≡ 0 → ⊥) → x ≡ refusedStep (a .number) 0 0 0 → StartedIn cols lent cols lent x (definition.start bytes h)
   start-refused x wrong r = go (a .number) refl r
     where
-      go : (k : ℕ) → a .number ≡ k → Refused k s x → Says x [] (definition.start bytes h)
+      go : (k : ℕ) → a .number ≡ k → x ≡ refusedStep k 0 0 0 → StartedIn cols lent cols lent x (definition.start bytes h)
       go zero e q = absurd (wrong e)
-      go (suc k) e q = blank-refusal s x (suc k) _ blank q (start-later bytes h (start-begun bytes h passed) k (sym (applied .number-is) ∙ e))
+      go (suc k) e q = blank-refusal cols lent x (suc k) _ q (start-later bytes h (start-begun bytes h passed) k (sym (applied .number-is) ∙ e))
 
   module _ (none : a .number ≡ 0) where
     done : laterNumber f b ≡ 0
@@ -125,11 +136,10 @@ module _ (s : TreeState) (blank : view s ≡ emptyState) (bytes : List ℕ) (hos
     pub start-trees : a .trees ≤ 33
     start-trees = trees-fit bytes f b c given out table a applied done
 
-    -- no number
-    pub start-answered : (is : FoundNode) → FocusIn (out .trees) (out .nodes) (out .rows) table (a .count) (a .trees) host is
-        → Says (startAnswer (nextState out table (a .count) (a .trees) host) is) [] (definition.start bytes h)
+    start-says : (is : FoundNode) → FocusIn (out .trees) (out .nodes) (out .rows) table (a .count) (a .trees) host is
+        → Says (answerIn (startStep (a .count) (a .trees) host is) out table) [] (definition.start bytes h)
     unfolding definition.started noChanges lengthsOf foundOf
-    start-answered is way =
+    start-says is way =
         rw (start-done bytes h (start-begun bytes h passed) done)
         (record {
           number-is = refl;
@@ -146,3 +156,8 @@ module _ (s : TreeState) (blank : view s ≡ emptyState) (bytes : List ℕ) (hos
           extra-after-is = refl;
           slice-is = refl;
         })
+
+    -- no number
+    pub start-answered : (is : FoundNode) → FocusIn (out .trees) (out .nodes) (out .rows) table (a .count) (a .trees) host is
+        → StartedIn cols lent out table (startStep (a .count) (a .trees) host is) (definition.start bytes h)
+    start-answered is way = record { says = start-says is way; untouched = λ wrong. absurd (wrong refl); table-untouched = λ wrong. absurd (wrong refl) }

@@ -17,28 +17,70 @@ use Rattle.tree.specs.View.{Columns, idIn, forestIn, slotCount, columnsOf, view
 use Rattle.tree.specs.declared.TreeState.{TreeState}
 use Rattle.focus.specs.Focus.{foundOf}
 use Rattle.update.specs.Outcome.{outcome}
-use Rattle.update.specs.Reports.{Changes, changesOf, changesWith, unlessIn, focusMoved, extraBefore, extraAfter}
+use Rattle.update.specs.Reports.{Changes, noChanges, lengthsOf, changesOf, changesWith, unlessIn, focusMoved, extraBefore, extraAfter}
 use Rattle.update.specs.Calls as definition
 use Rattle.words.specs.Says.{idAt}
 use Rattle.reports.specs.Flags.{ChangesSay, AdditionsSay, picked}
 use Rattle.reports.proofs.Lists.{picked-forest, picked-added, picked-updated, picked-removed, picked-relinked}
 use Rattle.numbers.specs.Rows.{firstNumber}
 use Rattle.calls.specs.declared.Answer.{Answer}
-use Rattle.calls.specs.declared.Moved.{Moved}
-use Rattle.calls.specs.Answers.{Keeps}
-use Rattle.calls.specs.Parts.{Refused, FocusMoved, apart, changesIn}
+use Rattle.calls.specs.declared.in_place.Step.{Step}
+use Rattle.calls.specs.declared.parts.Moved.{Moved}
+use Rattle.calls.specs.Answers.{Says, Keeps}
+use Rattle.calls.specs.InPlace.{stateIn, answerIn, refusedStep}
+use Rattle.calls.specs.Parts.{FocusMoved, apart, changesIn}
 use Rattle.calls.proofs.Numbers.{update-first}
 use Rattle.calls.proofs.Extras.{flagged-before, flagged-updated, flagged-added, unless-listed, unless-either}
+
+-- a refusal: the state handed in, the other parts 0 or none
+pub record Refused (number : ℕ) (s : TreeState) (a : Answer) : Type 0 where
+  pub number-is : a .number ≡ number
+  pub state-is : a .state ≡ s
+  pub says : (slice : List ℕ) → Says a slice (definition.refused number (view s) slice)
+
+-- what a refusal in place says, of any columns
+pub refused-step : (k count trees host : ℕ) (c : Columns) (table : List ℕ)
+    → Refused k (stateIn c table count trees host) (answerIn (refusedStep k count trees host) c table)
+unfolding foundOf noChanges lengthsOf definition.refused
+refused-step k count trees host c table = record {
+  number-is = refl;
+  state-is = refl;
+  says = λ slice. record {
+    number-is = refl;
+    state-is = refl;
+    added-is = refl;
+    updated-is = refl;
+    removed-is = refl;
+    relinked-is = refl;
+    focus-before-is = refl;
+    focus-after-is = refl;
+    extra-before-is = refl;
+    extra-after-is = refl;
+    slice-is = refl;
+  };
+}
 
 -- a refusal with the definition's number
 pub refusal : (s : TreeState) (a : Answer) (k : ℕ) (slice : List ℕ) (d : definition.Answer) → Refused k s a → d ≡ definition.refused k (view s) slice → Keeps s a slice d
 refusal s a k slice d r e = record { says = rw e (r .says slice); handed-back = λ _. r .state-is }
 
+-- a refusal in place with the definition's number
+pub step-refusal : (s : TreeState) (x : Step) (k : ℕ) (slice : List ℕ) (d : definition.Answer)
+    → x ≡ refusedStep k (s .count) (s .«tree_count») (s .«host_focused»)
+    → d ≡ definition.refused k (view s) slice
+    → Keeps s (answerIn x (columnsOf s) (s .table)) slice d
+step-refusal s x k slice d e q =
+    rw e
+    (refusal s (answerIn (refusedStep k (s .count) (s .«tree_count») (s .«host_focused»)) (columnsOf s) (s .table)) k slice d
+    (refused-step k (s .count) (s .«tree_count») (s .«host_focused») (columnsOf s) (s .table))
+    q)
+
 -- rows 1, 2 and 5 to 8
-pub first-refused : (s : TreeState) (bytes slice : List ℕ) (a : Answer) (k : ℕ) → k ≡ firstNumber (view s .forest) bytes → (k ≡ 0 → ⊥) → Refused k s a
-    → Keeps s a slice (definition.update (view s) bytes slice)
-first-refused s bytes slice a zero e wrong r = absurd (wrong refl)
-first-refused s bytes slice a (suc k) e wrong r = refusal s a (suc k) slice _ r (update-first (view s) bytes slice k (sym e))
+pub first-refused : (s : TreeState) (bytes slice : List ℕ) (x : Step) (k : ℕ) → k ≡ firstNumber (view s .forest) bytes → (k ≡ 0 → ⊥)
+    → x ≡ refusedStep k (s .count) (s .«tree_count») (s .«host_focused»)
+    → Keeps s (answerIn x (columnsOf s) (s .table)) slice (definition.update (view s) bytes slice)
+first-refused s bytes slice x zero e wrong r = absurd (wrong refl)
+first-refused s bytes slice x (suc k) e wrong r = step-refusal s x (suc k) slice _ r (update-first (view s) bytes slice k (sym e))
 
 -- the number found in the columns is the state's
 pub first-shown : (s : TreeState) (bytes : List ℕ) (n : ℕ) → n ≡ slotCount (s .count)

@@ -11,24 +11,14 @@ use Rattle.base.specs.Tests.{_&&_, if_then_else_, sameOption, position}
 use Rattle.base.specs.Bytes.{bit, listOf}
 use Rattle.ids.specs.Ids.{sameId}
 use Rattle.ids.specs.declared.FullNodeId.{FullNodeId}
-use Rattle.tree.specs.declared.TreeState.{TreeState}
 use Rattle.tree.specs.Focus.{stateFocus}
-use Rattle.tree.specs.View.{idIn, forestIn, view}
+use Rattle.tree.specs.View.{idIn, forestIn}
 use Rattle.focus.specs.Focus.{foundOf, columns}
 use Rattle.focus.specs.declared.FoundNode.{FoundNode}
 use Rattle.update.specs.Reports.{Changes, changeWords, lent}
-use Rattle.update.specs.Calls as definition
 use Rattle.reports.specs.Flags.{picked}
-use Rattle.calls.specs.declared.Answer.{Answer}
-use Rattle.calls.specs.declared.Lists.{Lists}
-use Rattle.calls.specs.declared.Moved.{Moved}
-use Rattle.calls.specs.Answers.{Says}
-
--- a refusal: the state handed in, the other parts 0 or none
-pub record Refused (number : ℕ) (s : TreeState) (a : Answer) : Type 0 where
-  pub number-is : a .number ≡ number
-  pub state-is : a .state ≡ s
-  pub says : (slice : List ℕ) → Says a slice (definition.refused number (view s) slice)
+use Rattle.calls.specs.declared.parts.Lists.{Lists}
+use Rattle.calls.specs.declared.parts.Moved.{Moved}
 
 -- the answer of `TreeState::focus` of n nodes and m trees
 abbrev pub FocusIn : List ℕ → List ℕ → List ℕ → List ℕ → ℕ → ℕ → ℕ → FoundNode → Type 0

@@ -1,52 +1,20 @@
--- `calls::update` meets its contract: a number of the first rows, or the rest of the code. Assumes nothing.
-use mathlib.Core.Path.{sym, _∙_}
-use denote.Ref.{now}
-use Rattle.calls.proofs.Updates.{first-refused, first-shown}
+-- `calls::update` meets its contract: the answer is the one in place. Assumes nothing.
 use borrow.Author.Needs.{needs}
 use Rattle.calls.proofs.update.Statement.{statement}
 use Rattle.calls.proofs.update.Tie as tie
 
-slots-requires : tie.Need-slots-requires
-slots-requires c κs = search needs
+update-requires : tie.Need-update-requires
+update-requires c κs = search needs
 
-cast-m : tie.Need-cast-m
-cast-m c = search needs
-
-first-rows-requires : tie.Need-first-rows-requires
-first-rows-requires c κs = search needs
-
-refused-requires : tie.Need-refused-requires
-refused-requires c κs = search needs
-
-returns : tie.Need-returns
-returns c =
-    let p = c .before .before in
-    let z = p .before .before .before .before .before .before .before .before .before .before in
-    let a = z .before .before .before .args in
-    first-refused (a .t1) (now (a .batch)) (now (a .changes)) (c .refused .result) _ (p .first-rows .ensures ∙ first-shown (a .t1) (now (a .batch)) _ (z .slots .ensures)) (c .before .if1 .taken) (c .refused .ensures)
-
-updated-requires : tie.Need-updated-requires
-updated-requires c κs =
-    let p = c .before .before in
-    let z = p .before .before .before .before .before .before .before .before .before .before in
-    let a = z .before .before .before .args in
-    sym (p .first-rows .ensures ∙ first-shown (a .t1) (now (a .batch)) _ (z .slots .ensures)) ∙ c .before .if1 .left
+answer-of-requires : tie.Need-answer-of-requires
+answer-of-requires c κs = search needs
 
 same-length : tie.Need-same-length
 same-length c = search needs
 
-returns-2 : tie.Need-returns-2
-returns-2 c = search needs
+returns : tie.Need-returns
+returns c =
+    rw (c .answer-of .ensures) (c .before .before .before .update .ensures)
 
 pub update-spec : {M : Type 1} → statement M
-update-spec =
-    tie.close
-    (tie.spec
-    slots-requires
-    cast-m
-    first-rows-requires
-    refused-requires
-    returns
-    updated-requires
-    same-length
-    returns-2)
+update-spec = tie.close (tie.spec update-requires answer-of-requires same-length returns)
