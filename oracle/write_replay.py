@@ -3,14 +3,62 @@
 
     ACCESSKIT_CONSUMER_SRC=.. python3 oracle/write_replay.py --seed 5 --calls 2200
 
-The driver `calls` makes the calls and answers them with the crate's real source (README.md). It runs twice: for histories near 256 nodes, which
+The program `calls` makes the calls and answers them with the crate's real source (README.md). It runs twice: for histories near 256 nodes, which
 have the calls of number 20, and for the rest. Every call that it prints is taken, in its order. Of each answer the list has every part, the state
 as a digest; crates/replay/src/frame.rt says how a call is laid out. The expected output is counted from the crate's answers; the program is not
 run. The same seed gives the same files. The script stops if a number from 0 to 21 has fewer than 20 calls.
 """
-import argparse, collections, json, os, struct, subprocess, sys
+import argparse, collections, ctypes, json, os, struct, subprocess, sys
 
-from check_code import HERE, REPOSITORY, SOURCE, encode, in_memory
+HERE = os.path.dirname(os.path.abspath(__file__))
+REPOSITORY = os.path.dirname(HERE)
+SOURCE = 'ACCESSKIT_CONSUMER_SRC'
+
+
+# ## Records and states
+
+# The library's memory of a state.
+class State(ctypes.Structure):
+    _fields_ = [('rows', ctypes.c_uint64 * 2880), ('nodes', ctypes.c_uint64 * 320), ('children', ctypes.c_uint64 * 512), ('table', ctypes.c_uint64 * 160),
+                ('floats', ctypes.c_uint64 * 3200), ('trees', ctypes.c_uint32 * 320), ('parents', ctypes.c_uint32 * 320), ('count', ctypes.c_uint16),
+                ('tree_count', ctypes.c_uint16), ('texts', ctypes.c_uint8 * 10880), ('host_focused', ctypes.c_uint8)]
+
+
+def encode(b):
+    if 'bytes' in b:
+        return bytes(b['bytes'])
+    bodies = [x['data'] for x in b['nodes']]
+    entries, labels = sum(len(d['children']) for d in bodies), sum(len(d['label']) for d in bodies)
+    at = 64 + 128 * len(bodies)
+    out = struct.pack('<HHHHIIII', len(bodies), entries, labels, int(b['root'] is not None), 64, at, at + 8 * entries, at + 8 * entries + labels)
+    out += struct.pack('<QQQQQ', *b['tree'], b['root'] or 0, b['focus'], 0)
+    first = start = 0
+    for x, d in zip(b['nodes'], bodies):
+        out += struct.pack('<QQQQHHHHBB6x', x['id'], d['active'], *d['graft'], first, len(d['children']), start, len(d['label']), d['role'], d['flags'])
+        out += struct.pack('<10Q', *d['bounds'], *d['transform'])
+        first, start = first + len(d['children']), start + len(d['label'])
+    return out + b''.join(struct.pack('<Q', c) for d in bodies for c in d['children']) + b''.join(bytes(d['label']) for d in bodies)
+
+
+def in_memory(s):
+    t, entry = State(), 0
+    for i, x in enumerate(s['nodes']):
+        d = x['data']
+        t.trees[i], t.nodes[i] = x['id']
+        if x['link'] is not None:
+            (t.parents[i], parent), place = x['link']
+            t.rows[9 * i:9 * i + 3] = [parent, place, 1]
+        t.rows[9 * i + 3:9 * i + 9] = [*d['graft'], d['flags'], entry, len(d['children']), d['active']]
+        t.children[entry:entry + len(d['children'])] = d['children']
+        entry += len(d['children'])
+        t.texts[34 * i:34 * i + 2] = [d['role'], len(d['label'])]
+        kept = d['label'][:32]
+        t.texts[34 * i + 2:34 * i + 2 + len(kept)] = kept
+        t.floats[10 * i:10 * i + 10] = d['bounds'] + d['transform']
+    for k, x in enumerate(s['trees']):
+        t.table[5 * k:5 * k + 5] = [*x['id'], *(x['at'] or [0, 0]), int(x['at'] is not None)]
+    t.count, t.tree_count, t.host_focused = len(s['nodes']), len(s['trees']), int(s['host'])
+    return t
 
 OVERFLOWS = 24
 KINDS = {'start': 0, 'update': 1, 'host': 2}

@@ -34,14 +34,25 @@ pub struct Scope {
 pub fn position_of(keys: &[u64], n: usize, x: u64) -> usize
     ensures { λ r. ⌜ First (λ i. eqb (getD (now (keys .entry)) i 0) x) n r ⌝ }
 {
+    let m = least(n, keys.len());
     let mut i = 0usize;
-    while i < n {
-        if key_at(keys, i) == x {
+    while i < m {
+        if keys[i] == x {
             return i;
         }
         i += 1;
     }
-    n
+    if n <= m {
+        return n;
+    }
+    if x < 1 { m } else { n }
+}
+
+// The lesser of two numbers.
+fn least(a: usize, b: usize) -> usize
+    ensures { λ r. ⌜ r ≡ min a b ⌝ }
+{
+    if a < b { a } else { b }
 }
 
 // Key i, 0 past the last.

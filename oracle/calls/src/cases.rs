@@ -1,34 +1,42 @@
 //! Document 01's cases 1 to 14 and known traps of the update, each with the
 //! number that it must get. They open every run.
 use crate::judge::{Call, Held, Input, judge};
+use crate::make::filler;
 use crate::plain::*;
 
-const T: Tid = (0, 7);
-const U: Tid = (8, 0);
+/// Two tree ids that are not ROOT.
+pub const T: Tid = (0, 7);
+pub const U: Tid = (8, 0);
 
-type Nodes = Vec<(u64, Data)>;
+/// The nodes of a batch.
+pub type Nodes = Vec<(u64, Data)>;
 
-fn with(n: u64, children: &[u64]) -> (u64, Data) {
+/// A node of role 4 with these children.
+pub fn with(n: u64, children: &[u64]) -> (u64, Data) {
     (n, Data { role: 4, children: children.to_vec(), ..Data::default() })
 }
 
-fn leaf(n: u64) -> (u64, Data) {
+/// A node of role 4 without children.
+pub fn leaf(n: u64) -> (u64, Data) {
     with(n, &[])
 }
 
-fn grafts(n: u64, tree: Tid) -> (u64, Data) {
+/// A node that grafts a tree.
+pub fn grafts(n: u64, tree: Tid) -> (u64, Data) {
     let mut node = leaf(n);
     node.1.set_graft(Some(tree));
     node
 }
 
-fn graft_with(n: u64, children: &[u64]) -> (u64, Data) {
+/// A node that grafts T and has children all the same.
+pub fn graft_with(n: u64, children: &[u64]) -> (u64, Data) {
     let mut node = with(n, children);
     node.1.set_graft(Some(T));
     node
 }
 
-fn labelled(n: u64) -> (u64, Data) {
+/// A leaf with a label.
+pub fn labelled(n: u64) -> (u64, Data) {
     let mut node = leaf(n);
     node.1.label = vec![97];
     node
@@ -41,13 +49,14 @@ fn boxed(bits: u64) -> (u64, Data) {
     node
 }
 
-fn start(nodes: Nodes) -> Call {
-    Call::Start(Input::Batch(Batch { tree: ROOT, root: Some(1), focus: 2, nodes }), true)
+/// A start with root 1, host focused.
+pub fn start(focus: u64, nodes: Nodes) -> Call {
+    Call::Start(Input::Batch(Batch { tree: ROOT, root: Some(1), focus, nodes }), true)
 }
 
-fn batch(tree: Tid, root: Option<u64>, focus: u64, nodes: Nodes) -> Call {
-    let slice = (0..40).map(|i| 900_000 + i).collect();
-    Call::Update(Input::Batch(Batch { tree, root, focus, nodes }), slice)
+/// A batch with room for its lists.
+pub fn batch(tree: Tid, root: Option<u64>, focus: u64, nodes: Nodes) -> Call {
+    Call::Update(Input::Batch(Batch { tree, root, focus, nodes }), filler(40))
 }
 
 /// For ROOT, without tree data, with focus 2.
@@ -55,32 +64,34 @@ fn plain(nodes: Nodes) -> Call {
     batch(ROOT, None, 2, nodes)
 }
 
-fn after(on: &Held, call: Call) -> Held {
+/// The state after a call that is accepted.
+pub fn after(on: &Held, call: Call) -> Held {
     judge(Some(on), &call).1.expect("accepted")
 }
 
 fn s() -> Call {
-    start(vec![with(1, &[2, 3]), leaf(2), leaf(3)])
+    start(2, vec![with(1, &[2, 3]), leaf(2), leaf(3)])
 }
 
 /// States that calls are made on.
-struct On {
-    s: Held,
+pub struct On {
+    pub s: Held,
     /// S, then 3 grafts T.
-    held: Held,
+    pub held: Held,
     /// Then T with the one node 1.
-    filled: Held,
+    pub filled: Held,
     /// S, 3 grafts T, T has 1 with [2], 2 with [3].
-    deep: Held,
+    pub deep: Held,
     /// S, 3 grafts T, T's 2 grafts U, U has the one node 1.
-    nested: Held,
+    pub nested: Held,
     /// 1 has [2, 3], 2 has [4], 4 grafts T.
-    below: Held,
+    pub below: Held,
     /// S, then 2 grafts T, with focus 3.
-    second: Held,
+    pub second: Held,
 }
 
-fn states() -> On {
+/// The states, each made by calls.
+pub fn states() -> On {
     let s = judge(None, &s()).1.unwrap();
     let held = after(&s, plain(vec![grafts(3, T)]));
     let filled = after(&held, batch(T, Some(1), 1, vec![leaf(1)]));
@@ -98,7 +109,7 @@ pub fn known() -> Vec<(Option<Held>, Call, u8)> {
     let x = vec![
         // document 01
         (None, s(), 0),
-        (None, start(vec![with(1, &[2, 2]), leaf(2), leaf(3)]), 9),
+        (None, start(2, vec![with(1, &[2, 2]), leaf(2), leaf(3)]), 9),
         (Some(&on.s), plain(vec![with(1, &[2, 2])]), 9),
         (Some(&on.s), plain(vec![with(1, &[2])]), 0),
         (Some(&on.s), batch(ROOT, None, 3, vec![with(1, &[2])]), 17),

@@ -5,7 +5,7 @@ use crate::plain::*;
 use accesskit::{Affine, Node, NodeId, Rect, TreeId, TreeInfo, TreeUpdate};
 use accesskit_consumer::node::probe::parts;
 use accesskit_consumer::tree::TreeState;
-use accesskit_consumer::tree::probe::{self, Heard};
+use accesskit_consumer::tree::probe::{self, Dump, Heard, Ran};
 use std::collections::{BTreeMap, BTreeSet};
 
 /// What a call is handed as its record: a batch to be encoded, or bytes as they are.
@@ -16,6 +16,15 @@ pub enum Input {
 }
 
 impl Input {
+    /// The bytes of the record.
+    pub fn bytes(&self) -> Vec<u8> {
+        match self {
+            Input::Batch(b) => b.encode(),
+            Input::Bytes(bytes) => bytes.clone(),
+        }
+    }
+
+    /// The batch, if the bytes hold one.
     fn read(&self) -> Option<Batch> {
         match self {
             Input::Batch(b) => Batch::decode(&b.encode()).inspect(|read| assert_eq!(read, b)),
@@ -29,6 +38,25 @@ pub enum Call {
     Start(Input, bool),
     Update(Input, Vec<u64>),
     Host(bool),
+}
+
+impl Call {
+    /// `s` a start, `u` a batch, `h` a host focus change.
+    pub fn kind(&self) -> char {
+        match self {
+            Call::Start(..) => 's',
+            Call::Update(..) => 'u',
+            Call::Host(_) => 'h',
+        }
+    }
+
+    /// How many nodes the call's batch lists, where it is handed over as a batch.
+    pub fn listed(&self) -> usize {
+        match self {
+            Call::Start(Input::Batch(b), _) | Call::Update(Input::Batch(b), _) => b.nodes.len(),
+            _ => 0,
+        }
+    }
 }
 
 /// At any number but 0 only the number, the state and the slice say something.
@@ -47,6 +75,39 @@ pub struct Answer {
     pub slice: Vec<u64>,
     /// The lost parent link was put back.
     pub restored: bool,
+    /// What the crate itself did where document 01's own rule gave the number.
+    pub did: Option<Did>,
+}
+
+/// What the crate did with a call, whatever document 01 adds to it.
+#[derive(Clone, Copy, Debug, PartialEq, Eq, PartialOrd, Ord)]
+pub enum Did {
+    /// It accepted, and the links and trees of its outcome are sound.
+    Accepted,
+    /// It accepted, and they are not.
+    AcceptedUnsound,
+    /// `update` accepted and the wrapper's reports panicked.
+    WrapperPanicked(&'static str),
+    /// It panicked, with these words in the message.
+    Panicked(&'static str),
+}
+
+impl Answer {
+    /// The four lists in their order.
+    fn lists(&self) -> [&Vec<Id>; 4] {
+        [&self.added, &self.updated, &self.removed, &self.relinked]
+    }
+
+    /// How many elements the four lists take.
+    pub fn listed(&self) -> usize {
+        2 * self.lists().iter().map(|l| l.len()).sum::<usize>()
+    }
+
+    /// Writes the four lists into the slice.
+    fn write_lists(&mut self) {
+        let lists: Vec<u64> = self.lists().into_iter().flatten().flat_map(|x| [x.0 as u64, x.1]).collect();
+        self.slice[..lists.len()].copy_from_slice(&lists);
+    }
 }
 
 /// The crate's state and the same as a plain value.
@@ -73,9 +134,9 @@ pub fn on_unsound(before: &State, call: &Call) -> Answer {
 
 /// The answer of a call on a sound state (none: a start) and the next state if accepted.
 pub fn judge(before: Option<&Held>, call: &Call) -> (Answer, Option<Held>) {
-    let refused = |(number, said): Refused| {
-        let answer = refusal(number, before.map(|h| &h.plain), call);
-        (Answer { said, ..answer }, None)
+    let refused = |why: Refused| {
+        let answer = refusal(why.number, before.map(|h| &h.plain), call);
+        (Answer { said: why.said, did: why.did, ..answer }, None)
     };
     match call {
         Call::Start(input, host) => match start(input, *host) {
@@ -101,91 +162,130 @@ pub fn judge(before: Option<&Held>, call: &Call) -> (Answer, Option<Held>) {
     }
 }
 
-/// A number, and the words of the crate's panic, if that gave it.
-type Refused = (u8, &'static str);
+/// Why a call is refused: the number, with the words of the crate's panic if that gave it, or with what the
+/// crate did if it did not.
+struct Refused {
+    number: u8,
+    said: &'static str,
+    did: Option<Did>,
+}
 
-fn added_row(number: u8) -> Refused {
-    (number, "")
+/// A number of document 01's own.
+fn added_row(number: u8, did: Option<Did>) -> Refused {
+    Refused { number, said: "", did }
 }
 
 fn start(input: &Input, host: bool) -> Result<Held, Refused> {
-    let batch = input.read().ok_or(added_row(2))?;
+    let batch = input.read().ok_or(added_row(2, None))?;
     if batch.lists_twice() {
         // 3 and 4 come first, and do not hang on the nodes
         let bare = Batch { nodes: vec![], ..batch.clone() };
         return Err(match probe::start(to_update(&bare), host) {
-            Err(said) if panic_row(&said).0 <= 4 => panic_row(&said),
-            _ => added_row(5),
+            Err(said) if panic_row(&said).number <= 4 => panic_row(&said),
+            _ => added_row(5, Some(did_at_start(&probe::start(to_update(&batch), host)))),
         });
     }
-    let inner = probe::start(to_update(&batch), host).map_err(|said| panic_row(&said))?;
-    let plain = plain(&inner);
-    if !plain.sound_links() || !holders_agree(&inner, &plain) {
-        return Err(added_row(19));
+    let ran = probe::start(to_update(&batch), host);
+    let did = did_at_start(&ran);
+    let inner = ran.map_err(|said| panic_row(&said))?;
+    if did == Did::AcceptedUnsound {
+        return Err(added_row(19, Some(did)));
     }
+    let plain = plain(&inner);
     assert!(plain.sound());
     Ok(Held { inner, plain })
 }
 
 fn update(old: &Held, input: &Input, slice: &[u64]) -> Result<(Answer, Held), Refused> {
-    let batch = input.read().ok_or(added_row(2))?;
-    if batch.lists_twice() {
-        return Err(added_row(5));
-    }
+    let batch = input.read().ok_or(added_row(2, None))?;
+    let twice = batch.lists_twice();
     let full = old.plain.trees.len() == TREES && old.plain.number_of(batch.tree).is_none();
-    let ran = probe::update(&old.inner, to_update(&batch)).map_err(|said| {
-        let row = panic_row(&said);
-        if full && row.0 > 7 { added_row(8) } else { row }
-    })?;
-    if full {
-        return Err(added_row(8));
-    }
+    let mut ran = probe::update(&old.inner, to_update(&batch));
+    let restored = ran.as_mut().is_ok_and(|ran| restore_link(old, &batch, &mut ran.state));
+    let next = ran.as_ref().ok().map(|ran| Held { plain: plain(&ran.state), inner: ran.state.clone() });
+    let did = did_at_update(&ran, next.as_ref());
+    let ran = match ran {
+        _ if twice => return Err(added_row(5, Some(did))),
+        Err(said) if full && !(6..=7).contains(&panic_row(&said).number) => {
+            return Err(added_row(8, Some(did)));
+        }
+        Ok(_) if full => return Err(added_row(8, Some(did))),
+        Err(said) => return Err(panic_row(&said)),
+        Ok(ran) => ran,
+    };
     if ran.removed.iter().any(|x| ran.added.contains(x) || ran.updated.contains(x)) {
-        return Err(added_row(18));
+        assert!(matches!(did, Did::WrapperPanicked(_)));
+        return Err(added_row(18, None));
     }
-    let mut inner = ran.state;
-    let restored = restore_link(old, &batch, &mut inner);
-    let next = Held { plain: plain(&inner), inner };
-    if !next.plain.sound_links() || !holders_agree(&next.inner, &next.plain) {
-        return Err(added_row(19));
+    let next = next.unwrap();
+    if !is_sound(&next) {
+        return Err(added_row(19, Some(did)));
     }
     if next.plain.nodes.len() > NODES {
-        return Err(added_row(20));
+        return Err(added_row(20, Some(did)));
     }
     assert!(next.plain.sound());
-    let parent = |s: &State, x: &Id| s.nodes.get(x).map(|n| n.0.map(|l| l.0));
-    let relinked: Vec<Id> = old
-        .plain
-        .nodes
-        .keys()
-        .filter(|x| parent(&next.plain, x).is_some_and(|p| Some(p) != parent(&old.plain, x)))
-        .copied()
-        .collect();
+    let answer = Answer { restored, ..accepted(old, &next, ran, slice) };
+    if answer.listed() > slice.len() {
+        return Err(added_row(21, Some(did)));
+    }
+    Ok((answer, next))
+}
+
+/// The answer of an accepted batch, the lists written if the slice has room for them.
+fn accepted(old: &Held, next: &Held, ran: Ran, slice: &[u64]) -> Answer {
     let sorted = |s: BTreeSet<Id>| s.into_iter().collect::<Vec<_>>();
     let mut answer = Answer {
         state: next.plain.clone(),
         added: sorted(ran.added),
         updated: sorted(ran.updated),
         removed: sorted(ran.removed),
-        relinked,
+        relinked: relinked(&old.plain, &next.plain),
         slice: slice.to_vec(),
-        restored,
         ..Answer::default()
     };
-    let lists: Vec<u64> = [&answer.added, &answer.updated, &answer.removed, &answer.relinked]
-        .into_iter()
-        .flatten()
-        .flat_map(|x| [x.0 as u64, x.1])
-        .collect();
-    if lists.len() > slice.len() {
-        return Err(added_row(21));
+    if answer.listed() <= slice.len() {
+        answer.write_lists();
     }
-    answer.slice[..lists.len()].copy_from_slice(&lists);
     let heard = ran.wrapper.expect("the wrapper panicked on an accepted batch");
     assert_eq!(sorted(heard.added.iter().copied().collect()), answer.added);
     assert_eq!(sorted(heard.removed.iter().copied().collect()), answer.removed);
-    tell_focus(&mut answer, old, &next, &heard);
-    Ok((answer, next))
+    tell_focus(&mut answer, old, next, &heard);
+    answer
+}
+
+/// The ids present before and after whose parent differs.
+fn relinked(before: &State, after: &State) -> Vec<Id> {
+    let parent = |s: &State, x: &Id| s.nodes.get(x).map(|n| n.0.map(|l| l.0));
+    let differs = |x: &&Id| parent(after, x).is_some_and(|p| Some(p) != parent(before, x));
+    before.nodes.keys().filter(differs).copied().collect()
+}
+
+/// What the crate did with a start.
+fn did_at_start(ran: &Result<TreeState, String>) -> Did {
+    match ran {
+        Err(said) => Did::Panicked(words_of(said)),
+        Ok(inner) => accepted_as(is_sound(&Held { plain: plain(inner), inner: inner.clone() })),
+    }
+}
+
+/// What the crate did with a batch; `next` is its outcome, the lost link put back.
+fn did_at_update(ran: &Result<Ran, String>, next: Option<&Held>) -> Did {
+    match ran {
+        Err(said) => Did::Panicked(words_of(said)),
+        Ok(Ran { wrapper: Err(said), .. }) => Did::WrapperPanicked(words_of(said)),
+        Ok(_) => accepted_as(next.is_some_and(is_sound)),
+    }
+}
+
+/// Accepted, by whether the outcome is sound.
+fn accepted_as(sound: bool) -> Did {
+    if sound { Did::Accepted } else { Did::AcceptedUnsound }
+}
+
+/// The links and trees of an outcome of the crate are sound, and its graft holders are those of its nodes.
+fn is_sound(next: &Held) -> bool {
+    next.plain.sound_links() && holders_agree(&next.inner, &next.plain)
 }
 
 /// Focus before and after, and the extra ids that `process_changes` reported.
@@ -231,27 +331,35 @@ fn holders_agree(inner: &TreeState, plain: &State) -> bool {
     holders == plain.grafts().into_iter().collect()
 }
 
+/// Words that tell the crate's panic messages, with document 01's numbers. (Ids in a message may come in the
+/// order of a hash set.)
+const PANICS: [(&str, u8); 13] = [
+    ("Tried to initialize the accessibility tree without a root tree", 3),
+    ("Cannot initialize with a subtree", 4),
+    ("Cannot push subtree", 6),
+    ("Cannot update subtree", 7),
+    ("TreeUpdate includes duplicate child", 9),
+    ("has both tree_id and children", 10),
+    ("Cannot graft the root tree", 11),
+    ("already has a graft parent", 12),
+    ("nodes which are neither in the current tree nor a child", 13),
+    ("children ids which are neither in the current tree nor the ID", 14),
+    ("Focus is on graft node", 15),
+    ("Root ID", 16),
+    ("Focused ID", 17),
+];
+
 /// The number that document 01 gives to a panic message of the crate, and the words that tell it.
-/// (Ids in the message may come in the order of a hash set.)
 fn panic_row(said: &str) -> Refused {
-    const ROWS: [(&str, u8); 13] = [
-        ("Tried to initialize the accessibility tree without a root tree", 3),
-        ("Cannot initialize with a subtree", 4),
-        ("Cannot push subtree", 6),
-        ("Cannot update subtree", 7),
-        ("TreeUpdate includes duplicate child", 9),
-        ("has both tree_id and children", 10),
-        ("Cannot graft the root tree", 11),
-        ("already has a graft parent", 12),
-        ("nodes which are neither in the current tree nor a child", 13),
-        ("children ids which are neither in the current tree nor the ID", 14),
-        ("Focus is on graft node", 15),
-        ("Root ID", 16),
-        ("Focused ID", 17),
-    ];
-    let row = ROWS.iter().find(|(words, _)| said.contains(words));
+    let row = PANICS.iter().find(|(words, _)| said.contains(words));
     let (words, number) = row.unwrap_or_else(|| panic!("a panic that no row knows: {said}"));
-    (*number, words)
+    Refused { number: *number, said: words, did: None }
+}
+
+/// The words that tell a panic message; outside document 01's rows the crate unwraps a node that is absent.
+fn words_of(said: &str) -> &'static str {
+    const UNWRAP: &str = "called `Option::unwrap()` on a `None` value";
+    if said == UNWRAP { UNWRAP } else { panic_row(said).said }
 }
 
 fn plain(inner: &TreeState) -> State {
@@ -278,6 +386,30 @@ fn plain(inner: &TreeState) -> State {
     assert_eq!(d.root, (0, d.info_root));
     assert_eq!(Some(d.focus), state.effective_focus());
     state
+}
+
+/// A sound state as the crate would hold it.
+pub fn held(plain: State) -> Held {
+    assert!(plain.sound());
+    let tree = |t: Tid| TreeId(t.0, t.1);
+    let existing =
+        (0..).zip(&plain.trees).filter_map(|(n, (t, at))| at.map(|(r, f)| (tree(*t), ((n, r), (n, f)))));
+    let root = plain.trees[0].1.unwrap().0;
+    let inner = probe::load(Dump {
+        nodes: plain
+            .nodes
+            .iter()
+            .map(|(id, (link, d))| (*id, (to_node(d), link.map(|(p, i)| (p, i as usize)))))
+            .collect(),
+        root: (0, root),
+        info_root: root,
+        focus: plain.effective_focus().unwrap(),
+        host: plain.host,
+        subtrees: existing.collect(),
+        graft_parents: plain.grafts().into_iter().map(|(t, x)| (tree(t), x)).collect(),
+        numbers: plain.trees.iter().map(|(t, _)| tree(*t)).collect(),
+    });
+    Held { inner, plain }
 }
 
 fn to_update(b: &Batch) -> TreeUpdate {

@@ -2,15 +2,15 @@
 //! and prints one JSON line a call: the state before, the call, the whole answer.
 //!
 //!     calls --calls 3000 --seed 1
-mod cases;
-mod json;
-mod judge;
-mod make;
-mod plain;
-
-use judge::{Answer, Call, Held, Input, judge, on_unsound};
-use make::{Rng, World};
-use plain::{ROOT, State, TREES};
+//!     calls --crowded 24 --seed 1
+//!
+//! The second makes histories of states near 256 nodes instead, and prints all
+//! their calls until 24 had number 20.
+use calls::judge::{Answer, Call, Held, Input, judge, on_unsound};
+use calls::make::{self, Rng, World};
+use calls::plain::{NODES, State, TREES};
+use calls::shows::shows;
+use calls::{cases, json};
 use std::collections::BTreeMap;
 use std::io::{BufWriter, Write};
 
@@ -44,6 +44,14 @@ impl Sink {
         Sink { all: true, wanted, seen: BTreeMap::new(), out: BufWriter::new(std::io::stdout()) }
     }
 
+    /// Takes every call until `overflows` of number 20 were printed.
+    fn crowded(overflows: usize) -> Sink {
+        let any = |number| ['s', 'u'].map(|kind| ((kind, number), usize::MAX));
+        let mut wanted: BTreeMap<Slot, usize> = (0..=21).flat_map(any).collect();
+        wanted.insert(('u', 20), overflows);
+        Sink { wanted, ..Sink::new(0) }
+    }
+
     fn left(&self) -> usize {
         self.wanted.values().sum()
     }
@@ -54,15 +62,11 @@ impl Sink {
 
     /// Prints the call if its slot is not full. A call that shows nothing rare is often passed over.
     fn offer(&mut self, r: &mut Rng, before: Option<&State>, call: &Call, answer: &Answer) {
-        let kind = match call {
-            Call::Start(..) => 's',
-            Call::Update(..) => 'u',
-            Call::Host(_) => 'h',
-        };
+        let kind = call.kind();
         if !self.wants((kind, answer.number)) {
             return;
         }
-        let shown = shown(before, call, answer);
+        let shown = shows(before, call, answer);
         let rare = shown.iter().any(|(what, holds)| *holds && !what.ends_with("added"));
         if (kind, answer.number) == ('u', 0) && !rare && !self.all && r.chance(75) {
             return;
@@ -75,58 +79,6 @@ impl Sink {
     }
 }
 
-/// What a printed call shows, for the summary.
-fn shown(before: Option<&State>, call: &Call, a: &Answer) -> Vec<(&'static str, bool)> {
-    let bytes = matches!(call, Call::Start(Input::Bytes(_), _) | Call::Update(Input::Bytes(_), _));
-    let mut out = vec![("record given as bytes", bytes)];
-    if let (Call::Update(Input::Batch(b), _), 12) = (call, a.number) {
-        let mut grafts: Vec<_> = b.nodes.iter().filter_map(|n| n.1.graft()).collect();
-        grafts.sort();
-        let twice = grafts.windows(2).any(|g| g[0] == g[1]);
-        out.push(("refused with 12: a graft already held", !twice));
-    }
-    let (Call::Update(Input::Batch(b), _), 0, Some(s)) = (call, a.number, before) else { return out };
-    let number = a.state.number_of(b.tree).unwrap();
-    let old_bits = b.nodes.iter().any(|(n, d)| {
-        let id = (number, *n);
-        s.nodes.get(&id).is_some_and(|o| a.state.nodes.get(&id).is_some_and(|x| x.1 == o.1))
-            && s.nodes[&id].1 != *d
-    });
-    let levels = |x: &State| {
-        let mut most = 0;
-        for (id, _) in &x.nodes {
-            let (mut at, mut n) = (*id, 0);
-            while let Some((p, _)) = x.nodes[&at].0 {
-                n += (p.0 != at.0) as usize;
-                at = p;
-            }
-            most = most.max(n);
-        }
-        most
-    };
-    let ends = a.state.effective_focus();
-    out.extend([
-        ("accepted: old bits stay", old_bits),
-        ("accepted: lost link put back", a.restored),
-        ("accepted: nodes added", !a.added.is_empty()),
-        ("accepted: nodes removed", !a.removed.is_empty()),
-        ("accepted: another tree removed", a.removed.iter().any(|x| x.0 != number)),
-        ("accepted: relinked", !a.relinked.is_empty()),
-        ("accepted: a tree moved to another graft", a.relinked.iter().any(|x| x.0 != number)),
-        (
-            "accepted: root changed",
-            b.tree == ROOT && s.trees[0].1.map(|x| x.0) != a.state.trees[0].1.map(|x| x.0),
-        ),
-        ("accepted: new tree number", s.trees.len() < a.state.trees.len()),
-        ("accepted: trees in trees in trees", levels(&a.state) > 1),
-        ("accepted: focus through a graft", ends.is_some_and(|f| f.0 != 0)),
-        ("accepted: focus passes to an active descendant", a.focus.1.is_some_and(|f| Some(f) != ends)),
-        ("accepted: first extra id", a.extra.0.is_some()),
-        ("accepted: second extra id", a.extra.1.is_some()),
-    ]);
-    out
-}
-
 /// One call: judged, offered, and the next state if accepted.
 fn run(r: &mut Rng, sink: &mut Sink, held: Option<&Held>, call: Call) -> Option<Held> {
     let (answer, next) = judge(held, &call);
@@ -136,14 +88,7 @@ fn run(r: &mut Rng, sink: &mut Sink, held: Option<&Held>, call: Call) -> Option<
 
 fn accepted_start(r: &mut Rng, w: &World, sink: &mut Sink) -> Held {
     loop {
-        let mut b = make::start(r, w);
-        if r.chance(60) {
-            make::spoil(r, w, None, &mut b);
-            if r.chance(15) {
-                make::spoil(r, w, None, &mut b);
-            }
-        }
-        let call = make::call(r, w, b, false);
+        let call = make::start_call(r, w);
         if let Some(next) = run(r, sink, None, call) {
             return next;
         }
@@ -164,18 +109,7 @@ fn step(r: &mut Rng, w: &World, sink: &mut Sink, held: Held) -> Held {
             sink.offer(r, Some(&damaged), &call, &on_unsound(&damaged, &call));
         }
     }
-    let call = if r.chance(6) {
-        Call::Host(if r.chance(60) { !s.host } else { s.host })
-    } else {
-        let mut b = make::batch(r, w, s);
-        if r.chance(45) {
-            make::spoil(r, w, Some(s), &mut b);
-            if r.chance(15) {
-                make::spoil(r, w, Some(s), &mut b);
-            }
-        }
-        make::call(r, w, b, true)
-    };
+    let call = make::next_call(r, w, s);
     run(r, sink, Some(&held), call).unwrap_or(held)
 }
 
@@ -209,26 +143,54 @@ fn full_table(r: &mut Rng, w: &World, sink: &mut Sink) {
     }
 }
 
+/// A history of a state that is filled and then kept near 256 nodes, for row 20.
+fn crowded(r: &mut Rng, sink: &mut Sink) {
+    let w = World::wide(r);
+    let first = Call::Start(Input::Batch(make::start(r, &w)), true);
+    let Some(mut held) = run(r, sink, None, first) else { return };
+    for _ in 0..24 {
+        let room = NODES.saturating_sub(held.plain.nodes.len());
+        let more = match r.below(4) {
+            _ if room > 62 => 30 + r.below(33),
+            0 => room,
+            1 => room + 1,
+            _ => r.below(62),
+        };
+        let less = room <= 62 && r.chance(60);
+        let b = make::grow(r, &w, &held.plain, more.min(62), less);
+        held = run(r, sink, Some(&held), Call::Update(Input::Batch(b), make::filler(1024))).unwrap_or(held);
+    }
+}
+
 fn main() {
-    // the crate's panics are answers; the driver's own are not
+    // the crate's panics are answers; this program's own are not
     std::panic::set_hook(Box::new(|p| {
         if p.location().is_some_and(|l| l.file().starts_with("calls")) {
             eprintln!("{p}");
         }
     }));
-    let (mut calls, mut seed) = (3000, 1);
+    let (mut calls, mut overflows, mut seed) = (3000, 0, 1);
     let args: Vec<String> = std::env::args().skip(1).collect();
     for pair in args.chunks(2) {
         match (pair[0].as_str(), pair.get(1).and_then(|v| v.parse::<u64>().ok())) {
             ("--calls", Some(n)) => calls = n as usize,
+            ("--crowded", Some(n)) => overflows = n as usize,
             ("--seed", Some(n)) => seed = n,
             _ => {
-                eprintln!("usage: calls [--calls N] [--seed N]");
+                eprintln!("usage: calls [--calls N | --crowded N] [--seed N]");
                 std::process::exit(2);
             }
         }
     }
     let outcome = std::panic::catch_unwind(|| {
+        if overflows > 0 {
+            let (mut r, mut sink) = (Rng(seed), Sink::crowded(overflows));
+            while sink.wants(('u', 20)) {
+                crowded(&mut r, &mut sink);
+            }
+            sink.out.flush().unwrap();
+            return (BTreeMap::new(), sink.seen);
+        }
         let (mut r, mut sink) = (Rng(seed), Sink::new(calls));
         for (on, call, number) in cases::known() {
             let (answer, _) = judge(on.as_ref(), &call);

@@ -34,13 +34,25 @@ impl Rng {
     }
 }
 
-/// The node numbers and tree ids of one history. All trees share the numbers.
+/// The node numbers and tree ids of one history, and how large things get. All trees share the numbers.
 pub struct World {
     numbers: Vec<u64>,
     trees: Vec<Tid>,
+    /// The most nodes of a start, of a new pane, and of those that one edit adds.
+    start: usize,
+    pane: usize,
+    burst: usize,
+    /// Of a hundred leaves of a new tree, how many are grafts; of a hundred unchanged nodes, how many a batch
+    /// lists all the same.
+    grafts: usize,
+    unchanged: usize,
+    /// Of a hundred batches, how many are for ROOT, and how many for ROOT or an existing tree.
+    for_root: usize,
+    for_existing: usize,
 }
 
 impl World {
+    /// Eight node numbers and three tree ids.
     pub fn new(r: &mut Rng) -> World {
         const BIG: [u64; 6] = [u64::MAX, 1 << 63, 1 << 32, 255, 256, u64::MAX - 1];
         let mut numbers: Vec<u64> = (0..8).collect();
@@ -57,8 +69,45 @@ impl World {
         let mut trees = vec![(0, 1), (1, 0), (1, 1), (0, 2), (0, max), (max, 0), (max, max), (7, 1 << 63)];
         r.shuffle(&mut trees);
         trees.truncate(3);
-        World { numbers, trees }
+        World {
+            numbers,
+            trees,
+            start: 6,
+            pane: 5,
+            burst: 1,
+            grafts: 30,
+            unchanged: 15,
+            for_root: 42,
+            for_existing: 72,
+        }
     }
+
+    /// Numbers for more nodes than a state may have.
+    pub fn wide(r: &mut Rng) -> World {
+        let small = World::new(r);
+        let mut numbers: Vec<u64> = (0..360).chain((0..8).map(|k| u64::MAX - k)).collect();
+        r.shuffle(&mut numbers);
+        World { numbers, start: 64, pane: 40, burst: 30, grafts: 4, unchanged: 2, ..small }
+    }
+
+    /// More tree ids than a state may have, many with one half the same.
+    pub fn crowded(r: &mut Rng) -> World {
+        let mut trees: Vec<Tid> = (0..25).flat_map(|k| [(7, k), (k + 8, 7)]).collect();
+        r.shuffle(&mut trees);
+        let numbers = (0..70).collect();
+        World {
+            numbers,
+            trees,
+            start: 64,
+            pane: 3,
+            burst: 3,
+            grafts: 60,
+            unchanged: 3,
+            for_root: 25,
+            for_existing: 45,
+        }
+    }
+
     fn unused(&self, r: &mut Rng, model: &BTreeMap<u64, Data>) -> Option<u64> {
         let free: Vec<u64> = self.numbers.iter().filter(|n| !model.contains_key(n)).copied().collect();
         r.maybe(&free)
@@ -146,17 +195,24 @@ impl Model {
         r.shuffle(&mut numbers);
         numbers.truncate(1 + r.below(most));
         let mut nodes: BTreeMap<u64, Data> = BTreeMap::new();
+        // a wide tree may also be a chain, a star, or have four children a node
+        let shape = if w.burst > 1 { r.below(4) } else { 0 };
         for i in 0..numbers.len() {
             nodes.insert(numbers[i], leaf(r, w));
             if i > 0 {
-                let up = numbers[r.below(i)];
+                let up = numbers[match shape {
+                    0 => r.below(i),
+                    1 => i - 1,
+                    2 => 0,
+                    _ => (i - 1) / 4,
+                }];
                 nodes.get_mut(&up).unwrap().children.push(numbers[i]);
             }
         }
         let mut trees = w.trees.clone();
         r.shuffle(&mut trees);
         for d in nodes.values_mut().filter(|d| d.children.is_empty()) {
-            if r.chance(30)
+            if r.chance(w.grafts)
                 && let Some(t) = trees.pop()
             {
                 d.set_graft(Some(t));
@@ -230,10 +286,13 @@ impl Model {
                 self.forget(c);
             }
             9..=11 => {
-                let n = w.unused(r, &self.nodes)?;
-                let p = self.some(r, |_, d| d.graft().is_none())?;
-                self.nodes.insert(n, leaf(r, w));
-                self.attach(r, n, p);
+                let more = if w.burst > 1 { 1 + r.below(w.burst) } else { 1 };
+                for _ in 0..more {
+                    let n = w.unused(r, &self.nodes)?;
+                    let p = self.some(r, |_, d| d.graft().is_none())?;
+                    self.nodes.insert(n, leaf(r, w));
+                    self.attach(r, n, p);
+                }
             }
             12 | 13 => {
                 let n = self.some(r, |_, d| d.children.is_empty() && d.graft().is_none())?;
@@ -316,7 +375,7 @@ impl Model {
 
 /// A start's batch: ROOT, whole, near valid.
 pub fn start(r: &mut Rng, w: &World) -> Batch {
-    let m = Model::fresh(r, w, 6);
+    let m = Model::fresh(r, w, w.start);
     let focus = m.some(r, |_, d| d.graft().is_none()).unwrap_or(m.root);
     let listed = m.nodes.keys().copied().collect();
     Batch { tree: ROOT, root: Some(m.root), focus, nodes: m.arranged(r, listed) }
@@ -327,9 +386,9 @@ pub fn batch(r: &mut Rng, w: &World, s: &State) -> Batch {
     let existing: Vec<Tid> = s.trees.iter().filter(|t| t.0 != ROOT && t.1.is_some()).map(|t| t.0).collect();
     let unborn: Vec<Tid> = s.grafts().into_iter().map(|g| g.0).filter(|g| !existing.contains(g)).collect();
     let tree = match r.below(100) {
-        0..42 => None,
-        42..72 => r.maybe(&existing),
-        72..94 => r.maybe(&unborn),
+        k if k < w.for_root => None,
+        k if k < w.for_existing => r.maybe(&existing),
+        k if k < 94 => r.maybe(&unborn),
         _ => Some(r.pick(&w.trees)),
     }
     .unwrap_or(ROOT);
@@ -339,7 +398,7 @@ pub fn batch(r: &mut Rng, w: &World, s: &State) -> Batch {
     let at = number.and_then(|n| s.trees[n as usize].1);
     let (mut model, mut data) = match at {
         Some((root, _)) => (Model { nodes: old.clone(), root }, r.chance(12)),
-        None => (Model::fresh(r, w, 5), true),
+        None => (Model::fresh(r, w, w.pane), true),
     };
     if at.is_some() {
         for _ in 0..r.pick(&[0, 1, 1, 1, 2, 2, 3, 4]) {
@@ -349,7 +408,7 @@ pub fn batch(r: &mut Rng, w: &World, s: &State) -> Batch {
     let mut listed: Vec<u64> =
         model.nodes.iter().filter(|(n, d)| old.get(n) != Some(*d)).map(|(n, _)| *n).collect();
     for n in model.nodes.keys() {
-        if !listed.contains(n) && r.chance(15) {
+        if !listed.contains(n) && r.chance(w.unchanged) {
             listed.push(*n);
         }
     }
@@ -379,6 +438,28 @@ pub fn batch(r: &mut Rng, w: &World, s: &State) -> Batch {
         _ => model.some(r, |_, d| d.graft().is_none_or(|g| existing.contains(&g))).unwrap_or(model.root),
     };
     Batch { tree, root: data.then_some(model.root), focus, nodes }
+}
+
+/// A batch that gives a node of ROOT's tree `more` new nodes below it, near valid.
+/// With `less` it lets a branch go as well.
+pub fn grow(r: &mut Rng, w: &World, s: &State, more: usize, less: bool) -> Batch {
+    let (root, kept) = s.trees[0].1.unwrap();
+    let old: BTreeMap<u64, Data> =
+        s.nodes.iter().filter(|(id, _)| id.0 == 0).map(|(id, n)| (id.1, n.1.clone())).collect();
+    let mut model = Model { nodes: old.clone(), root };
+    if less && let Some(n) = model.some(r, |n, _| *n != root) {
+        model.forget(n);
+    }
+    let mut above = vec![model.some(r, |_, d| d.graft().is_none()).unwrap_or(root)];
+    for _ in 0..more {
+        let (n, up) = (w.unused(r, &model.nodes).unwrap(), r.pick(&above));
+        model.nodes.insert(n, leaf(r, w));
+        model.attach(r, n, up);
+        above.push(n);
+    }
+    let listed = model.nodes.iter().filter(|(n, d)| old.get(n) != Some(*d)).map(|(n, _)| *n).collect();
+    let focus = if model.nodes.contains_key(&kept) { kept } else { root };
+    Batch { tree: ROOT, root: None, focus, nodes: model.arranged(r, listed) }
 }
 
 /// One fault, aimed at a row of the table or not at all. It may miss.
@@ -568,8 +649,14 @@ pub fn misfit(r: &mut Rng, w: &World, mut b: Batch) -> Input {
 }
 
 /// A slice of recognisable filler: usually long enough, sometimes too short.
-pub fn slice(r: &mut Rng) -> Vec<u64> {
-    let length = if r.chance(80) { 24 + r.below(30) } else { r.below(12) };
+pub fn slice(r: &mut Rng, w: &World) -> Vec<u64> {
+    let enough = if w.burst > 1 { 400 } else { 24 };
+    let length = if r.chance(80) { enough + r.below(30) } else { r.below(enough / 2) };
+    filler(length)
+}
+
+/// A slice of this length whose elements are no ids.
+pub fn filler(length: usize) -> Vec<u64> {
     (0..length as u64).map(|i| 900_000 + i).collect()
 }
 
@@ -653,5 +740,68 @@ pub fn call(r: &mut Rng, w: &World, b: Batch, started: bool) -> Call {
         3..7 => Input::Bytes(b.encode()),
         _ => Input::Batch(b),
     };
-    if started { Call::Update(input, slice(r)) } else { Call::Start(input, r.chance(75)) }
+    if started { Call::Update(input, slice(r, w)) } else { Call::Start(input, r.chance(75)) }
+}
+
+/// A start, good or with a fault or two.
+pub fn start_call(r: &mut Rng, w: &World) -> Call {
+    let mut b = start(r, w);
+    if r.chance(60) {
+        spoil(r, w, None, &mut b);
+        if r.chance(15) {
+            spoil(r, w, None, &mut b);
+        }
+    }
+    call(r, w, b, false)
+}
+
+/// A host focus change, or a batch, good or with a fault or two.
+pub fn next_call(r: &mut Rng, w: &World, s: &State) -> Call {
+    if r.chance(6) {
+        return Call::Host(if r.chance(60) { !s.host } else { s.host });
+    }
+    let mut b = batch(r, w, s);
+    if r.chance(45) {
+        spoil(r, w, Some(s), &mut b);
+        if r.chance(15) {
+            spoil(r, w, Some(s), &mut b);
+        }
+    }
+    call(r, w, b, true)
+}
+
+/// A batch for ROOT at a limit of document 01 or one past it: listed nodes, child entries, label bytes of a
+/// node, nodes of the outcome.
+pub fn limit_call(r: &mut Rng, s: &State) -> Call {
+    let (_, focus) = s.trees[0].1.unwrap();
+    let mine = s.nodes.iter().filter(|(id, n)| id.0 == 0 && n.1.graft().is_none());
+    let plain: Vec<(u64, Data)> = mine.map(|(id, n)| (id.1, n.1.clone())).collect();
+    let Some((n, mut d)) = r.maybe(&plain) else { return Call::Host(s.host) };
+    let past = r.below(2);
+    let fresh = |count: usize| (10_000..).take(count);
+    let mut nodes: Vec<(u64, Data)> = vec![];
+    match r.below(4) {
+        0 => nodes.extend(fresh(63 + past).map(|n| (n, Data::default()))),
+        1 => d.children.extend(fresh((256 + past).saturating_sub(d.children.len()))),
+        2 => d.label = vec![98; 32 + past],
+        _ => nodes.extend(fresh((NODES + past - s.nodes.len()).min(63)).map(|n| (n, Data::default()))),
+    }
+    d.children.extend(nodes.iter().map(|n| n.0));
+    nodes.push((n, d));
+    Call::Update(Input::Batch(Batch { tree: ROOT, root: None, focus, nodes }), filler(1024))
+}
+
+/// A batch whose record is random bytes, or a good record with a few bytes changed.
+pub fn noise_call(r: &mut Rng, w: &World, s: &State) -> Call {
+    let mut bytes = batch(r, w, s).encode();
+    if r.chance(30) {
+        bytes.resize(r.below(400), 0);
+        bytes.iter_mut().for_each(|b| *b = r.next() as u8);
+    } else {
+        for _ in 0..1 + r.below(4) {
+            let at = r.below(bytes.len());
+            bytes[at] = r.next() as u8;
+        }
+    }
+    Call::Update(Input::Bytes(bytes), slice(r, w))
 }

@@ -6,7 +6,7 @@ use accesskit_consumer::tree::Tree;
 use std::time::{Duration, Instant};
 
 /// Name, nodes, children of a node, whether leaves are grafts, whether children stand in descending order.
-const SHAPES: [(&str, u64, u64, bool, bool); 10] = [
+const SHAPES: [(&str, u64, u64, bool, bool); 7] = [
     ("chain256", 256, 1, false, false),
     ("star256", 256, 255, false, false),
     ("bushy256", 256, 4, false, false),
@@ -14,14 +14,12 @@ const SHAPES: [(&str, u64, u64, bool, bool); 10] = [
     ("screen48", 48, 4, false, false),
     ("one", 1, 1, false, false),
     ("grafts200", 201, 200, true, false),
-    ("48", 48, 4, false, false),
-    ("64", 64, 4, false, false),
-    ("256", 256, 4, false, false),
 ];
 
 fn update(n: u64, fan: u64, grafts: bool, down: bool) -> TreeUpdate {
     let node = |i: u64| {
-        let mut children: Vec<NodeId> = (i * fan + 1..=i * fan + fan).filter(|c| *c < n).map(NodeId).collect();
+        let mut children: Vec<NodeId> =
+            (i * fan + 1..=i * fan + fan).filter(|c| *c < n).map(NodeId).collect();
         if down {
             children.reverse();
         }

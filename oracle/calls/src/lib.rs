@@ -1,0 +1,7 @@
+//! Made calls, and the whole answers that the crate's real source and document 01's rules give them.
+pub mod cases;
+pub mod json;
+pub mod judge;
+pub mod make;
+pub mod plain;
+pub mod shows;
