@@ -49,15 +49,13 @@ numbers! {
     ListTooShort = 21, "a lent list too short for what it should hold";
 }
 
-/// Whether the library accepted: 0, or why not.
+/// Whether the library accepted: 0, or why not. It is proved to answer 0 to 21; any other number, of a library that is
+/// not the proved one, is taken for a state that cannot be trusted.
 pub(crate) fn accepted(number: u32) -> Result<(), Number> {
     if number == 0 {
         return Ok(());
     }
-    match Number::ALL.iter().find(|n| **n as u32 == number) {
-        Some(refusal) => Err(*refusal),
-        None => unreachable!("the library is proved to answer 0 to 21"),
-    }
+    Err(Number::ALL.iter().copied().find(|n| *n as u32 == number).unwrap_or(Number::StateNotSound))
 }
 
 impl fmt::Display for Number {
