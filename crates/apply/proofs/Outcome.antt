@@ -13,7 +13,7 @@ use Rattle.base.specs.Bytes.{listOf}
 use Rattle.base.proofs.Tables.{first-zero, first-found-zero}
 use Rattle.ids.specs.Ids.{sameTree}
 use Rattle.record.specs.Batch.{Batch, namedIds}
-use Rattle.tree.specs.State.{TreeEntry, Forest}
+use Rattle.state.specs.State.{TreeEntry, Forest}
 use Rattle.tree.specs.View.{Columns, nodeIn, entryIn, forestIn}
 use Rattle.update.specs.Words.{known, number}
 use Rattle.update.specs.Pass.{pass}

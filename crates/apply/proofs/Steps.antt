@@ -9,7 +9,7 @@ use Rattle.ids.specs.declared.TreeId.{TreeId}
 use Rattle.ids.specs.declared.NodeId.{NodeId}
 use Rattle.record.specs.Batch.{Batch}
 use Rattle.reader.specs.Reader.{batchIn}
-use Rattle.tree.specs.State.{Forest}
+use Rattle.state.specs.State.{Forest}
 use Rattle.tree.specs.View.{Columns, entryIn, forestIn}
 use Rattle.focus.specs.Focus.{columns}
 use Rattle.update.specs.Outcome.{outcome}

@@ -14,7 +14,7 @@ use Rattle.ids.specs.Ids.{sameTree, sameNode}
 use Rattle.ids.specs.declared.TreeId.{TreeId}
 use Rattle.record.specs.Batch.{Batch, listedIds}
 use Rattle.reader.specs.Reader.{batchIn}
-use Rattle.tree.specs.State.{Forest}
+use Rattle.state.specs.State.{Forest}
 use Rattle.tree.specs.View.{Columns, forestIn}
 use Rattle.focus.specs.Focus.{columns}
 use Rattle.update.specs.Words.{known}

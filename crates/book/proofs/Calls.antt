@@ -17,10 +17,10 @@ use Rattle.ids.specs.declared.FullNodeId.{FullNodeId}
 use Rattle.record.specs.Batch.{fieldsOk, Batch}
 use Rattle.record.specs.Parse.{parse}
 use Rattle.record.proofs.Parse.{batch-facts}
-use Rattle.tree.specs.State.{Forest, State, present, SubtreeState, subtreeOf}
-use Rattle.tree.specs.Down.{rootOf}
-use Rattle.tree.specs.Sound.{sound}
-use Rattle.tree.proofs.Sound.{shape-parts, Sound, sound-parts, Root, root-of-shape}
+use Rattle.state.specs.State.{Forest, State, present, SubtreeState, subtreeOf}
+use Rattle.state.specs.Down.{rootOf}
+use Rattle.state.specs.Sound.{sound}
+use Rattle.state.proofs.Sound.{shape-parts, Sound, sound-parts, Root, root-of-shape}
 use Rattle.update.specs.Words.{number, withTreeData}
 use Rattle.update.specs.Outcome.{outcome}
 use Rattle.update.specs.Reports.{removed, added, noChanges, changesWith, changesOf}

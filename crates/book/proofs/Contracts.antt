@@ -4,7 +4,7 @@ use mathlib.Core.List.{List, [], _∷_, _++_}
 use mathlib.Core.Path.{_≡_, refl, sym, ap, _∙_, subst}
 use Prim.Native.Nat.{ℕ}
 use Rattle.tree.specs.declared.TreeState.{TreeState}
-use Rattle.tree.specs.State.{State}
+use Rattle.state.specs.State.{State}
 use Rattle.tree.specs.View.{view}
 use Rattle.update.specs.Calls.{start, update}
 use Rattle.calls.specs.declared.Answer.{Answer}

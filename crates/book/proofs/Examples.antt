@@ -7,7 +7,7 @@ use Rattle.base.specs.Tests.{_&&_}
 use Rattle.ids.specs.Ids.{ROOT, sameTree, sameIndex, sameNode, sameId, before}
 use Rattle.record.specs.Batch.{graft?, Batch}
 use Rattle.record.specs.ExampleNodes.{node, T, parent, leaf, grafts, lists, batchFor, batch}
-use Rattle.tree.specs.ExampleStates.{id, root, tree}
+use Rattle.state.specs.ExampleStates.{id, root, tree}
 use Rattle.book.specs.Book.{entryOf, enter, enterAll, strike, lineAfter, linesAfter, numberIn, newLine, enterBatch, openedBy, isEntered, treeIn, treesIn}
 
 -- `unfolding computed` unfolds the definitions of the book

@@ -11,8 +11,8 @@ use Rattle.ids.proofs.Ids.{same-tree→≡, same-node→≡, same-id→≡}
 use Rattle.ids.specs.declared.TreeIndex.{TreeIndex}
 use Rattle.ids.specs.declared.FullNodeId.{FullNodeId}
 use Rattle.record.specs.Batch.{NodeData, graft?, sameData, Listed, Batch}
-use Rattle.tree.specs.State.{NodeState, idsOf, Forest, present}
-use Rattle.tree.proofs.State.{present-has}
+use Rattle.state.specs.State.{NodeState, idsOf, Forest, present}
+use Rattle.state.proofs.State.{present-has}
 use Rattle.update.specs.Words.{number}
 use Rattle.update.specs.Gone.{gone}
 use Rattle.update.specs.Outcome.{renewed, write, writeAll, written, relink, outcome}

@@ -15,10 +15,10 @@ use Rattle.ids.specs.declared.NodeId.{NodeId}
 use Rattle.record.specs.Batch.{fieldsOk, Batch}
 use Rattle.record.specs.Parse.{parse}
 use Rattle.record.proofs.Parse.{batch-facts}
-use Rattle.tree.specs.State.{idsOf, TreeEntry, Forest, State}
-use Rattle.tree.specs.Sound.{grafted, allGrafted}
-use Rattle.tree.proofs.Sound.{shape-parts, sound-parts, root-of-shape, focus-of-sound}
-use Rattle.tree.proofs.Down.{descent}
+use Rattle.state.specs.State.{idsOf, TreeEntry, Forest, State}
+use Rattle.state.specs.Sound.{grafted, allGrafted}
+use Rattle.state.proofs.Sound.{shape-parts, sound-parts, root-of-shape, focus-of-sound}
+use Rattle.state.proofs.Down.{descent}
 use Rattle.update.specs.Words.{known, number}
 use Rattle.update.specs.Outcome.{subtreeHere, entryAfter, entriesAfter, newEntry, outcome}
 use Rattle.update.specs.Reports.{removed}

@@ -16,9 +16,9 @@ use Rattle.ids.specs.declared.TreeId.{TreeId}
 use Rattle.ids.specs.declared.NodeId.{NodeId}
 use Rattle.ids.specs.declared.FullNodeId.{FullNodeId}
 use Rattle.record.specs.Batch.{Batch}
-use Rattle.tree.specs.State.{NodeState, Subtree, TreeEntry, Forest, SubtreeState, subtreeState, subtreeFrom, subtreeOf}
-use Rattle.tree.specs.Sound.{grafted, allGrafted}
-use Rattle.tree.proofs.State.{present-has}
+use Rattle.state.specs.State.{NodeState, Subtree, TreeEntry, Forest, SubtreeState, subtreeState, subtreeFrom, subtreeOf}
+use Rattle.state.specs.Sound.{grafted, allGrafted}
+use Rattle.state.proofs.State.{present-has}
 use Rattle.update.specs.Words.{known, number}
 use Rattle.update.specs.Gone.{gone}
 use Rattle.update.specs.Outcome.{written, subtreeHere, subtreeElsewhere, entryAfter, entriesAfter, newEntry, outcome}

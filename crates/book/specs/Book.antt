@@ -13,7 +13,7 @@ use Rattle.ids.specs.declared.NodeId.{NodeId}
 use Rattle.ids.specs.declared.FullNodeId.{FullNodeId}
 use Rattle.record.specs.Batch.{NodeData, graft?, Listed, Batch}
 use Rattle.record.specs.Parse.{parse}
-use Rattle.tree.specs.State.{NodeState, TreeEntry, State}
+use Rattle.state.specs.State.{NodeState, TreeEntry, State}
 use Rattle.update.specs.Calls.{Answer, update, hostFocus}
 
 -- ## The book

@@ -9,10 +9,10 @@ use lib.ListN.{length}
 use Rattle.base.specs.Tests.{_&&_, count, has}
 use Rattle.ids.specs.Ids.{sameId}
 use Rattle.ids.specs.declared.FullNodeId.{FullNodeId}
-use Rattle.tree.specs.State.{Forest, State, present, graftAt, linkAt}
-use Rattle.tree.specs.Down.{Met, down, rootOf, wayDown, climb}
-use Rattle.tree.specs.Focus.{effectiveFocus}
-use Rattle.tree.specs.Sound.{sound}
+use Rattle.state.specs.State.{Forest, State, present, graftAt, linkAt}
+use Rattle.state.specs.Down.{Met, down, rootOf, wayDown, climb}
+use Rattle.state.specs.Focus.{effectiveFocus}
+use Rattle.state.specs.Sound.{sound}
 use Rattle.update.specs.Calls.{Answer, start, update}
 use Rattle.book.specs.Book.{Book, opened, Call, batch, answerTo, entered, treesIn, entryOfNode}
 

@@ -11,7 +11,7 @@ use Rattle.base.proofs.Bytes.{length-list-of}
 use Rattle.base.proofs.Tests.{not-false, not-true}
 use Rattle.record.specs.Batch.{Batch}
 use Rattle.reader.specs.Reader.{batchIn}
-use Rattle.tree.specs.State.{Forest, State}
+use Rattle.state.specs.State.{Forest, State}
 use Rattle.tree.specs.View.{Columns, idIn, entryIn, forestIn, slotCount, columnsOf, view}
 use Rattle.tree.specs.declared.TreeState.{TreeState}
 use Rattle.update.specs.Outcome.{outcome}

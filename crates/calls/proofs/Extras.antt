@@ -15,10 +15,10 @@ use Rattle.ids.specs.Ids.{sameId}
 use Rattle.ids.specs.declared.FullNodeId.{FullNodeId}
 use Rattle.ids.proofs.Ids.{same-id→≡}
 use Rattle.record.specs.Batch.{Batch}
-use Rattle.tree.specs.State.{NodeState, idsOf, Forest, find, present}
-use Rattle.tree.specs.Sound.{ascending}
+use Rattle.state.specs.State.{NodeState, idsOf, Forest, find, present}
+use Rattle.state.specs.Sound.{ascending}
 use Rattle.tree.specs.View.{Columns, forestIn}
-use Rattle.tree.proofs.Order.{find-none}
+use Rattle.state.proofs.Order.{find-none}
 use Rattle.tree.proofs.View.{forest-ids}
 use Rattle.update.specs.Outcome.{paneRoot, outcome}
 use Rattle.update.specs.Reports.{added, removed, isUpdated, updated, unlessIn}

@@ -8,8 +8,8 @@ use lib.Dec.{eqb}
 use borrow.Author.Tests.{eq-eqb, ne-eqb}
 use Rattle.base.specs.Bytes.{listOf}
 use Rattle.ids.specs.declared.FullNodeId.{FullNodeId}
-use Rattle.tree.specs.State.{State}
-use Rattle.tree.specs.Focus.{effectiveFocus, orActiveDescendant, stateFocus}
+use Rattle.state.specs.State.{State}
+use Rattle.state.specs.Focus.{effectiveFocus, orActiveDescendant, stateFocus}
 use Rattle.tree.specs.View.{Columns, nodeIn, forestIn}
 use Rattle.focus.specs.Focus.{foundOf}
 use Rattle.focus.specs.declared.FoundNode.{FoundNode}

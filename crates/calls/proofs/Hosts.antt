@@ -8,9 +8,9 @@ use lib.Dec.{eqb}
 use Rattle.base.specs.Tests.{if_then_else_, sameOption}
 use Rattle.ids.specs.Ids.{sameId}
 use Rattle.ids.specs.declared.FullNodeId.{FullNodeId}
-use Rattle.tree.specs.State.{State}
-use Rattle.tree.specs.Focus.{stateFocus}
-use Rattle.tree.specs.Sound.{sound}
+use Rattle.state.specs.State.{State}
+use Rattle.state.specs.Focus.{stateFocus}
+use Rattle.state.specs.Sound.{sound}
 use Rattle.tree.specs.View.{forestIn, slotCount, columnsOf, view}
 use Rattle.tree.specs.declared.TreeState.{TreeState}
 use Rattle.focus.specs.Focus.{foundOf}

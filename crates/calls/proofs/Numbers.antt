@@ -18,8 +18,8 @@ use Rattle.record.specs.Batch.{Batch, listedIds, namedIds}
 use Rattle.record.specs.Parse.{wellFormed, parse}
 use Rattle.record.proofs.Parse.{parse-well, parse-refused}
 use Rattle.reader.specs.Reader.{batchIn}
-use Rattle.tree.specs.State.{Forest, State}
-use Rattle.tree.specs.Sound.{sound}
+use Rattle.state.specs.State.{Forest, State}
+use Rattle.state.specs.Sound.{sound}
 use Rattle.update.specs.Words.{known}
 use Rattle.update.specs.Pass.{pass}
 use Rattle.update.specs.Outcome.{outcome}

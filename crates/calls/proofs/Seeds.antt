@@ -11,8 +11,8 @@ use Rattle.ids.specs.Ids.{ROOT}
 use Rattle.ids.specs.declared.NodeId.{NodeId}
 use Rattle.record.specs.Batch.{Batch}
 use Rattle.reader.specs.Reader.{batchIn, rootOrZero}
-use Rattle.tree.specs.State.{TreeEntry, Forest}
-use Rattle.tree.specs.Focus.{stateFocus}
+use Rattle.state.specs.State.{TreeEntry, Forest}
+use Rattle.state.specs.Focus.{stateFocus}
 use Rattle.tree.specs.View.{Columns, entryIn, forestIn, view}
 use Rattle.focus.specs.Focus.{foundOf}
 use Rattle.focus.specs.declared.FoundNode.{FoundNode}

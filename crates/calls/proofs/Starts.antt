@@ -14,7 +14,7 @@ use Rattle.record.specs.Batch.{Batch, listedIds}
 use Rattle.record.specs.Parse.{wellFormed, parse}
 use Rattle.record.proofs.Parse.{parse-well, parse-refused}
 use Rattle.reader.specs.Reader.{batchIn}
-use Rattle.tree.specs.State.{Forest, State, holder, subtreeOf}
+use Rattle.state.specs.State.{Forest, State, holder, subtreeOf}
 use Rattle.update.specs.Words.{known, withTreeData}
 use Rattle.update.specs.Outcome.{outcome}
 use Rattle.update.specs.Numbers.{rowsBeforePass, batchNumber}

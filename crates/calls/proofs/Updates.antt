@@ -10,9 +10,9 @@ use Rattle.base.specs.Tests.{if_then_else_, sameOption}
 use Rattle.ids.specs.Ids.{sameId}
 use Rattle.ids.specs.declared.FullNodeId.{FullNodeId}
 use Rattle.record.specs.Batch.{Batch}
-use Rattle.tree.specs.State.{Forest, State}
-use Rattle.tree.specs.Focus.{stateFocus}
-use Rattle.tree.specs.Sound.{ascending}
+use Rattle.state.specs.State.{Forest, State}
+use Rattle.state.specs.Focus.{stateFocus}
+use Rattle.state.specs.Sound.{ascending}
 use Rattle.tree.specs.View.{Columns, idIn, forestIn, slotCount, columnsOf, view}
 use Rattle.tree.specs.declared.TreeState.{TreeState}
 use Rattle.focus.specs.Focus.{foundOf}

@@ -11,7 +11,7 @@ use Rattle.base.specs.Tests.{_&&_, if_then_else_, sameOption, position}
 use Rattle.base.specs.Bytes.{bit, listOf}
 use Rattle.ids.specs.Ids.{sameId}
 use Rattle.ids.specs.declared.FullNodeId.{FullNodeId}
-use Rattle.tree.specs.Focus.{stateFocus}
+use Rattle.state.specs.Focus.{stateFocus}
 use Rattle.tree.specs.View.{idIn, forestIn}
 use Rattle.focus.specs.Focus.{foundOf, columns}
 use Rattle.focus.specs.declared.FoundNode.{FoundNode}

@@ -16,7 +16,7 @@ use Rattle.geometry.specs.Geometry.{sameRect, sameAffine}
 use Rattle.record.specs.Batch.{NodeData, sameData, Batch, listedIds}
 use Rattle.record.proofs.Batch.{listed-length, listed-at}
 use Rattle.reader.specs.Reader.{batchIn, blank, listedAt}
-use Rattle.tree.specs.State.{Forest, find}
+use Rattle.state.specs.State.{Forest, find}
 use Rattle.tree.specs.View.{Columns, bodyIn, nodeIn, forestIn}
 use Rattle.update.specs.Words.{here}
 use Rattle.words.specs.Setting.{Batched}

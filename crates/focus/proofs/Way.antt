@@ -17,8 +17,8 @@ use Rattle.ids.specs.declared.FullNodeId.{FullNodeId}
 use Rattle.ids.specs.declared.NodeId.{NodeId}
 use Rattle.ids.specs.declared.TreeId.{TreeId}
 use Rattle.record.specs.Batch.{graft?, activeDescendant?}
-use Rattle.tree.specs.State.{NodeState, Forest, present, graftAt, SubtreeState, subtreeFrom, subtreeOf}
-use Rattle.tree.specs.Focus.{throughGrafts, effectiveFocus, orActiveDescendant, stateFocus}
+use Rattle.state.specs.State.{NodeState, Forest, present, graftAt, SubtreeState, subtreeFrom, subtreeOf}
+use Rattle.state.specs.Focus.{throughGrafts, effectiveFocus, orActiveDescendant, stateFocus}
 use Rattle.tree.specs.View.{Columns, word, shapeIn, bodyIn, nodeIn, entryIn, forestIn, slotCount, columnsOf, view}
 use Rattle.tree.specs.declared.ShapeRow.{ShapeRow}
 use Rattle.tree.specs.declared.TreeState.{TreeState}

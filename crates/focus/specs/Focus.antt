@@ -5,7 +5,7 @@ use mathlib.Core.Path.{_≡_}
 use Prim.Native.Nat.{ℕ, _+_}
 use lib.Ieee.{Float}
 use Rattle.ids.specs.declared.FullNodeId.{FullNodeId}
-use Rattle.tree.specs.Focus.{throughGrafts, effectiveFocus, orActiveDescendant}
+use Rattle.state.specs.Focus.{throughGrafts, effectiveFocus, orActiveDescendant}
 use Rattle.base.specs.Bytes.{listOf}
 use Rattle.tree.specs.View.{Columns, nodeIn, forestIn}
 use Rattle.focus.specs.declared.FoundNode.{FoundNode}

@@ -1,6 +1,6 @@
 // Module 4: the effective focus, and the answer of `TreeState::focus`, of any state.
 ghost use mathlib.Core.Path.{_≡_};
-ghost use Rattle.tree.specs.Focus.{effectiveFocus, stateFocus};
+ghost use Rattle.state.specs.Focus.{effectiveFocus, stateFocus};
 ghost use Rattle.tree.specs.View.{view};
 ghost use Rattle.focus.specs.Focus.{foundOf, ThroughGrafts, EffectiveFocus, OrActiveDescendant};
 use ids::FullNodeId;

@@ -11,8 +11,8 @@ use Rattle.base.proofs.Tests.{joined}
 use Rattle.ids.specs.Ids.{sameId}
 use Rattle.ids.specs.declared.FullNodeId.{FullNodeId}
 use Rattle.tree.specs.declared.LinkRow.{LinkRow}
-use Rattle.tree.specs.State.{ParentAndIndex, NodeState, Forest, present, linkAt}
-use Rattle.tree.specs.Sound.{ascending}
+use Rattle.state.specs.State.{ParentAndIndex, NodeState, Forest, present, linkAt}
+use Rattle.state.specs.Sound.{ascending}
 use Rattle.tree.specs.View.{Columns, idIn, linkIn, linkOf, nodeIn, forestIn}
 use Rattle.lookup.specs.Lookup.{inSlot, SlotOf}
 use Rattle.lookup.proofs.Order.{slot-here, ordered-is}

@@ -10,7 +10,7 @@ use Rattle.ids.specs.Ids.{sameTree}
 use Rattle.ids.specs.declared.FullNodeId.{FullNodeId}
 use Rattle.record.specs.Batch.{graft?, Batch}
 use Rattle.reader.specs.Reader.{batchIn, listedAt}
-use Rattle.tree.specs.State.{Forest, graftAt}
+use Rattle.state.specs.State.{Forest, graftAt}
 use Rattle.update.specs.Words.{here, claimedFrom}
 use Rattle.words.specs.declared.Scope.{Scope}
 use Rattle.words.specs.Says.{graftBelow, ClaimedFromIs}

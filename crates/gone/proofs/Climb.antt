@@ -8,7 +8,7 @@ use Prim.Native.Nat.{ℕ, suc, _-_, _≤_, _<_}
 use native.Mathlib.Omega.{arith}
 use lib.ListN.{length, getD}
 use Rattle.record.specs.Batch.{Batch}
-use Rattle.tree.specs.State.{ParentAndIndex, Forest, linkAt}
+use Rattle.state.specs.State.{ParentAndIndex, Forest, linkAt}
 use Rattle.update.specs.Gone.{Fate, stays, goes, asParent, goesIf, replaced, fares, fate, goneWithin, gone}
 use Rattle.update.proofs.Gone.{within-parent, gone-top}
 use Rattle.words.specs.Setting.{Kept}

@@ -7,7 +7,7 @@ use native.Mathlib.Omega.{arith}
 use lib.Ieee.{Float}
 use lib.ListN.{length, getD}
 use Rattle.record.specs.Batch.{Batch}
-use Rattle.tree.specs.State.{ParentAndIndex, NodeState, linkAt}
+use Rattle.state.specs.State.{ParentAndIndex, NodeState, linkAt}
 use Rattle.tree.specs.View.{Columns, idIn, linkIn, linkOf, nodeIn, forestIn}
 use Rattle.words.specs.declared.Scope.{Scope}
 use Rattle.words.specs.Says.{idAt, slotAt, turnMark, namingMark}

@@ -12,7 +12,7 @@ use Rattle.ids.specs.Ids.{sameNode}
 use Rattle.ids.specs.declared.FullNodeId.{FullNodeId}
 use Rattle.record.specs.Batch.{Batch, listedIds}
 use Rattle.tree.specs.declared.LinkRow.{LinkRow}
-use Rattle.tree.specs.State.{ParentAndIndex, Forest, linkAt, graftAt}
+use Rattle.state.specs.State.{ParentAndIndex, Forest, linkAt, graftAt}
 use Rattle.tree.specs.View.{linkOf}
 use Rattle.lookup.specs.Lookup.{inOrder, standsAt}
 use Rattle.update.specs.Gone.{Fate, stays, goes, asParent, goesIf, replaced, fateHere, fateElsewhere, fate, gone}

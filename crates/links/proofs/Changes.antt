@@ -6,7 +6,7 @@ use lib.Dec.{eqb}
 use borrow.Author.Tests.{eq-eqb, ne-eqb}
 use Rattle.base.specs.Tests.{_&&_, if_then_else_, isSome, sameOption}
 use Rattle.ids.specs.Ids.{sameId}
-use Rattle.tree.specs.State.{sameLink, parentOf}
+use Rattle.state.specs.State.{sameLink, parentOf}
 use Rattle.tree.specs.View.{linkOf}
 use Rattle.tree.specs.declared.LinkRow.{LinkRow}
 

@@ -17,7 +17,7 @@ use Rattle.ids.specs.declared.FullNodeId.{FullNodeId}
 use Rattle.record.specs.Batch.{Batch, namedIds}
 use Rattle.record.proofs.Batch.{listed-at}
 use Rattle.reader.specs.Reader.{noNode, blank, listedAt}
-use Rattle.tree.specs.State.{Forest}
+use Rattle.state.specs.State.{Forest}
 use Rattle.update.specs.Words.{here}
 use Rattle.words.specs.declared.Scope.{Scope}
 use Rattle.words.specs.Setting.{Scoped}

@@ -22,7 +22,7 @@ use Rattle.ids.specs.declared.NodeId.{NodeId}
 use Rattle.ids.specs.declared.FullNodeId.{FullNodeId}
 use Rattle.record.specs.Batch.{Batch, listedIds, namedIds}
 use Rattle.reader.specs.Reader.{batchIn, listedAt}
-use Rattle.tree.specs.State.{ParentAndIndex, NodeState, Forest}
+use Rattle.state.specs.State.{ParentAndIndex, NodeState, Forest}
 use Rattle.tree.specs.View.{Columns, idIn, linkIn, linkOf, nodeIn, forestIn}
 use Rattle.tree.specs.declared.LinkRow.{LinkRow}
 use Rattle.update.specs.Words.{here, mine, old, listed, turn, naming, isRoot}

@@ -14,7 +14,7 @@ use Rattle.ids.specs.declared.TreeId.{TreeId}
 use Rattle.ids.specs.declared.FullNodeId.{FullNodeId}
 use Rattle.record.specs.Batch.{Batch, listedIds, namedIds}
 use Rattle.reader.specs.Reader.{listedAt}
-use Rattle.tree.specs.State.{ParentAndIndex, Forest, holder}
+use Rattle.state.specs.State.{ParentAndIndex, Forest, holder}
 use Rattle.tree.specs.View.{linkOf}
 use Rattle.tree.specs.declared.LinkRow.{LinkRow}
 use Rattle.update.specs.Words.{here, old}

@@ -8,7 +8,7 @@ ghost use lib.ListN.{getD};
 ghost use Rattle.base.specs.Tests.{_&&_, if_then_else_, isSome, sameOption};
 ghost use Rattle.base.specs.Search.{First};
 ghost use Rattle.ids.specs.Ids.{sameId};
-ghost use Rattle.tree.specs.State.{sameLink, parentOf};
+ghost use Rattle.state.specs.State.{sameLink, parentOf};
 ghost use Rattle.tree.specs.View.{linkOf};
 ghost use Rattle.links.specs.Links.{startIn, GraftLinkOf, NamedLinkOf, LinkHereOf, LinkElsewhereOf, LinkOfOld, LinkOfNew};
 use ids::FullNodeId;

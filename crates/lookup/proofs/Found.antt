@@ -13,7 +13,7 @@ use Rattle.base.proofs.Search.{first-later}
 use Rattle.base.proofs.Tests.{is-some-if}
 use Rattle.ids.specs.Ids.{sameId}
 use Rattle.ids.specs.declared.FullNodeId.{FullNodeId}
-use Rattle.tree.specs.State.{NodeState, find, present}
+use Rattle.state.specs.State.{NodeState, find, present}
 use Rattle.tree.specs.View.{Columns, nodeIn}
 use Rattle.lookup.specs.Lookup.{standsAt}
 

@@ -19,8 +19,8 @@ use Rattle.base.proofs.Search.{first-position}
 use Rattle.ids.specs.Ids.{sameId, before}
 use Rattle.ids.proofs.Ids.{same-id→≡, before-apart, before-trans}
 use Rattle.ids.specs.declared.FullNodeId.{FullNodeId}
-use Rattle.tree.specs.State.{NodeState, idsOf}
-use Rattle.tree.specs.Sound.{ascending}
+use Rattle.state.specs.State.{NodeState, idsOf}
+use Rattle.state.specs.Sound.{ascending}
 use Rattle.tree.specs.View.{Columns, idIn, nodeIn, forestIn}
 use Rattle.tree.proofs.View.{forest-ids}
 use Rattle.lookup.specs.Lookup.{inOrder, standsAt, inSlot, SlotOf}

@@ -12,7 +12,7 @@ use Rattle.base.specs.Search.{First}
 use Rattle.base.proofs.Search.{first-later}
 use Rattle.ids.specs.Ids.{sameTree}
 use Rattle.ids.specs.declared.TreeId.{TreeId}
-use Rattle.tree.specs.State.{Subtree, TreeEntry, SubtreeState, subtreeState, subtreeFrom}
+use Rattle.state.specs.State.{Subtree, TreeEntry, SubtreeState, subtreeState, subtreeFrom}
 use Rattle.tree.specs.View.{treeIn, entryOf, entryIn}
 
 -- the root and the focus of tree k, if it exists

@@ -10,7 +10,7 @@ use Rattle.base.specs.Bytes.{allBelow}
 use Rattle.base.specs.Search.{First}
 use Rattle.ids.specs.Ids.{sameId, before}
 use Rattle.ids.specs.declared.FullNodeId.{FullNodeId}
-use Rattle.tree.specs.State.{SubtreeState}
+use Rattle.state.specs.State.{SubtreeState}
 use Rattle.tree.specs.View.{idIn}
 use Rattle.lookup.specs.declared.FoundTree.{FoundTree}
 use Rattle.lookup.specs.declared.FoundTree.the-variants as tree

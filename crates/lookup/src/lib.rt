@@ -4,7 +4,7 @@ ghost use Rattle.base.specs.Tests.{position};
 ghost use Rattle.base.specs.Bytes.{listOf};
 ghost use Rattle.base.specs.Search.{First};
 ghost use Rattle.ids.specs.Ids.{sameTree, sameId};
-ghost use Rattle.tree.specs.State.{idsOf, subtreeFrom};
+ghost use Rattle.state.specs.State.{idsOf, subtreeFrom};
 ghost use Rattle.tree.specs.View.{view, treeIn, entryIn};
 ghost use Rattle.lookup.specs.Lookup.{inOrder, standsAt, inSlot, SlotOf, endsOf};
 use ids::FullNodeId;

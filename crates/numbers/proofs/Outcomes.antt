@@ -13,10 +13,10 @@ use Rattle.base.specs.Bytes.{listOf}
 use Rattle.base.specs.Search.{First}
 use Rattle.ids.specs.Ids.{ROOT}
 use Rattle.ids.specs.declared.FullNodeId.{FullNodeId}
-use Rattle.tree.specs.State.{Forest, present, subtreeFrom, subtreeOf}
-use Rattle.tree.specs.Down.{rootOf}
-use Rattle.tree.specs.Focus.{effectiveFocus}
-use Rattle.tree.specs.Sound.{graftsDiffer, soundShape}
+use Rattle.state.specs.State.{Forest, present, subtreeFrom, subtreeOf}
+use Rattle.state.specs.Down.{rootOf}
+use Rattle.state.specs.Focus.{effectiveFocus}
+use Rattle.state.specs.Sound.{graftsDiffer, soundShape}
 use Rattle.tree.specs.View.{Columns, entryIn, forestIn}
 use Rattle.lookup.specs.Lookup.{standsAt, endsOf}
 use Rattle.lookup.specs.declared.Ends.{Ends}

@@ -10,8 +10,8 @@ use Rattle.ids.specs.Ids.{ROOT, sameTree}
 use Rattle.ids.specs.declared.TreeId.{TreeId}
 use Rattle.record.specs.Parse.{wellFormed}
 use Rattle.reader.specs.Reader.{batchIn}
-use Rattle.tree.specs.State.{Forest}
-use Rattle.tree.specs.Sound.{sound}
+use Rattle.state.specs.State.{Forest}
+use Rattle.state.specs.Sound.{sound}
 use Rattle.update.specs.Numbers.{rowsBeforePass}
 use Rattle.numbers.specs.Rows.{firstNumber, startRows}
 use Rattle.numbers.specs.Parts.{ListedTwice, TreeNumber}

@@ -24,7 +24,7 @@ use Rattle.record.specs.Parse.{wellFormed}
 use Rattle.record.proofs.Batch.{named-append}
 use Rattle.reader.specs.Reader.{batchIn, blank, listedAt, fieldAt, rootOrZero}
 use Rattle.reader.proofs.Reader.{first-child-is}
-use Rattle.tree.specs.State.{TreeEntry, Forest, SubtreeState, subtreeState, subtreeFrom, subtreeOf}
+use Rattle.state.specs.State.{TreeEntry, Forest, SubtreeState, subtreeState, subtreeFrom, subtreeOf}
 use Rattle.tree.specs.View.{entryIn}
 use Rattle.lookup.specs.Lookup.{endsOf}
 use Rattle.lookup.specs.declared.Ends.{Ends}

@@ -23,10 +23,10 @@ use Rattle.ids.specs.Ids.{ROOT, sameTree, sameNode}
 use Rattle.ids.specs.declared.TreeId.{TreeId}
 use Rattle.ids.proofs.Ids.{same-tree→≡}
 use Rattle.record.specs.Batch.{Batch, listedIds}
-use Rattle.tree.specs.State.{TreeEntry, Forest, holder, subtreeFrom, subtreeOf}
-use Rattle.tree.specs.Sound.{rootFirst, sound}
+use Rattle.state.specs.State.{TreeEntry, Forest, holder, subtreeFrom, subtreeOf}
+use Rattle.state.specs.Sound.{rootFirst, sound}
 use Rattle.tree.specs.View.{Columns, treeIn, entryOf, entryIn, forestIn}
-use Rattle.tree.proofs.Sound.{shape-parts, sound-parts}
+use Rattle.state.proofs.Sound.{shape-parts, sound-parts}
 use Rattle.update.specs.Words.{known, number, withTreeData}
 use Rattle.update.specs.Numbers.{rowsBeforePass}
 use Rattle.words.specs.Says.{idAt, graftIn}

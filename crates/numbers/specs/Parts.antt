@@ -13,10 +13,10 @@ use Rattle.ids.specs.declared.TreeIndex.{TreeIndex}
 use Rattle.record.specs.Batch.{Batch, listedIds, namedIds}
 use Rattle.record.specs.Parse.{wellFormed}
 use Rattle.reader.specs.Reader.{batchIn}
-use Rattle.tree.specs.State.{Forest}
-use Rattle.tree.specs.Down.{rootOf}
-use Rattle.tree.specs.Focus.{effectiveFocus}
-use Rattle.tree.specs.Sound.{graftsDiffer, soundShape}
+use Rattle.state.specs.State.{Forest}
+use Rattle.state.specs.Down.{rootOf}
+use Rattle.state.specs.Focus.{effectiveFocus}
+use Rattle.state.specs.Sound.{graftsDiffer, soundShape}
 use Rattle.tree.specs.View.{Columns, entryIn, forestIn}
 use Rattle.focus.specs.Focus.{foundOf, columns}
 use Rattle.focus.specs.declared.FoundNode.{FoundNode}

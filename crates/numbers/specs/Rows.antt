@@ -13,10 +13,10 @@ use Rattle.ids.specs.Ids.{ROOT, sameTree, sameNode}
 use Rattle.record.specs.Batch.{Batch, listedIds, namedIds}
 use Rattle.record.specs.Parse.{wellFormed}
 use Rattle.reader.specs.Reader.{batchIn}
-use Rattle.tree.specs.State.{Forest}
-use Rattle.tree.specs.Down.{rootOf}
-use Rattle.tree.specs.Focus.{effectiveFocus}
-use Rattle.tree.specs.Sound.{graftsDiffer, soundShape, sound}
+use Rattle.state.specs.State.{Forest}
+use Rattle.state.specs.Down.{rootOf}
+use Rattle.state.specs.Focus.{effectiveFocus}
+use Rattle.state.specs.Sound.{graftsDiffer, soundShape, sound}
 use Rattle.tree.specs.View.{entryIn, forestIn}
 use Rattle.focus.specs.Focus.{columns}
 use Rattle.update.specs.Pass.{pass}

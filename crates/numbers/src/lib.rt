@@ -3,7 +3,7 @@ ghost use mathlib.Core.Path.{_≡_};
 ghost use Rattle.base.specs.Tests.{isSome};
 ghost use Rattle.base.specs.Bytes.{listOf};
 ghost use Rattle.ids.specs.Ids.{ROOT, sameTree};
-ghost use Rattle.tree.specs.State.{subtreeFrom};
+ghost use Rattle.state.specs.State.{subtreeFrom};
 ghost use Rattle.tree.specs.View.{entryIn};
 ghost use Rattle.numbers.specs.Parts.{ListedTwice, TreeRows, RootAfter, EntriesOf, GraftedTwice, FocusRows};
 ghost use Rattle.numbers.specs.Rows.{FirstRows, startRows, ScopeOf, StartScope, PassRows, LastRows};

@@ -22,7 +22,7 @@ use Rattle.ids.specs.declared.NodeId.{NodeId}
 use Rattle.record.specs.Batch.{Listed, Batch, listedIds, namedIds}
 use Rattle.record.proofs.Batch.{listed-length, listed-at}
 use Rattle.reader.specs.Reader.{noNode, blank, listedAt}
-use Rattle.tree.specs.State.{Forest}
+use Rattle.state.specs.State.{Forest}
 use Rattle.update.specs.Words.{listing, here, isRoot}
 use Rattle.update.specs.Pass.{placedAtTurn}
 use Rattle.words.specs.declared.Scope.{Scope}

@@ -21,7 +21,7 @@ use Rattle.ids.specs.declared.TreeId.{TreeId}
 use Rattle.ids.specs.declared.NodeId.{NodeId}
 use Rattle.record.specs.Batch.{graft?, hasGraft, Listed, Batch}
 use Rattle.reader.specs.Reader.{noNode, blank}
-use Rattle.tree.specs.State.{Forest, graftAt}
+use Rattle.state.specs.State.{Forest, graftAt}
 use Rattle.update.specs.Words.{here, claim}
 use Rattle.update.specs.Pass.{Event, names, places, fault}
 use Rattle.pass.specs.Steps.{seen, isFree, unclaimedIn}

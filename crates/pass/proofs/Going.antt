@@ -9,7 +9,7 @@ use Rattle.base.specs.Tests.{_&&_}
 use Rattle.base.proofs.Indexed.{all-below-each}
 use Rattle.ids.specs.declared.TreeId.{TreeId}
 use Rattle.record.specs.Batch.{Listed, Batch, namedIds}
-use Rattle.tree.specs.State.{Forest}
+use Rattle.state.specs.State.{Forest}
 use Rattle.update.specs.Pass.{fault, pass}
 use Rattle.pass.specs.declared.Step.{Step}
 use Rattle.pass.specs.Steps.{At, seen, rest, placing, Moves, isFree, unclaimedIn, Claimed, GoesOn}

@@ -15,7 +15,7 @@ use Rattle.ids.specs.declared.TreeId.{TreeId}
 use Rattle.ids.specs.declared.NodeId.{NodeId}
 use Rattle.record.specs.Batch.{NodeData, graft?, Batch}
 use Rattle.reader.specs.Reader.{batchIn, listedAt}
-use Rattle.tree.specs.State.{Forest}
+use Rattle.state.specs.State.{Forest}
 use Rattle.update.specs.Words.{claim}
 use Rattle.update.specs.Pass.{Event, fault}
 use Rattle.words.specs.Says.{ClaimsSay}

@@ -14,7 +14,7 @@ use Rattle.ids.specs.declared.NodeId.{NodeId}
 use Rattle.record.specs.Batch.{NodeData, Listed, Batch, namedIds}
 use Rattle.record.proofs.Batch.{named-append, named-at}
 use Rattle.reader.specs.Reader.{noNode, blank, listedAt}
-use Rattle.tree.specs.State.{Forest}
+use Rattle.state.specs.State.{Forest}
 use Rattle.update.specs.Words.{listing}
 use Rattle.update.specs.Pass.{Event, names, places, placedAtTurn, namings, events}
 use Rattle.pass.specs.Steps.{startOf, At, restOver, rest, waits}

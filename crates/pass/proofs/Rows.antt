@@ -17,7 +17,7 @@ use Rattle.ids.specs.Ids.{sameNode}
 use Rattle.ids.specs.declared.NodeId.{NodeId}
 use Rattle.record.specs.Batch.{Batch, listedIds, namedIds}
 use Rattle.reader.specs.Reader.{noNode, listedAt}
-use Rattle.tree.specs.State.{Forest}
+use Rattle.state.specs.State.{Forest}
 use Rattle.update.specs.Words.{here, listed, named}
 use Rattle.update.specs.Numbers.{placeless, nowhere}
 use Rattle.words.specs.declared.Scope.{Scope}

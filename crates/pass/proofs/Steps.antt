@@ -14,7 +14,7 @@ use Rattle.ids.proofs.Ids.{same-node→≡}
 use Rattle.ids.specs.declared.NodeId.{NodeId}
 use Rattle.record.specs.Batch.{Batch, namedIds}
 use Rattle.reader.specs.Reader.{noNode, blank, listedAt}
-use Rattle.tree.specs.State.{Forest}
+use Rattle.state.specs.State.{Forest}
 use Rattle.update.specs.Pass.{names, places, placedAtTurn, fault}
 use Rattle.words.specs.Says.{ListedSay}
 use Rattle.words.proofs.Positions.{first-cong}

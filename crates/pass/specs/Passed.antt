@@ -6,7 +6,7 @@ use Prim.Native.Nat.{ℕ}
 use lib.ListN.{length}
 use Rattle.base.specs.Tests.{any}
 use Rattle.record.specs.Batch.{Batch, listedIds, namedIds}
-use Rattle.tree.specs.State.{Forest}
+use Rattle.state.specs.State.{Forest}
 use Rattle.update.specs.Pass.{pass}
 use Rattle.update.specs.Numbers.{placeless, nowhere}
 use Rattle.words.specs.declared.Scope.{Scope}

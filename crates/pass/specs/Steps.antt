@@ -13,7 +13,7 @@ use Rattle.ids.specs.declared.TreeId.{TreeId}
 use Rattle.ids.specs.declared.NodeId.{NodeId}
 use Rattle.record.specs.Batch.{Listed, Batch, listedIds, namedIds}
 use Rattle.reader.specs.Reader.{noNode, blank, listedAt}
-use Rattle.tree.specs.State.{Forest}
+use Rattle.state.specs.State.{Forest}
 use Rattle.update.specs.Words.{listing}
 use Rattle.update.specs.Pass.{Event, places, placedAtTurn, namings, events, fault, pass}
 use Rattle.words.specs.declared.Scope.{Scope}

@@ -15,7 +15,7 @@ use Rattle.ids.specs.Ids.{sameNode}
 use Rattle.ids.specs.declared.FullNodeId.{FullNodeId}
 use Rattle.record.specs.Batch.{NodeData, sameData, Batch, listedIds}
 use Rattle.reader.specs.Reader.{listedAt}
-use Rattle.tree.specs.State.{ParentAndIndex, NodeState, Forest, find, present}
+use Rattle.state.specs.State.{ParentAndIndex, NodeState, Forest, find, present}
 use Rattle.update.specs.Words.{listing, here, mine, old, listed}
 use Rattle.update.specs.Outcome.{renewed, linkAfter, relink, outcome}
 use Rattle.update.proofs.Write.{merged, fresh, listing-some}

@@ -13,8 +13,8 @@ use Rattle.base.proofs.Bytes.{length-list-of, list-of-at, all-list-of}
 use Rattle.ids.specs.Ids.{sameId, before}
 use Rattle.ids.proofs.Ids.{same-id→≡, same-id-refl, same-id-sym, before-self, before-apart, before-trans}
 use Rattle.ids.specs.declared.FullNodeId.{FullNodeId}
-use Rattle.tree.specs.State.{NodeState, Forest}
-use Rattle.tree.specs.Sound.{ascending}
+use Rattle.state.specs.State.{NodeState, Forest}
+use Rattle.state.specs.Sound.{ascending}
 use Rattle.update.specs.Reports.{sorted}
 use Rattle.words.specs.Says.{noState, idAt}
 use Rattle.plan.specs.Plan.{Ascends}

@@ -14,7 +14,7 @@ use Rattle.ids.specs.Ids.{sameNode}
 use Rattle.ids.specs.declared.FullNodeId.{FullNodeId}
 use Rattle.record.specs.Batch.{Batch, listedIds}
 use Rattle.reader.specs.Reader.{listedAt}
-use Rattle.tree.specs.State.{Forest, present}
+use Rattle.state.specs.State.{Forest, present}
 use Rattle.update.specs.Words.{here, old, listed, turn}
 use Rattle.update.specs.Gone.{gone}
 use Rattle.update.specs.Outcome.{outcome}

@@ -17,7 +17,7 @@ use Rattle.ids.specs.declared.FullNodeId.{FullNodeId}
 use Rattle.record.specs.Batch.{Batch, listedIds}
 use Rattle.record.proofs.Batch.{listed-length, listed-at}
 use Rattle.reader.specs.Reader.{noNode, blank, listedAt}
-use Rattle.tree.specs.State.{Forest, present}
+use Rattle.state.specs.State.{Forest, present}
 use Rattle.tree.specs.View.{Columns, forestIn}
 use Rattle.update.specs.Words.{number, here, turn}
 use Rattle.words.specs.Setting.{Kept}

@@ -11,7 +11,7 @@ use Rattle.ids.specs.Ids.{sameNode, before}
 use Rattle.ids.specs.declared.TreeIndex.{TreeIndex}
 use Rattle.ids.specs.declared.FullNodeId.{FullNodeId}
 use Rattle.record.specs.Batch.{Batch, listedIds}
-use Rattle.tree.specs.State.{Forest}
+use Rattle.state.specs.State.{Forest}
 use Rattle.tree.specs.View.{idIn}
 use Rattle.update.specs.Words.{number}
 use Rattle.words.specs.Setting.{Kept}

@@ -25,7 +25,7 @@ use Rattle.record.specs.Layout.{nodeCount, recordAt}
 use Rattle.record.proofs.Batch.{listed-length, listed-at, named-append}
 use Rattle.reader.specs.Reader.{batchIn, noNode, blank, listedAt, fieldAt, entriesOf}
 use Rattle.reader.proofs.Reader.{children-count, entries-are, first-child-is}
-use Rattle.tree.specs.State.{Forest, graftAt}
+use Rattle.state.specs.State.{Forest, graftAt}
 use Rattle.tree.specs.View.{Columns, forestIn}
 use Rattle.lookup.proofs.Order.{ordered-is}
 use Rattle.update.specs.Words.{number, here, claim}

@@ -14,7 +14,7 @@ use Rattle.ids.specs.declared.TreeId.{TreeId}
 use Rattle.ids.specs.declared.TreeIndex.{TreeIndex}
 use Rattle.record.specs.Batch.{graft?, Batch, listedIds, namedIds}
 use Rattle.reader.specs.Reader.{batchIn, noNode, listedAt, fieldAt, entriesOf}
-use Rattle.tree.specs.State.{Forest}
+use Rattle.state.specs.State.{Forest}
 use Rattle.lookup.specs.Lookup.{SlotOf}
 use Rattle.words.specs.declared.Scope.{Scope}
 use Rattle.words.specs.Setting.{Batched, Scoped, Kept}

@@ -18,7 +18,7 @@ use Rattle.ids.specs.declared.FullNodeId.{FullNodeId}
 use Rattle.record.specs.Batch.{NodeData, fieldsOk, sameData, Batch, listedIds}
 use Rattle.record.proofs.Batch.{listed-length, listed-at}
 use Rattle.reader.specs.Reader.{blank, listedAt}
-use Rattle.tree.specs.State.{sameLink, NodeState, Forest, find, present, parentOf}
+use Rattle.state.specs.State.{sameLink, NodeState, Forest, find, present, parentOf}
 use Rattle.tree.specs.View.{linkOf}
 use Rattle.tree.specs.declared.LinkRow.{LinkRow}
 use Rattle.update.specs.Words.{here, old, listed}

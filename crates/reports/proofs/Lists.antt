@@ -11,7 +11,7 @@ use Rattle.base.proofs.Tests.{map-keep}
 use Rattle.base.proofs.Bytes.{length-list-of, list-of-at}
 use Rattle.ids.specs.declared.FullNodeId.{FullNodeId}
 use Rattle.record.specs.Batch.{Batch}
-use Rattle.tree.specs.State.{NodeState, idsOf, Forest, present}
+use Rattle.state.specs.State.{NodeState, idsOf, Forest, present}
 use Rattle.tree.specs.View.{Columns, idIn, forestIn}
 use Rattle.update.specs.Outcome.{paneRoot, outcome}
 use Rattle.update.specs.Reports.{added, removed, isUpdated, updated, isRelinked, relinked}

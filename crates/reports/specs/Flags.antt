@@ -8,7 +8,7 @@ use Rattle.base.specs.Tests.{keep}
 use Rattle.base.specs.Bytes.{bit, listOf}
 use Rattle.ids.specs.declared.FullNodeId.{FullNodeId}
 use Rattle.record.specs.Batch.{Batch}
-use Rattle.tree.specs.State.{Forest, present}
+use Rattle.state.specs.State.{Forest, present}
 use Rattle.update.specs.Outcome.{paneRoot, outcome}
 use Rattle.update.specs.Reports.{isUpdated, isRelinked, words}
 use Rattle.words.specs.Says.{nodeAt, idAt}

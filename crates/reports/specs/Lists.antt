@@ -10,7 +10,7 @@ use Rattle.base.specs.Bytes.{bit}
 use Rattle.ids.specs.Ids.{sameNode}
 use Rattle.ids.specs.declared.FullNodeId.{FullNodeId}
 use Rattle.record.specs.Batch.{Batch, listedIds}
-use Rattle.tree.specs.State.{Forest, present}
+use Rattle.state.specs.State.{Forest, present}
 use Rattle.tree.specs.View.{idIn}
 use Rattle.update.specs.Outcome.{paneRoot, outcome}
 use Rattle.update.specs.Reports.{isUpdated, isRelinked}

@@ -6,7 +6,7 @@ ghost use lib.Dec.{eqb, ltb, leb};
 ghost use lib.ListN.{getD};
 ghost use Rattle.base.specs.Tests.{_&&_};
 ghost use Rattle.base.specs.Bytes.{bit};
-ghost use Rattle.tree.specs.State.{Forest};
+ghost use Rattle.state.specs.State.{Forest};
 ghost use Rattle.record.specs.Batch.{Batch};
 ghost use Rattle.update.specs.Outcome.{paneRoot};
 ghost use Rattle.words.specs.Setting.{Scoped};

@@ -11,12 +11,12 @@ use Rattle.ids.specs.Ids.{sameId, before}
 use Rattle.ids.specs.declared.TreeIndex.{TreeIndex}
 use Rattle.ids.specs.declared.FullNodeId.{FullNodeId}
 use Rattle.record.specs.Batch.{NodeData, sameData, Listed, Batch, namedIds}
-use Rattle.tree.specs.State.{NodeState, Forest}
+use Rattle.state.specs.State.{NodeState, Forest}
 use Rattle.update.specs.Words.{number}
 use Rattle.update.specs.Gone.{gone}
 use Rattle.update.specs.Outcome.{renewed, write, writeAll, written, relink, outcome}
 use Rattle.update.proofs.Write.{fresh, over}
-use Rattle.tree.proofs.Pool.{childTotal}
+use Rattle.state.proofs.Pool.{childTotal}
 use Rattle.words.specs.Says.{noState}
 
 -- data written over other data has the children of one of the two

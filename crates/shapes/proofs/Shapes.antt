@@ -16,13 +16,13 @@ use Rattle.ids.specs.declared.NodeId.{NodeId}
 use Rattle.ids.specs.declared.FullNodeId.{FullNodeId}
 use Rattle.record.specs.Batch.{NodeData, Batch}
 use Rattle.reader.specs.Reader.{batchIn, noNode, listedAt}
-use Rattle.tree.specs.State.{Forest}
+use Rattle.state.specs.State.{Forest}
 use Rattle.tree.specs.View.{Columns, idIn, word, shapeIn, childrenOf, bodyIn, nodeIn, forestIn}
 use Rattle.tree.specs.declared.ShapeRow.{ShapeRow}
 use Rattle.update.specs.Outcome.{outcome}
 use Rattle.update.proofs.Outcome.{length-outcome}
 use Rattle.words.specs.Setting.{Batched, Kept}
-use Rattle.tree.proofs.Pool.{childTotal}
+use Rattle.state.proofs.Pool.{childTotal}
 use Rattle.words.specs.Says.{SourceOf, SourcesSay}
 use Rattle.words.proofs.Setting.{batched-at, batched-facts}
 use Rattle.words.proofs.Places.{forest-length, forest-node}

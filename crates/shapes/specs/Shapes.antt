@@ -9,7 +9,7 @@ use Rattle.base.specs.Tests.{if_then_else_}
 use Rattle.ids.specs.declared.NodeId.{NodeId}
 use Rattle.record.specs.Batch.{NodeData, Batch}
 use Rattle.reader.specs.Reader.{batchIn, noNode, listedAt}
-use Rattle.tree.specs.State.{Forest}
+use Rattle.state.specs.State.{Forest}
 use Rattle.tree.specs.View.{word, shapeIn, childrenOf}
 use Rattle.tree.specs.declared.ShapeRow.{ShapeRow}
 use Rattle.update.specs.Outcome.{outcome}

@@ -19,12 +19,12 @@ use Rattle.base.proofs.Indexed.{all-indexed}
 use Rattle.ids.specs.declared.FullNodeId.{FullNodeId}
 use Rattle.record.specs.Batch.{fieldsOk}
 use Rattle.tree.specs.declared.TreeState.{TreeState}
-use Rattle.tree.specs.State.{sameLink, Forest, present}
-use Rattle.tree.specs.Down.{Met, belowId, rootOf}
-use Rattle.tree.specs.Focus.{effectiveFocus}
-use Rattle.tree.specs.Sound.{rootFirst, soundLinks, soundTrees, ascending, wayEnds, soundShape, focusPresent, sound}
+use Rattle.state.specs.State.{sameLink, Forest, present}
+use Rattle.state.specs.Down.{Met, belowId, rootOf}
+use Rattle.state.specs.Focus.{effectiveFocus}
+use Rattle.state.specs.Sound.{rootFirst, soundLinks, soundTrees, ascending, wayEnds, soundShape, focusPresent, sound}
 use Rattle.tree.specs.View.{Columns, linkIn, linkOf, treeIn, bodyIn, nodeIn, entryIn, forestIn, slotCount, columnsOf, view}
-use Rattle.tree.proofs.Sound.{Shape, shape-parts, sound-parts}
+use Rattle.state.proofs.Sound.{Shape, shape-parts, sound-parts}
 use Rattle.lookup.specs.Lookup.{inOrder, standsAt}
 use Rattle.lookup.proofs.Order.{ordered-is}
 use Rattle.lookup.proofs.Found.{present-slot}

@@ -24,8 +24,8 @@ use Rattle.ids.specs.declared.TreeId.{TreeId}
 use Rattle.ids.specs.declared.NodeId.{NodeId}
 use Rattle.record.specs.Batch.{graft?}
 use Rattle.tree.specs.declared.ShapeRow.{ShapeRow}
-use Rattle.tree.specs.State.{NodeState, holder}
-use Rattle.tree.specs.Sound.{graftIsBare, graftsDiffer}
+use Rattle.state.specs.State.{NodeState, holder}
+use Rattle.state.specs.Sound.{graftIsBare, graftsDiffer}
 use Rattle.tree.specs.View.{Columns, idIn, shapeIn, childrenOf, bodyIn, nodeIn}
 use Rattle.soundness.specs.Parts.{graftIn, bareIn, allBare, graftsTree, noneGrafts, markOf, Marked, GraftsDiffer}
 

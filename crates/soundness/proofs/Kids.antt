@@ -12,8 +12,8 @@ use Rattle.base.specs.Bytes.{bit, listOf}
 use Rattle.ids.specs.declared.NodeId.{NodeId}
 use Rattle.ids.specs.declared.FullNodeId.{FullNodeId}
 use Rattle.tree.specs.declared.ShapeRow.{ShapeRow}
-use Rattle.tree.specs.State.{SubtreeState, subtreeFrom}
-use Rattle.tree.specs.Down.{Met, metUnder, childrenMet}
+use Rattle.state.specs.State.{SubtreeState, subtreeFrom}
+use Rattle.state.specs.Down.{Met, metUnder, childrenMet}
 use Rattle.tree.specs.View.{idIn, shapeIn, childrenOf, entryIn}
 use Rattle.lookup.specs.declared.Ends.{Ends}
 use Rattle.lookup.specs.declared.FoundTree.{FoundTree}

@@ -21,11 +21,11 @@ use Rattle.ids.specs.Ids.{ROOT, sameTree, sameId}
 use Rattle.ids.proofs.Ids.{same-tree→≡, same-tree-refl}
 use Rattle.ids.specs.declared.FullNodeId.{FullNodeId}
 use Rattle.tree.specs.declared.TreeRow.{TreeRow}
-use Rattle.tree.specs.State.{NodeState, Subtree, TreeEntry, idsOf, present, holder, SubtreeState, subtreeState, subtreeFrom, subtreeOf}
-use Rattle.tree.specs.Down.{rootOf}
-use Rattle.tree.specs.Sound.{grafted, allGrafted, rootFirst, oneIdEach}
+use Rattle.state.specs.State.{NodeState, Subtree, TreeEntry, idsOf, present, holder, SubtreeState, subtreeState, subtreeFrom, subtreeOf}
+use Rattle.state.specs.Down.{rootOf}
+use Rattle.state.specs.Sound.{grafted, allGrafted, rootFirst, oneIdEach}
 use Rattle.tree.specs.View.{Columns, idIn, treeIn, nodeIn, entryOf, entryIn, forestIn}
-use Rattle.tree.proofs.State.{present-has}
+use Rattle.state.proofs.State.{present-has}
 use Rattle.lookup.specs.Lookup.{standsAt}
 use Rattle.soundness.specs.Parts.{noneGrafts, rootedIn, allRooted}
 use Rattle.soundness.proofs.Grafts.{same-tree-swap, distinct-last, holder-is}

@@ -21,9 +21,9 @@ use Rattle.ids.specs.Ids.{sameId}
 use Rattle.ids.specs.declared.FullNodeId.{FullNodeId}
 use Rattle.record.specs.Batch.{graft?}
 use Rattle.tree.specs.declared.LinkRow.{LinkRow}
-use Rattle.tree.specs.State.{ParentAndIndex, sameLink, NodeState, Forest, subtreeOf}
-use Rattle.tree.specs.Down.{Met, metUnder, below, belowId}
-use Rattle.tree.specs.Sound.{recorded}
+use Rattle.state.specs.State.{ParentAndIndex, sameLink, NodeState, Forest, subtreeOf}
+use Rattle.state.specs.Down.{Met, metUnder, below, belowId}
+use Rattle.state.specs.Sound.{recorded}
 use Rattle.tree.specs.View.{Columns, idIn, linkIn, linkOf, bodyIn, nodeIn, forestIn}
 use Rattle.lookup.specs.Lookup.{standsAt}
 use Rattle.lookup.proofs.Found.{find-there, find-absent}

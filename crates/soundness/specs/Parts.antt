@@ -18,9 +18,9 @@ use Rattle.geometry.specs.declared.Rect.{Rect}
 use Rattle.geometry.specs.declared.Affine.{Affine}
 use Rattle.record.specs.Batch.{NodeData, fieldsOk}
 use Rattle.tree.specs.declared.TreeState.{TreeState}
-use Rattle.tree.specs.State.{Forest, subtreeFrom}
-use Rattle.tree.specs.Down.{Met, metUnder, childrenMet, below}
-use Rattle.tree.specs.Sound.{recorded, graftIsBare, graftsDiffer, rootFirst, oneIdEach, allGrafted, soundShape, focusPresent, sound}
+use Rattle.state.specs.State.{Forest, subtreeFrom}
+use Rattle.state.specs.Down.{Met, metUnder, childrenMet, below}
+use Rattle.state.specs.Sound.{recorded, graftIsBare, graftsDiffer, rootFirst, oneIdEach, allGrafted, soundShape, focusPresent, sound}
 use Rattle.tree.specs.View.{Columns, idIn, shapeIn, treeIn, childrenOf, bodyIn, nodeIn, entryIn, forestIn, view}
 use Rattle.lookup.specs.Lookup.{standsAt}
 use Rattle.focus.specs.Focus.{columns}

@@ -5,7 +5,7 @@ ghost use mathlib.Core.Path.{_≡_};
 ghost use mathlib.Core.Bool.{true};
 ghost use Prim.Native.Nat.{_≤_, _<_};
 ghost use Rattle.base.specs.Bytes.{bit, listOf};
-ghost use Rattle.tree.specs.Sound.{rootFirst, oneIdEach};
+ghost use Rattle.state.specs.Sound.{rootFirst, oneIdEach};
 ghost use Rattle.tree.specs.View.{entryIn};
 ghost use Rattle.lookup.specs.Lookup.{inOrder};
 ghost use Rattle.soundness.specs.Parts.{bareIn, graftsTree, noneGrafts, Marked, allBare, GraftsDiffer, rootedIn, allRooted, TreesSound, SoundShape, HasRoom, FieldsOk, FieldsOkAt, AllFieldsOk, FocusPresent, SoundColumns, soundState};

@@ -5,7 +5,7 @@ ghost use mathlib.Core.Option.{some};
 ghost use Prim.Native.Nat.{_+_, _≤_, _<_};
 ghost use lib.ListN.{getD};
 ghost use Rattle.base.specs.Tests.{sameOption};
-ghost use Rattle.tree.specs.State.{sameLink};
+ghost use Rattle.state.specs.State.{sameLink};
 ghost use Rattle.tree.specs.View.{linkOf, idIn};
 ghost use Rattle.lookup.specs.Lookup.{inOrder};
 ghost use Rattle.soundness.specs.Parts.{belowIn, KidSays, MetAt, GoesDown, Linked};

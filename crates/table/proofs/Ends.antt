@@ -14,7 +14,7 @@ use Rattle.ids.specs.declared.NodeId.{NodeId}
 use Rattle.ids.specs.declared.FullNodeId.{FullNodeId}
 use Rattle.record.specs.Batch.{Batch}
 use Rattle.tree.specs.declared.TreeRow.{TreeRow}
-use Rattle.tree.specs.State.{Forest, present}
+use Rattle.state.specs.State.{Forest, present}
 use Rattle.tree.specs.View.{Columns, treeIn, forestIn}
 use Rattle.lookup.specs.Lookup.{SlotOf}
 use Rattle.lookup.proofs.Order.{slot-of-place}

@@ -22,7 +22,7 @@ use Rattle.ids.specs.declared.TreeId.{TreeId}
 use Rattle.ids.specs.declared.NodeId.{NodeId}
 use Rattle.ids.specs.declared.FullNodeId.{FullNodeId}
 use Rattle.record.specs.Batch.{Batch}
-use Rattle.tree.specs.State.{Subtree, TreeEntry, Forest, SubtreeState, subtreeState, subtreeOf}
+use Rattle.state.specs.State.{Subtree, TreeEntry, Forest, SubtreeState, subtreeState, subtreeOf}
 use Rattle.tree.specs.View.{Columns, treeIn, entryOf, entryIn, forestIn}
 use Rattle.lookup.proofs.Trees.{stateOf, entry-none, entry-some, tree-absent, tree-unborn, tree-there}
 use Rattle.update.specs.Words.{known, number, here, rootAfter}

@@ -12,7 +12,7 @@ use Rattle.ids.specs.declared.TreeId.{TreeId}
 use Rattle.ids.specs.declared.NodeId.{NodeId}
 use Rattle.record.specs.Batch.{Batch}
 use Rattle.tree.specs.declared.TreeRow.{TreeRow}
-use Rattle.tree.specs.State.{Forest}
+use Rattle.state.specs.State.{Forest}
 use Rattle.tree.specs.View.{treeIn, entryIn}
 use Rattle.update.specs.Words.{known}
 use Rattle.update.specs.Gone.{gone}

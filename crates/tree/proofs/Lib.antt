@@ -1,12 +1,1 @@
-pub mod State
-pub mod Order
-pub mod Sound
-pub mod Down
-pub mod Family
-pub mod Ends
-pub mod Pool
-pub mod Grafts
-pub mod Focus
-pub mod Trees
 pub mod View
-pub mod Examples

@@ -12,7 +12,7 @@ use Rattle.base.proofs.Search.{first-position}
 use Rattle.ids.specs.Ids.{sameId}
 use Rattle.ids.specs.declared.FullNodeId.{FullNodeId}
 use Rattle.tree.specs.declared.TreeState.{TreeState}
-use Rattle.tree.specs.State.{idsOf}
+use Rattle.state.specs.State.{idsOf}
 use Rattle.tree.specs.View.{Columns, idIn, nodeIn, entryIn, forestIn, slotCount, columnsOf, view, emptyState}
 
 -- the ids of the first n nodes are those of the columns

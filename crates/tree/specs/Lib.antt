@@ -1,6 +1,1 @@
-pub mod State
-pub mod Down
-pub mod Focus
-pub mod Sound
 pub mod View
-pub mod ExampleStates

@@ -21,7 +21,7 @@ use Rattle.tree.specs.declared.LinkRow.{LinkRow}
 use Rattle.tree.specs.declared.ShapeRow.{ShapeRow}
 use Rattle.tree.specs.declared.TreeRow.{TreeRow}
 use Rattle.tree.specs.declared.TreeState.{TreeState}
-use Rattle.tree.specs.State.{ParentAndIndex, NodeState, TreeEntry, Forest, State}
+use Rattle.state.specs.State.{ParentAndIndex, NodeState, TreeEntry, Forest, State}
 
 -- ## Columns
 

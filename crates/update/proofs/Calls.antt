@@ -13,9 +13,9 @@ use Rattle.base.proofs.Tables.{first-zero, first-found-zero}
 use Rattle.ids.specs.declared.TreeId.{TreeId}
 use Rattle.record.specs.Batch.{Batch}
 use Rattle.record.specs.Parse.{parse}
-use Rattle.tree.specs.State.{TreeEntry, Forest, State, subtreeFrom, subtreeOf}
-use Rattle.tree.specs.Down.{rootOf, wayDown}
-use Rattle.tree.specs.Sound.{soundLinks, graftsDiffer, rootFirst, soundTrees, soundShape, sound}
+use Rattle.state.specs.State.{TreeEntry, Forest, State, subtreeFrom, subtreeOf}
+use Rattle.state.specs.Down.{rootOf, wayDown}
+use Rattle.state.specs.Sound.{soundLinks, graftsDiffer, rootFirst, soundTrees, soundShape, sound}
 use Rattle.update.specs.Outcome.{entryAfter, entriesAfter, newEntry, outcome}
 use Rattle.update.specs.Reports.{changesOf, changeWords}
 use Rattle.update.specs.Calls.{Answer, refused, accepted, judged, updateNumber, updateBatch, update, blank}

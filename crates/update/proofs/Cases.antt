@@ -12,10 +12,10 @@ use Rattle.geometry.specs.Geometry.{rectTest, affineTest, sameRect, sameAffine}
 use Rattle.record.specs.Batch.{activeDescendant?, graft?, bounds?, transform?, fieldsOk, sameData, listedIds, namedIds}
 use Rattle.record.specs.Parse.{headerOk, childrenBefore, labelsBefore, recordOk, wellFormed, parse}
 use Rattle.record.specs.Encode.{recordBytes, recordsBytes, entryBytes, labels, headerBytes, encode}
-use Rattle.tree.specs.State.{sameLink, idsOf, find, present, graftAt, linkAt, parentAt, holder, subtreeState, subtreeFrom, subtreeOf}
-use Rattle.tree.specs.Down.{metUnder, childrenMet, below, belowId, down, rootOf, wayDown, climb}
-use Rattle.tree.specs.Focus.{throughGrafts, effectiveFocus, orActiveDescendant, stateFocus}
-use Rattle.tree.specs.Sound.{metOnce, recorded, graftIsBare, soundLinks, graftsDiffer, grafted, allGrafted, rootFirst, oneIdEach, soundTrees, ascending, wayEnds, soundShape, focusPresent, sound}
+use Rattle.state.specs.State.{sameLink, idsOf, find, present, graftAt, linkAt, parentAt, holder, subtreeState, subtreeFrom, subtreeOf}
+use Rattle.state.specs.Down.{metUnder, childrenMet, below, belowId, down, rootOf, wayDown, climb}
+use Rattle.state.specs.Focus.{throughGrafts, effectiveFocus, orActiveDescendant, stateFocus}
+use Rattle.state.specs.Sound.{metOnce, recorded, graftIsBare, soundLinks, graftsDiffer, grafted, allGrafted, rootFirst, oneIdEach, soundTrees, ascending, wayEnds, soundShape, focusPresent, sound}
 use Rattle.update.specs.Words.{listing, known, number, here, mine, old, listed, turn, naming, named, withTreeData, rootAfter, isRoot, claim, claimer, claimedFrom, letsGo}
 use Rattle.update.specs.Pass.{placedAtTurn, namings, events, fault, pass}
 use Rattle.update.specs.Gone.{goesIf, fares, replaced, fateHere, fateElsewhere, fate, goneWithin, gone}

@@ -11,12 +11,12 @@ use Rattle.base.proofs.Lists.{none-of, all-of}
 use Rattle.ids.specs.Ids.{ROOT, sameTree, sameNode}
 use Rattle.ids.proofs.Ids.{same-tree→≡}
 use Rattle.record.specs.Batch.{graft?, Listed, Batch, listedIds}
-use Rattle.tree.specs.State.{Forest, graftAt, holder, SubtreeState, subtreeOf}
-use Rattle.tree.specs.Focus.{throughGrafts, effectiveFocus}
-use Rattle.tree.specs.Sound.{graftsDiffer, sound}
-use Rattle.tree.proofs.Sound.{shape-parts, sound-parts}
-use Rattle.tree.proofs.Grafts.{spares, not-spares, holder-spared, graft-spared, root-spared}
-use Rattle.tree.proofs.Focus.{room-enough}
+use Rattle.state.specs.State.{Forest, graftAt, holder, SubtreeState, subtreeOf}
+use Rattle.state.specs.Focus.{throughGrafts, effectiveFocus}
+use Rattle.state.specs.Sound.{graftsDiffer, sound}
+use Rattle.state.proofs.Sound.{shape-parts, sound-parts}
+use Rattle.state.proofs.Grafts.{spares, not-spares, holder-spared, graft-spared, root-spared}
+use Rattle.state.proofs.Focus.{room-enough}
 use Rattle.update.specs.Words.{here, claim}
 use Rattle.update.specs.Pass.{pass}
 use Rattle.update.specs.Outcome.{outcome}

@@ -13,7 +13,7 @@ use Rattle.ids.specs.Ids.{sameNode}
 use Rattle.ids.specs.declared.TreeId.{TreeId}
 use Rattle.ids.specs.declared.NodeId.{NodeId}
 use Rattle.record.specs.Batch.{Batch}
-use Rattle.tree.specs.State.{Forest}
+use Rattle.state.specs.State.{Forest}
 use Rattle.update.specs.Words.{claim}
 use Rattle.update.specs.Pass.{Event, names, places, events, fault, pass}
 use Rattle.update.specs.Outcome.{outcome}

@@ -14,10 +14,10 @@ use Rattle.ids.proofs.Ids.{same-id→≡}
 use Rattle.ids.specs.declared.TreeIndex.{TreeIndex}
 use Rattle.ids.specs.declared.FullNodeId.{FullNodeId}
 use Rattle.record.specs.Batch.{NodeData, sameData, Listed, Batch, listedIds}
-use Rattle.tree.specs.State.{NodeState, idsOf, Forest, find, present}
-use Rattle.tree.specs.Sound.{ascending}
-use Rattle.tree.proofs.State.{present-has, present-keep}
-use Rattle.tree.proofs.Order.{find-keep, ascending-keep, find-map, ascending-map}
+use Rattle.state.specs.State.{NodeState, idsOf, Forest, find, present}
+use Rattle.state.specs.Sound.{ascending}
+use Rattle.state.proofs.State.{present-has, present-keep}
+use Rattle.state.proofs.Order.{find-keep, ascending-keep, find-map, ascending-map}
 use Rattle.update.specs.Words.{listing, number, mine, listed}
 use Rattle.update.specs.Gone.{replaced, fares, fate, goneWithin, gone}
 use Rattle.update.specs.Outcome.{renewed, write, writeAll, written, linkAfter, relink, outcome}

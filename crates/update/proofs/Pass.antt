@@ -17,7 +17,7 @@ use Rattle.ids.proofs.Ids.{same-tree-refl, same-node→≡, same-node-refl, sam
 use Rattle.ids.specs.declared.TreeId.{TreeId}
 use Rattle.ids.specs.declared.NodeId.{NodeId}
 use Rattle.record.specs.Batch.{NodeData, graft?, Listed, Batch, listedIds, namedIds}
-use Rattle.tree.specs.State.{Forest}
+use Rattle.state.specs.State.{Forest}
 use Rattle.update.specs.Words.{listing, number, here, mine, naming, named, claim}
 use Rattle.update.specs.Pass.{Event, names, places, placedAtTurn, namings, events, fault, pass}
 use Rattle.update.specs.Numbers.{placeless}

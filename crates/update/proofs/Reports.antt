@@ -15,11 +15,11 @@ use Rattle.ids.proofs.Ids.{same-index→≡, same-id→≡, same-index-refl}
 use Rattle.ids.specs.declared.FullNodeId.{FullNodeId}
 use Rattle.record.specs.Batch.{NodeData, fieldsOk, sameData, Listed, Batch, listedIds}
 use Rattle.record.proofs.Batch.{same-data-refl}
-use Rattle.tree.specs.State.{ParentAndIndex, sameLink, NodeState, idsOf, Forest, find, present, linkAt, parentOf, parentAt}
-use Rattle.tree.specs.Sound.{ascending, soundShape, sound}
-use Rattle.tree.proofs.State.{present-has, find-id, find-member, find-self}
-use Rattle.tree.proofs.Order.{ascending-keep}
-use Rattle.tree.proofs.Sound.{shape-parts, sound-parts}
+use Rattle.state.specs.State.{ParentAndIndex, sameLink, NodeState, idsOf, Forest, find, present, linkAt, parentOf, parentAt}
+use Rattle.state.specs.Sound.{ascending, soundShape, sound}
+use Rattle.state.proofs.State.{present-has, find-id, find-member, find-self}
+use Rattle.state.proofs.Order.{ascending-keep}
+use Rattle.state.proofs.Sound.{shape-parts, sound-parts}
 use Rattle.update.specs.Words.{listing, number, here, mine, listed}
 use Rattle.update.specs.Gone.{gone}
 use Rattle.update.specs.Outcome.{renewed, written, linkAfter, outcome}

@@ -14,11 +14,11 @@ use Rattle.base.proofs.Tables.{first-zero, first-found-zero}
 use Rattle.ids.specs.Ids.{ROOT, sameTree, sameNode}
 use Rattle.ids.specs.declared.FullNodeId.{FullNodeId}
 use Rattle.record.specs.Batch.{fieldsOk, Batch, listedIds, namedIds}
-use Rattle.tree.specs.State.{TreeEntry, Forest, present, holder, subtreeOf}
-use Rattle.tree.specs.Down.{rootOf}
-use Rattle.tree.specs.Focus.{effectiveFocus}
-use Rattle.tree.specs.Sound.{graftsDiffer, soundShape, focusPresent, sound}
-use Rattle.tree.proofs.Sound.{sound-of}
+use Rattle.state.specs.State.{TreeEntry, Forest, present, holder, subtreeOf}
+use Rattle.state.specs.Down.{rootOf}
+use Rattle.state.specs.Focus.{effectiveFocus}
+use Rattle.state.specs.Sound.{graftsDiffer, soundShape, focusPresent, sound}
+use Rattle.state.proofs.Sound.{sound-of}
 use Rattle.update.specs.Words.{known, withTreeData}
 use Rattle.update.specs.Pass.{pass}
 use Rattle.update.specs.Outcome.{subtreeHere, entriesAfter, newEntry, outcome}

@@ -15,9 +15,9 @@ use Rattle.ids.specs.declared.TreeIndex.{TreeIndex}
 use Rattle.ids.specs.declared.NodeId.{NodeId}
 use Rattle.ids.specs.declared.FullNodeId.{FullNodeId}
 use Rattle.record.specs.Batch.{NodeData, Listed, listedIds}
-use Rattle.tree.specs.State.{NodeState, find}
-use Rattle.tree.specs.Sound.{ascending}
-use Rattle.tree.proofs.Order.{find-none}
+use Rattle.state.specs.State.{NodeState, find}
+use Rattle.state.specs.Sound.{ascending}
+use Rattle.state.proofs.Order.{find-none}
 use Rattle.update.specs.Words.{listing}
 use Rattle.update.specs.Outcome.{renewed, write, writeAll}
 

@@ -12,9 +12,9 @@ use Rattle.ids.specs.Ids.{ROOT, sameTree}
 use Rattle.ids.specs.declared.FullNodeId.{FullNodeId}
 use Rattle.record.specs.Batch.{Batch}
 use Rattle.record.specs.Parse.{parse}
-use Rattle.tree.specs.State.{Forest, State}
-use Rattle.tree.specs.Focus.{stateFocus}
-use Rattle.tree.specs.Sound.{sound}
+use Rattle.state.specs.State.{Forest, State}
+use Rattle.state.specs.Focus.{stateFocus}
+use Rattle.state.specs.Sound.{sound}
 use Rattle.update.specs.Outcome.{outcome}
 use Rattle.update.specs.Reports.{Changes, noChanges, changesOf, Lengths, lengthsOf, changeWords, lent, extraBefore, extraAfter}
 use Rattle.update.specs.Numbers.{batchNumber}

@@ -6,8 +6,8 @@ use Prim.Native.Nat.{ℕ}
 use Rattle.ids.specs.Ids.{ROOT}
 use Rattle.record.specs.Batch.{Listed, Batch}
 use Rattle.record.specs.ExampleNodes.{T, parent, leaf, labelled, grafts, graftOver, lists, batchFor, batch}
-use Rattle.tree.specs.ExampleStates.{id, root, under, tree, state}
-use Rattle.tree.specs.State.{NodeState, TreeEntry, State}
+use Rattle.state.specs.ExampleStates.{id, root, under, tree, state}
+use Rattle.state.specs.State.{NodeState, TreeEntry, State}
 use Rattle.update.specs.Calls.{Answer}
 use Rattle.update.specs.ExampleCalls.{startOf, then, refuses, starts, accepts, changes, Case, _gives_}
 

@@ -7,7 +7,7 @@ use Prim.Native.Nat.{ℕ, _-_}
 use lib.ListN.{length, replicate}
 use Rattle.ids.specs.declared.FullNodeId.{FullNodeId}
 use Rattle.record.specs.Batch.{Batch}
-use Rattle.tree.specs.State.{State}
+use Rattle.state.specs.State.{State}
 use Rattle.update.specs.Reports.{Changes}
 use Rattle.update.specs.Calls.{Answer, refused, updateBatch, startBatch}
 

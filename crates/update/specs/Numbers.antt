@@ -12,10 +12,10 @@ use Rattle.ids.specs.Ids.{ROOT, sameTree, sameNode}
 use Rattle.ids.specs.declared.NodeId.{NodeId}
 use Rattle.ids.specs.declared.FullNodeId.{FullNodeId}
 use Rattle.record.specs.Batch.{sameData, Listed, Batch, listedIds, namedIds}
-use Rattle.tree.specs.State.{NodeState, Forest, find, present, holder, subtreeOf}
-use Rattle.tree.specs.Down.{rootOf}
-use Rattle.tree.specs.Focus.{effectiveFocus}
-use Rattle.tree.specs.Sound.{graftsDiffer, soundShape}
+use Rattle.state.specs.State.{NodeState, Forest, find, present, holder, subtreeOf}
+use Rattle.state.specs.Down.{rootOf}
+use Rattle.state.specs.Focus.{effectiveFocus}
+use Rattle.state.specs.Sound.{graftsDiffer, soundShape}
 use Rattle.update.specs.Words.{known, here, old, listed, named, withTreeData}
 use Rattle.update.specs.Pass.{placedAtTurn, pass}
 use Rattle.update.specs.Gone.{gone}

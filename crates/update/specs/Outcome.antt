@@ -10,7 +10,7 @@ use Rattle.ids.specs.Ids.{ROOT, sameTree, sameIndex, sameId, before}
 use Rattle.ids.specs.declared.TreeIndex.{TreeIndex}
 use Rattle.ids.specs.declared.FullNodeId.{FullNodeId}
 use Rattle.record.specs.Batch.{NodeData, sameData, Listed, Batch}
-use Rattle.tree.specs.State.{ParentAndIndex, NodeState, Subtree, TreeEntry, Forest, holder}
+use Rattle.state.specs.State.{ParentAndIndex, NodeState, Subtree, TreeEntry, Forest, holder}
 use Rattle.update.specs.Words.{known, number, mine, old, listed, turn, naming, withTreeData, isRoot, claimedFrom}
 use Rattle.update.specs.Gone.{gone}
 

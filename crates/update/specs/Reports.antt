@@ -9,8 +9,8 @@ use Rattle.base.specs.Tests.{_&&_, if_then_else_, isSome, all, keep, sameOption
 use Rattle.ids.specs.Ids.{sameId, before}
 use Rattle.ids.specs.declared.FullNodeId.{FullNodeId}
 use Rattle.record.specs.Batch.{sameData, Batch}
-use Rattle.tree.specs.State.{sameLink, NodeState, idsOf, Forest, State, find, present, parentAt}
-use Rattle.tree.specs.Focus.{stateFocus}
+use Rattle.state.specs.State.{sameLink, NodeState, idsOf, Forest, State, find, present, parentAt}
+use Rattle.state.specs.Focus.{stateFocus}
 use Rattle.update.specs.Outcome.{paneRoot, outcome}
 
 -- ## The four lists

@@ -19,7 +19,7 @@ use Rattle.ids.specs.declared.TreeId.{TreeId}
 use Rattle.ids.specs.declared.FullNodeId.{FullNodeId}
 use Rattle.record.specs.Batch.{NodeData, graft?, Listed, Batch}
 use Rattle.reader.specs.Reader.{batchIn, blank, listedAt}
-use Rattle.tree.specs.State.{NodeState, Forest, graftAt, holder}
+use Rattle.state.specs.State.{NodeState, Forest, graftAt, holder}
 use Rattle.tree.specs.View.{Columns, shapeIn, bodyIn, nodeIn, forestIn}
 use Rattle.update.specs.Words.{here, listed, claim, claimer, claimedFrom, letsGo}
 use Rattle.words.specs.Setting.{Batched}

@@ -6,11 +6,11 @@ use native.Mathlib.Omega.{arith}
 use lib.ListN.{length}
 use borrow.Author.Tests.{leb-true}
 use Rattle.record.specs.Batch.{Batch}
-use Rattle.tree.specs.State.{Forest, find, linkAt}
-use Rattle.tree.specs.Sound as sound
-use Rattle.tree.proofs.Sound.{shape-parts, sound-parts}
-use Rattle.tree.proofs.Family.{parent-present}
-use Rattle.tree.proofs.Pool.{childTotal, children-few}
+use Rattle.state.specs.State.{Forest, find, linkAt}
+use Rattle.state.specs.Sound as sound
+use Rattle.state.proofs.Sound.{shape-parts, sound-parts}
+use Rattle.state.proofs.Family.{parent-present}
+use Rattle.state.proofs.Pool.{childTotal, children-few}
 use Rattle.update.specs.Calls.{seed}
 use Rattle.update.proofs.Gone.{gone-parent}
 use Rattle.words.specs.Setting.{Kept}

@@ -17,8 +17,8 @@ use Rattle.ids.specs.Ids.{sameId, before}
 use Rattle.ids.proofs.Ids.{same-id→≡, same-id-refl, before-apart}
 use Rattle.ids.specs.declared.FullNodeId.{FullNodeId}
 use Rattle.record.specs.Batch.{Batch}
-use Rattle.tree.specs.State.{NodeState, idsOf, Forest, find, present, linkAt}
-use Rattle.tree.specs.Sound.{ascending}
+use Rattle.state.specs.State.{NodeState, idsOf, Forest, find, present, linkAt}
+use Rattle.state.specs.Sound.{ascending}
 use Rattle.tree.specs.View.{Columns, idIn, nodeIn, forestIn}
 use Rattle.update.specs.Words.{old}
 use Rattle.words.specs.Says.{noState, nodeAt, idAt, slotAt}

@@ -16,7 +16,7 @@ use Rattle.ids.specs.declared.NodeId.{NodeId}
 use Rattle.ids.specs.declared.FullNodeId.{FullNodeId}
 use Rattle.record.specs.Batch.{NodeData, sameData, Listed, Batch, listedIds, namedIds}
 use Rattle.reader.specs.Reader.{noNode, blank, listedAt}
-use Rattle.tree.specs.State.{ParentAndIndex, NodeState, idsOf, Forest, find}
+use Rattle.state.specs.State.{ParentAndIndex, NodeState, idsOf, Forest, find}
 use Rattle.tree.specs.View.{shapeIn, forestIn}
 use Rattle.update.specs.Words.{here, mine, old, listed, turn, claim}
 use Rattle.update.specs.Gone.{gone}

@@ -12,9 +12,9 @@ use Rattle.ids.specs.declared.FullNodeId.{FullNodeId}
 use Rattle.record.specs.Batch.{fieldsOk, Batch, namedIds}
 use Rattle.record.specs.Parse.{wellFormed}
 use Rattle.reader.specs.Reader.{batchIn}
-use Rattle.tree.specs.State.{ParentAndIndex, Forest, present, linkAt}
-use Rattle.tree.specs.Sound as sound
-use Rattle.tree.proofs.Pool.{childTotal}
+use Rattle.state.specs.State.{ParentAndIndex, Forest, present, linkAt}
+use Rattle.state.specs.Sound as sound
+use Rattle.state.proofs.Pool.{childTotal}
 use Rattle.update.specs.Words.{number, withTreeData, rootAfter}
 use Rattle.update.specs.Gone.{fares, fate, gone}
 use Rattle.words.specs.declared.Scope.{Scope}

@@ -7,7 +7,7 @@ use lib.Ieee.{Float}
 use lib.ListN.{length}
 use Rattle.base.specs.Bytes.{listOf}
 use Rattle.base.proofs.Columns.{list-of-each}
-use Rattle.tree.specs.State.{Forest}
+use Rattle.state.specs.State.{Forest}
 use Rattle.tree.specs.View.{Columns, idIn, linkIn, linkOf, bodyIn, nodeIn}
 use Rattle.update.specs.Outcome.{outcome}
 use Rattle.words.specs.Says.{noState, nodeAt}

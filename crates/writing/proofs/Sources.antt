@@ -16,7 +16,7 @@ use Rattle.geometry.specs.declared.Affine.{Affine}
 use Rattle.record.specs.Batch.{NodeData, fieldsOk, Listed, Batch}
 use Rattle.record.proofs.Batch.{field-rules}
 use Rattle.reader.specs.Reader.{blank, listedAt}
-use Rattle.tree.specs.State.{NodeState, Forest}
+use Rattle.state.specs.State.{NodeState, Forest}
 use Rattle.tree.specs.View.{Columns, bodyIn, nodeIn, forestIn}
 use Rattle.update.specs.Outcome.{outcome}
 use Rattle.update.proofs.Outcome.{length-outcome}

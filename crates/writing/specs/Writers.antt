@@ -14,7 +14,7 @@ use Rattle.geometry.specs.declared.Rect.{Rect}
 use Rattle.geometry.specs.declared.Affine.{Affine}
 use Rattle.record.specs.Batch.{NodeData, Batch, listedIds}
 use Rattle.reader.specs.Reader.{batchIn, listedAt}
-use Rattle.tree.specs.State.{Forest}
+use Rattle.state.specs.State.{Forest}
 use Rattle.tree.specs.View.{Columns, linkIn, textIn, labelIn, boundsIn, transformIn, nodeIn}
 use Rattle.tree.specs.declared.LinkRow.{LinkRow}
 use Rattle.update.specs.Words.{number}

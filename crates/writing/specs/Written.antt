@@ -5,7 +5,7 @@ use Prim.Native.Nat.{ℕ, _<_}
 use lib.Ieee.{Float}
 use lib.ListN.{length}
 use Rattle.record.specs.Batch.{NodeData}
-use Rattle.tree.specs.State.{Forest}
+use Rattle.state.specs.State.{Forest}
 use Rattle.tree.specs.View.{idIn, linkIn, textIn, boundsIn, transformIn, linkOf, labelIn}
 use Rattle.words.specs.Says.{nodeAt, idAt}
 

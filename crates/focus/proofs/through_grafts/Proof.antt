@@ -5,7 +5,7 @@ use mathlib.Core.List.{List}
 use Prim.Native.Nat.{ℕ, _+_, _-_}
 use lib.Ieee.{Float}
 use Rattle.tree.specs.View.{forestIn}
-use Rattle.tree.specs.Focus.{throughGrafts}
+use Rattle.state.specs.Focus.{throughGrafts}
 use Rattle.focus.specs.Focus.{columns, foundOf}
 use Rattle.base.proofs.Tests.{call-true, call-false}
 use Rattle.focus.proofs.Way.{graft-absent, graft-none, graft-some, through-none, through-end, through-lost, through-on}

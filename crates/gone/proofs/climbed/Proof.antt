@@ -4,7 +4,7 @@ use mathlib.Core.Path.{_≡_}
 use Prim.Native.Nat.{_<_}
 use lib.ListN.{length}
 use Rattle.record.specs.Batch.{Batch}
-use Rattle.tree.specs.State.{Forest}
+use Rattle.state.specs.State.{Forest}
 use Rattle.words.specs.Setting.{Kept}
 use Rattle.words.specs.Says.{MarksSay, AboveSay}
 use Rattle.gone.specs.Fates.{fateMark}

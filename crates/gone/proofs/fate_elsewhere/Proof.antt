@@ -8,7 +8,7 @@ use Rattle.base.specs.Tests.{isSome, sameOption}
 use Rattle.ids.specs.Ids.{sameTree}
 use Rattle.record.specs.Batch.{graft?, Batch}
 use Rattle.reader.specs.Reader.{listedAt}
-use Rattle.tree.specs.State.{Forest, graftAt}
+use Rattle.state.specs.State.{Forest, graftAt}
 use Rattle.update.specs.Words.{claimedFrom}
 use Rattle.gone.specs.Fates.{Around, Parented}
 use Rattle.gone.proofs.Claims.{claimed-is, held-is}

@@ -5,7 +5,7 @@ use Prim.Native.Nat.{ℕ, _<_, _-_}
 use lib.ListN.{length, length-set, length-replicate}
 use Rattle.base.proofs.Indexed.{both-below, past-either}
 use Rattle.record.specs.Batch.{Batch}
-use Rattle.tree.specs.State.{Forest}
+use Rattle.state.specs.State.{Forest}
 use Rattle.tree.specs.View.{forestIn}
 use Rattle.update.specs.Gone.{gone}
 use Rattle.words.specs.Setting.{Kept}

@@ -2,7 +2,7 @@
 use mathlib.Core.Bool.{not}
 use mathlib.Core.Path.{sym, ap, _∙_}
 use Rattle.tree.specs.View.{forestIn}
-use Rattle.tree.proofs.Sound.{shape-parts}
+use Rattle.state.proofs.Sound.{shape-parts}
 use borrow.Author.Needs.{needs}
 use Rattle.numbers.proofs.grafted_twice.Statement.{statement}
 use Rattle.numbers.proofs.grafted_twice.Tie as tie

@@ -7,7 +7,7 @@ use Rattle.base.specs.Tests.{any}
 use Rattle.base.proofs.Indexed.{both-below, past-either}
 use Rattle.record.specs.Batch.{Batch, namedIds}
 use Rattle.reader.specs.Reader.{noNode}
-use Rattle.tree.specs.State.{Forest}
+use Rattle.state.specs.State.{Forest}
 use Rattle.update.specs.Numbers.{nowhere}
 use Rattle.pass.proofs.Rows.{any-here, any-later, any-nowhere, Sought, sought-from, nowhere-is}
 use borrow.Author.Needs.{needs}

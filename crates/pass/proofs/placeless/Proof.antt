@@ -7,7 +7,7 @@ use Rattle.base.specs.Tests.{any}
 use Rattle.base.proofs.Indexed.{both-below, past-either}
 use Rattle.record.specs.Batch.{Batch}
 use Rattle.reader.specs.Reader.{blank, listedAt}
-use Rattle.tree.specs.State.{Forest}
+use Rattle.state.specs.State.{Forest}
 use Rattle.update.specs.Numbers.{placeless}
 use Rattle.words.proofs.Setting.{batched-facts}
 use Rattle.pass.proofs.Rows.{any-here, any-later, any-nowhere, Judged, judged-from, placeless-is}

@@ -1,0 +1,11 @@
+pub mod State
+pub mod Order
+pub mod Sound
+pub mod Down
+pub mod Family
+pub mod Ends
+pub mod Pool
+pub mod Grafts
+pub mod Focus
+pub mod Trees
+pub mod Examples

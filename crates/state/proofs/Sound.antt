@@ -1,0 +1,142 @@
+-- What soundness says, part by part, and back; the root; the effective focus is never a graft. Assumes nothing.
+use mathlib.Core.Bool.{Bool, true, false, false≢true}
+use mathlib.Core.List.{List, [], _∷_}
+use mathlib.Core.Option.{Option, none, some, Option·none-ne-some, Option·some-injective}
+use mathlib.Core.Path.{_≡_, refl, sym, ap, _∙_}
+use Prim.Native.Nat.{ℕ, zero, suc}
+use lib.Dec.{leb}
+use lib.ListN.{length}
+use Rattle.base.specs.Tests.{_&&_, all}
+use Rattle.base.proofs.Tests.{both, joined}
+use Rattle.ids.specs.Ids.{ROOT, sameTree}
+use Rattle.ids.proofs.Ids.{same-tree→≡}
+use Rattle.ids.specs.declared.TreeId.{TreeId}
+use Rattle.ids.specs.declared.FullNodeId.{FullNodeId}
+use Rattle.record.specs.Batch.{fieldsOk}
+use Rattle.state.specs.State.{NodeState, Subtree, TreeEntry, Forest, present, graftAt, SubtreeState, subtreeState, subtreeFrom, subtreeOf}
+use Rattle.state.specs.Down.{rootOf, wayDown}
+use Rattle.state.specs.Focus.{throughGrafts, effectiveFocus}
+use Rattle.state.specs.Sound.{metOnce, recorded, graftIsBare, soundLinks, graftsDiffer, grafted, allGrafted, rootFirst, oneIdEach, soundTrees, ascending, wayEnds, soundShape, focusPresent, sound}
+
+-- ## The parts
+
+pub record Shape (s : Forest) : Type 0 where
+  pub once : all (metOnce (wayDown s)) (s .nodes) ≡ true
+  pub only : all (recorded (s .nodes)) (wayDown s) ≡ true
+  pub bare : all graftIsBare (s .nodes) ≡ true
+  pub differ : graftsDiffer (s .nodes) ≡ true
+  pub first : rootFirst (s .trees) ≡ true
+  pub one-id : oneIdEach (s .trees) ≡ true
+  pub held : allGrafted (s .nodes) 0 (s .trees) ≡ true
+  pub ordered : ascending (s .nodes) ≡ true
+  pub ends : leb (length (wayDown s)) (length (s .nodes)) ≡ true
+
+pub shape-parts : (s : Forest) → soundShape s ≡ true → Shape s
+unfolding soundShape soundLinks soundTrees wayEnds
+shape-parts s e =
+    let parts = both e in
+    let before-order = both (parts .0) in
+    let rules = both (before-order .0) in
+    let links = both (rules .0) in
+    let trees = both (rules .1) in
+    let tables = both (trees .0) in
+    record {
+      once = both (links .0) .0;
+      only = both (links .0) .1;
+      bare = links .1;
+      differ = both (tables .0) .0;
+      first = both (tables .0) .1;
+      one-id = tables .1;
+      held = trees .1;
+      ordered = before-order .1;
+      ends = parts .1;
+    }
+
+pub record Sound (s : Forest) : Type 0 where
+  pub shape : soundShape s ≡ true
+  pub few-nodes : leb (length (s .nodes)) 256 ≡ true
+  pub few-trees : leb (length (s .trees)) 32 ≡ true
+  pub fields : all (λ n. fieldsOk (n .body)) (s .nodes) ≡ true
+  pub focus : focusPresent s ≡ true
+
+pub sound-parts : (s : Forest) → sound s ≡ true → Sound s
+unfolding sound
+sound-parts s e =
+    let four = both e in
+    let three = both (four .0) in
+    let two = both (three .0) in
+    record { shape = both (two .0) .0; few-nodes = both (two .0) .1; few-trees = two .1; fields = three .1; focus = four .1 }
+
+pub sound-of : (s : Forest) → Sound s → sound s ≡ true
+unfolding sound
+sound-of s p = joined (joined (joined (joined (p .shape) (p .few-nodes)) (p .few-trees)) (p .fields)) (p .focus)
+
+-- ## The root
+
+pub record Root (s : Forest) : Type 0 where
+  pub root : FullNodeId
+  pub is-root : rootOf s ≡ some root
+  pub there : present (s .nodes) root ≡ true
+
+root-of-first : (ns : List NodeState) (t : TreeEntry) (ts : List TreeEntry) (u : Subtree) → t .id ≡ ROOT → t .subtree ≡ some u
+    → rootOf (record { nodes = ns; trees = t ∷ ts }) ≡ some (record { tree = record { 0 = 0 }; node = u .root })
+unfolding rootOf subtreeOf subtreeFrom subtreeState sameTree _&&_
+root-of-first ns t ts u p q = rw (p, q) refl
+
+root-of-tables : (ns : List NodeState) (es : List TreeEntry) → rootFirst es ≡ true → allGrafted ns 0 es ≡ true → Root (record { nodes = ns; trees = es })
+unfolding rootFirst allGrafted grafted
+root-of-tables ns [] e f = absurd (false≢true e)
+root-of-tables ns (t ∷ ts) e f = go (t .subtree) refl
+  where
+    go : (o : Option Subtree) → t .subtree ≡ o → Root (record { nodes = ns; trees = t ∷ ts })
+    go none q = absurd (false≢true (rw q at (both e .1)))
+    go (some u) q = record {
+      root = record { tree = record { 0 = 0 }; node = u .root };
+      is-root = root-of-first ns t ts u (same-tree→≡ (t .id) ROOT (both e .0)) q;
+      there = both (rw q at (both f .0)) .0;
+    }
+
+pub root-of-shape : (s : Forest) → Shape s → Root s
+root-of-shape s h = root-of-tables (s .nodes) (s .trees) (h .first) (h .held)
+
+-- ## The effective focus
+
+-- a way through the grafts ends at no graft
+pub through-grafts-end : (s : Forest) (room : ℕ) (x y : FullNodeId) → throughGrafts room s x ≡ some y → graftAt (s .nodes) y ≡ none
+unfolding throughGrafts
+through-grafts-end s zero x y e = absurd (Option·none-ne-some y e)
+through-grafts-end s (suc room) x y e = go (graftAt (s .nodes) x) refl e (λ z. through-grafts-end s room z y)
+  where
+    on : (o : Option SubtreeState) → (elim o as (λ _. Option FullNodeId) [ none ↦ none | some u ↦ throughGrafts room s (u .focus) ]) ≡ some y
+        → ((z : FullNodeId) → throughGrafts room s z ≡ some y → graftAt (s .nodes) y ≡ none) → graftAt (s .nodes) y ≡ none
+    on none f h = absurd (Option·none-ne-some y f)
+    on (some u) f h = h (u .focus) f
+
+    go : (o : Option TreeId) → graftAt (s .nodes) x ≡ o
+        → (elim o as (λ _. Option FullNodeId) [
+          | none ↦ some x
+          | some t ↦ elim (subtreeOf s t) [ none ↦ none | some u ↦ throughGrafts room s (u .focus) ]
+        ]) ≡ some y
+        → ((z : FullNodeId) → throughGrafts room s z ≡ some y → graftAt (s .nodes) y ≡ none) → graftAt (s .nodes) y ≡ none
+    go none q f h = ap (graftAt (s .nodes)) (sym (Option·some-injective x y f)) ∙ q
+    go (some t) q f h = on (subtreeOf s t) f h
+
+pub record Focus (s : Forest) : Type 0 where
+  pub focus : FullNodeId
+  pub effective : effectiveFocus s ≡ some focus
+  pub there : present (s .nodes) focus ≡ true
+  pub no-graft : graftAt (s .nodes) focus ≡ none
+
+pub focus-of-sound : (s : Forest) → focusPresent s ≡ true → Focus s
+unfolding focusPresent
+focus-of-sound s e = go (effectiveFocus s) refl e
+  where
+    end : (o : Option SubtreeState) (y : FullNodeId)
+        → (elim o as (λ _. Option FullNodeId) [ none ↦ none | some u ↦ throughGrafts (suc (length (s .trees))) s (u .focus) ]) ≡ some y
+        → graftAt (s .nodes) y ≡ none
+    end none y q = absurd (Option·none-ne-some y q)
+    end (some u) y q = through-grafts-end s (suc (length (s .trees))) (u .focus) y q
+
+    go : (o : Option FullNodeId) → effectiveFocus s ≡ o → (elim o as (λ _. Bool) [ none ↦ false | some x ↦ present (s .nodes) x ]) ≡ true → Focus s
+    go none q f = absurd (false≢true f)
+    go (some x) q f = record { focus = x; effective = q; there = f; no-graft = end (subtreeOf s ROOT) x (unfold effectiveFocus in q) }

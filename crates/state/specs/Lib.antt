@@ -1,0 +1,5 @@
+pub mod State
+pub mod Down
+pub mod Focus
+pub mod Sound
+pub mod ExampleStates

@@ -1,0 +1,1 @@
+// The abstract state: its definition stands in specs/, its laws in proofs/.

@@ -1,0 +1,34 @@
+-- `state_array::label_byte` meets its contract: a byte of a word, and 0 past the four words. Assumes nothing.
+use borrow.Author.Tests.{lt-ltb, le-ltb}
+use Rattle.state_array.specs.View.{labelByte}
+use borrow.Author.Needs.{needs}
+use Rattle.state_array.proofs.label_byte.Statement.{statement}
+use Rattle.state_array.proofs.label_byte.Tie as tie
+
+returns : tie.Need-returns
+unfolding labelByte
+returns c = rw (le-ltb (c .before .args .j) 32 (c .if1 .taken))
+
+add-word-at : tie.Need-add-word-at
+add-word-at c = search needs
+
+word-at-requires : tie.Need-word-at-requires
+word-at-requires c κs = search needs
+
+mul-byte : tie.Need-mul-byte
+mul-byte c = search needs
+
+shr-byte : tie.Need-shr-byte
+shr-byte c = search needs
+
+cast-result : tie.Need-cast-result
+cast-result c = search needs
+
+returns-2 : tie.Need-returns-2
+unfolding labelByte
+returns-2 c = rw (lt-ltb (c .before .before .args .j) 32 (c .before .if1 .left), c .word-at .ensures)
+
+pub label-byte-spec : {M : Type 1} → statement M
+label-byte-spec =
+    tie.close
+    (tie.spec returns add-word-at word-at-requires mul-byte shr-byte cast-result returns-2)

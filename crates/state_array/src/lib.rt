@@ -1,0 +1,324 @@
+// The state in memory: one array of words, nodes in ascending order of id. Any words are a value; specs/View says what they stand for.
+// It is lent whole, so a function takes one argument for it, and no call copies it.
+ghost use mathlib.Core.Path.{_≡_};
+ghost use Prim.Native.Nat.{_<_, min};
+ghost use lib.ListN.{length, set};
+ghost use Rattle.base.specs.Bytes.{bit};
+ghost use Rattle.state_array.specs.Layout as at;
+ghost use Rattle.state_array.specs.Layout.{hostOf, entry, place, word, child};
+ghost use Rattle.state_array.specs.View.{view, slotsOf, treesOf, emptyState, idIn, linkIn, shapeIn, labelByte, floatIn, boundsIn, transformIn, treeIn};
+use geometry::Affine;
+use geometry::Rect;
+use ids::FullNodeId;
+use ids::NodeId;
+use ids::TreeId;
+use ids::TreeIndex;
+
+// How many slots for nodes, how many trees, how many child entries.
+pub const SLOTS: usize = 320;
+
+pub const TREES: usize = 32;
+
+pub const ENTRIES: usize = 512;
+
+// Where the regions start: the head, the table of trees (5 fields of 32), the nodes (28 fields of 320), the child entries.
+pub const COUNT: usize = 0;
+
+pub const TREE_COUNT: usize = 1;
+
+pub const HOST: usize = 2;
+
+pub const TABLE: usize = 8;
+
+pub const NODES: usize = 168;
+
+pub const CHILDREN: usize = 9128;
+
+pub const WORDS: usize = 9640;
+
+// The fields of a tree.
+pub const TREE_HIGH: usize = 0;
+
+pub const TREE_LOW: usize = 1;
+
+pub const TREE_ROOT: usize = 2;
+
+pub const TREE_FOCUS: usize = 3;
+
+pub const TREE_EXISTS: usize = 4;
+
+// The fields of a node. A label is four fields, and the floats are ten.
+pub const TREE: usize = 0;
+
+pub const NODE: usize = 1;
+
+pub const PARENT_TREE: usize = 2;
+
+pub const PARENT_NODE: usize = 3;
+
+pub const INDEX: usize = 4;
+
+pub const LINKED: usize = 5;
+
+pub const GRAFT_HIGH: usize = 6;
+
+pub const GRAFT_LOW: usize = 7;
+
+pub const FLAGS: usize = 8;
+
+pub const FIRST_CHILD: usize = 9;
+
+pub const CHILD_COUNT: usize = 10;
+
+pub const ACTIVE: usize = 11;
+
+pub const ROLE: usize = 12;
+
+pub const LABEL_LENGTH: usize = 13;
+
+pub const LABEL: usize = 14;
+
+pub const FLOATS: usize = 18;
+
+// The state.
+pub type State = [u64; WORDS];
+
+// A node's parent and its place among the parent's children. `linked` is 0 where it has none.
+pub struct LinkRow {
+    pub parent: FullNodeId,
+    pub index: u64,
+    pub linked: u64,
+}
+
+// What going down reads of a node: the tree that it grafts, the record's flags (bit 0 hidden, 1 clips children, 2 active descendant, 3 graft,
+// 4 bounds, 5 transform), and its part of the child entries.
+pub struct ShapeRow {
+    pub graft: TreeId,
+    pub flags: u64,
+    pub first_child: u64,
+    pub child_count: u64,
+}
+
+// A tree number's row. `exists` is 0 while the tree does not exist.
+pub struct TreeRow {
+    pub id: TreeId,
+    pub root: NodeId,
+    pub focus: NodeId,
+    pub exists: u64,
+}
+
+// No node and no tree: what a refused start hands back. It is not sound.
+pub fn blank() -> State
+    ensures { λ r. ⌜ view r ≡ emptyState ⌝ }
+{
+    [0u64; WORDS]
+}
+
+// How many slots hold nodes.
+pub fn slots(state: &State) -> usize
+    ensures { λ r. ⌜ r ≡ slotsOf (now (state .entry)) ⌝ }
+{
+    let count = state[COUNT];
+    if count < 320 { count as usize } else { SLOTS }
+}
+
+// How many trees have numbers; 33 where there are too many.
+pub fn trees(state: &State) -> usize
+    ensures { λ r. ⌜ r ≡ treesOf (now (state .entry)) ⌝ }
+{
+    let count = state[TREE_COUNT];
+    if count < 33 { count as usize } else { 33 }
+}
+
+// 0 where the host has no focus.
+pub fn host(state: &State) -> u64
+    ensures { λ r. ⌜ r ≡ hostOf (now (state .entry)) ⌝ }
+{
+    state[HOST]
+}
+
+// Field f of slot i, 0 past the last slot; so with every read below.
+pub fn word_at(state: &State, f: usize, i: usize) -> u64
+    requires { ⌜ f < 28 ⌝ }
+    ensures { λ r. ⌜ r ≡ word (now (state .entry)) f i ⌝ }
+{
+    if i < SLOTS {
+        state[NODES + SLOTS * f + i]
+    } else {
+        0
+    }
+}
+
+// How many words a state has. Nothing is known of the length behind a `&mut State` on entry: a writer calls this to know it.
+pub fn size(state: &State) -> usize
+    ensures { λ r. ⌜ (r ≡ 9640) × (length (now (state .entry)) ≡ 9640) ⌝ }
+{
+    let words: &[u64] = state;
+    words.len()
+}
+
+// Stores field f of slot i.
+pub fn put_word(state: &mut State, f: usize, i: usize, v: u64)
+    requires { ⌜ (f < 28) × (i < 320) ⌝ }
+    ensures { λ _. ⌜ now (state .exit) ≡ set (now (state .entry)) (place f i) v ⌝ }
+{
+    state[NODES + SLOTS * f + i] = v;
+}
+
+// Field j of tree k.
+pub fn entry_at(state: &State, j: usize, k: usize) -> u64
+    requires { ⌜ j < 5 ⌝ }
+    ensures { λ r. ⌜ r ≡ entry (now (state .entry)) j k ⌝ }
+{
+    if k < TREES {
+        state[TABLE + TREES * j + k]
+    } else {
+        0
+    }
+}
+
+// Child entry j, `own` past the last.
+pub fn child_at(state: &State, own: u64, j: usize) -> u64
+    ensures { λ r. ⌜ r ≡ child (now (state .entry)) own j ⌝ }
+{
+    if j < ENTRIES {
+        state[CHILDREN + j]
+    } else {
+        own
+    }
+}
+
+// The id in a slot.
+pub fn id_at(state: &State, i: usize) -> FullNodeId
+    ensures { λ r. ⌜ r ≡ idIn (now (state .entry)) i ⌝ }
+{
+    FullNodeId {
+        tree: TreeIndex(narrow(word_at(state, TREE, i))),
+        node: NodeId(word_at(state, NODE, i)),
+    }
+}
+
+// A node's parent and place.
+pub fn link_at(state: &State, i: usize) -> LinkRow
+    ensures { λ r. ⌜ r ≡ linkIn (now (state .entry)) i ⌝ }
+{
+    LinkRow {
+        parent: FullNodeId {
+            tree: TreeIndex(narrow(word_at(state, PARENT_TREE, i))),
+            node: NodeId(word_at(state, PARENT_NODE, i)),
+        },
+        index: word_at(state, INDEX, i),
+        linked: word_at(state, LINKED, i),
+    }
+}
+
+// A node's graft, flags and children.
+pub fn shape_at(state: &State, i: usize) -> ShapeRow
+    ensures { λ r. ⌜ r ≡ shapeIn (now (state .entry)) i ⌝ }
+{
+    ShapeRow {
+        graft: TreeId {
+            high: word_at(state, GRAFT_HIGH, i),
+            low: word_at(state, GRAFT_LOW, i),
+        },
+        flags: word_at(state, FLAGS, i),
+        first_child: word_at(state, FIRST_CHILD, i),
+        child_count: word_at(state, CHILD_COUNT, i),
+    }
+}
+
+// A node's active descendant, 0 where it has none.
+pub fn active_descendant_at(state: &State, i: usize) -> NodeId
+    ensures { λ r. ⌜ r .0 ≡ word (now (state .entry)) at.ACTIVE i ⌝ }
+{
+    NodeId(word_at(state, ACTIVE, i))
+}
+
+// A node's role.
+pub fn role_at(state: &State, i: usize) -> u64
+    ensures { λ r. ⌜ r ≡ word (now (state .entry)) at.ROLE i ⌝ }
+{
+    word_at(state, ROLE, i)
+}
+
+// The length of a node's label.
+pub fn label_len(state: &State, i: usize) -> u64
+    ensures { λ r. ⌜ r ≡ word (now (state .entry)) at.LABEL-LENGTH i ⌝ }
+{
+    word_at(state, LABEL_LENGTH, i)
+}
+
+// Byte j of a node's label, 0 past its room.
+pub fn label_byte(state: &State, i: usize, j: usize) -> u8
+    ensures { λ r. ⌜ r ≡ labelByte (now (state .entry)) i j ⌝ }
+{
+    if 32 <= j {
+        return 0;
+    }
+    let w = word_at(state, LABEL + j / 8, i);
+    let byte = (w >> (8 * (j % 8))) % 256;
+    byte as u8
+}
+
+// Number k of the ten of a node.
+pub fn float_at(state: &State, i: usize, k: usize) -> f64
+    requires { ⌜ k < 10 ⌝ }
+    ensures { λ r. ⌜ r ≡ floatIn (now (state .entry)) i k ⌝ }
+{
+    wire::f64_of(word_at(state, FLOATS + k, i))
+}
+
+// A node's bounds.
+pub fn bounds_at(state: &State, i: usize) -> Rect
+    ensures { λ r. ⌜ r ≡ boundsIn (now (state .entry)) i ⌝ }
+{
+    Rect {
+        x0: float_at(state, i, 0),
+        y0: float_at(state, i, 1),
+        x1: float_at(state, i, 2),
+        y1: float_at(state, i, 3),
+    }
+}
+
+// A node's transform.
+pub fn transform_at(state: &State, i: usize) -> Affine
+    ensures { λ r. ⌜ r ≡ transformIn (now (state .entry)) i ⌝ }
+{
+    Affine {
+        a: float_at(state, i, 4),
+        b: float_at(state, i, 5),
+        c: float_at(state, i, 6),
+        d: float_at(state, i, 7),
+        e: float_at(state, i, 8),
+        f: float_at(state, i, 9),
+    }
+}
+
+// A tree number's row.
+pub fn tree_at(state: &State, k: usize) -> TreeRow
+    ensures { λ r. ⌜ r ≡ treeIn (now (state .entry)) k ⌝ }
+{
+    TreeRow {
+        id: TreeId {
+            high: entry_at(state, TREE_HIGH, k),
+            low: entry_at(state, TREE_LOW, k),
+        },
+        root: NodeId(entry_at(state, TREE_ROOT, k)),
+        focus: NodeId(entry_at(state, TREE_FOCUS, k)),
+        exists: entry_at(state, TREE_EXISTS, k),
+    }
+}
+
+// Whether a node grafts a tree, by its flags.
+pub fn is_graft(flags: u64) -> bool
+    ensures { λ r. ⌜ r ≡ bit 8 flags ⌝ }
+{
+    flags / 8 % 2 == 1
+}
+
+// A tree number, cut at the largest.
+fn narrow(w: u64) -> u32
+    ensures { λ r. ⌜ r ≡ min w 4294967295 ⌝ }
+{
+    if w < 4294967295 { w as u32 } else { 4294967295 }
+}

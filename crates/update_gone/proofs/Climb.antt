@@ -1,0 +1,124 @@
+-- Laws of the climb: each step up keeps what is to be told of the node from which it began. Assumes nothing.
+use mathlib.Core.Bool.{Bool, true, false}
+use mathlib.Core.List.{List}
+use mathlib.Core.Option.{Option, none, some}
+use mathlib.Core.Path.{_≡_, refl, sym, ap, _∙_}
+use Prim.Native.Nat.{ℕ, suc, _-_, _≤_, _<_}
+use native.Mathlib.Omega.{arith}
+use lib.ListN.{length}
+use Rattle.ids.specs.declared.FullNodeId.{FullNodeId}
+use Rattle.state.specs.State.{ParentAndIndex, linkAt}
+use Rattle.state_array.specs.View.{slotsOf}
+use Rattle.update.specs.Gone.{Fate, stays, goes, asParent, goesIf, replaced, fares, fate, goneWithin, gone}
+use Rattle.update.proofs.Gone.{within-parent, gone-top}
+use Rattle.update_notes.specs.declared.Scope.{Scope}
+use Rattle.update_notes.specs.Setting.{asked, forest, Kept}
+use Rattle.update_notes.specs.Says.{nodeAt, idAt, flag, slotAbove, aboveWord, goesWord}
+use Rattle.update_notes.proofs.Places.{present-at, forest-length}
+use Rattle.update_gone.specs.Fates.{fateCode, fateBy, fateMark, fateWord}
+use Rattle.update_gone.proofs.Above.{link-at, slot-stands}
+
+-- ## Numbers of fates
+
+-- going or staying, as a number
+pub goes-if-code : (t : Bool) → fateCode (goesIf t) ≡ flag t
+unfolding fateCode goesIf
+goes-if-code true = refl
+goes-if-code false = refl
+
+-- the fate with the number 2
+as-parent : (f : Fate) → fateCode f ≡ 2 → f ≡ asParent
+unfolding fateCode
+as-parent stays e = absurd (omega arith)
+as-parent goes e = absurd (omega arith)
+as-parent asParent e = refl
+
+-- with which a node fares as its parent does
+as-parent-fares : (f : Fate) (parentGoes : Bool) → fateCode f ≡ 2 → fares f parentGoes ≡ parentGoes
+unfolding fares
+as-parent-fares f g e = rw (as-parent f e)
+
+-- any other fate is settled
+settled : (f : Fate) (parentGoes : Bool) → (fateCode f ≡ 2 → ⊥) → fateCode f ≡ flag (fares f parentGoes)
+unfolding fateCode fares
+settled stays g h = refl
+settled goes g h = refl
+settled asParent g h = absurd (h refl)
+
+-- no flag is 2
+pub flag-not-two : (t : Bool) → flag t ≡ 2 → ⊥
+flag-not-two true e = omega arith
+flag-not-two false e = omega arith
+
+-- ## The climb
+
+-- from slot i the climb has come to the slot `at`, with room for `room` steps more
+pub record Climbing (state bytes : List ℕ) (c : Scope) (i room at : ℕ) : Type 0 where
+  pub there : at < slotsOf state
+  pub fares-as : gone (forest state) (asked bytes c) (idAt (forest state) i) ≡ gone (forest state) (asked bytes c) (idAt (forest state) at)
+  pub fares-within : gone (forest state) (asked bytes c) (idAt (forest state) i) ≡ goneWithin (forest state) (asked bytes c) room (idAt (forest state) at)
+
+module _ (state bytes : List ℕ) (c : Scope) where
+  -- where it begins
+  pub climb-start : (i : ℕ) → i < slotsOf state → Climbing state bytes c i (slotsOf state) i
+  unfolding gone
+  climb-start i h =
+      record { there = h; fares-as = refl; fares-within = ap (λ n. goneWithin (forest state) (asked bytes c) n (idAt (forest state) i)) (forest-length state) }
+
+  -- out of room
+  pub climb-left : (i room at : ℕ) → Climbing state bytes c i room at → room ≤ 0 → 0 ≡ goesWord state bytes c i
+  unfolding goneWithin goesWord
+  climb-left i room at climb h = let none : room ≡ 0 = omega arith in rw (climb .fares-within, none)
+
+  -- what is told of the slot that it has come to is told of slot i
+  pub climb-same : (i room at : ℕ) → Climbing state bytes c i room at → goesWord state bytes c at ≡ goesWord state bytes c i
+  unfolding goesWord
+  climb-same i room at climb = ap (λ (t : Bool). flag t) (sym (climb .fares-as))
+
+  module _ (kept : Kept (forest state)) where
+    -- a node whose fate is settled
+    pub fate-settled : (at : ℕ) → at < slotsOf state → (fateWord state bytes c at ≡ 2 → ⊥) → fateWord state bytes c at ≡ goesWord state bytes c at
+    unfolding fateWord fateMark fateBy goesWord
+    fate-settled at h k = go (linkAt (forest state .nodes) x) refl k
+      where
+        x : FullNodeId
+        x = idAt (forest state) at
+
+        go : (o : Option ParentAndIndex) → linkAt (forest state .nodes) x ≡ o → (fateCode (fateBy (forest state) (asked bytes c) x o) ≡ 2 → ⊥)
+            → fateCode (fateBy (forest state) (asked bytes c) x o) ≡ flag (gone (forest state) (asked bytes c) x)
+        go none q k =
+            goes-if-code (replaced (forest state) (asked bytes c) x)
+            ∙ ap (λ (t : Bool). flag t) (sym (gone-top (forest state) (asked bytes c) x (present-at (forest state) at (omega (arith, forest-length state))) q))
+        go (some l) q k =
+            settled (fate (forest state) (asked bytes c) x l) (gone (forest state) (asked bytes c) (l .parent)) k
+            ∙ ap (λ (t : Bool). flag t) (sym (kept .gone-parent (asked bytes c) x l q))
+
+    -- one step up
+    pub climb-step : (i room at : ℕ) → Climbing state bytes c i room at → fateWord state bytes c at ≡ 2 → 0 < room
+        → Climbing state bytes c i (room - 1) (aboveWord state bytes c at)
+    unfolding fateWord fateMark fateBy aboveWord slotAbove
+    climb-step i room at climb e r = rw (← link-at (forest state) (kept .ascending) at within) (go (linkAt (forest state .nodes) x) refl e)
+      where
+        x : FullNodeId
+        x = idAt (forest state) at
+
+        within : at < length (forest state .nodes)
+        within = omega (arith, forest-length state, climb .there)
+
+        go : (o : Option ParentAndIndex) → linkAt (forest state .nodes) x ≡ o → fateCode (fateBy (forest state) (asked bytes c) x o) ≡ 2
+            → Climbing state bytes c i (room - 1) (slotAbove state o)
+        go none q k =
+            absurd (flag-not-two (replaced (forest state) (asked bytes c) x) (sym (goes-if-code (replaced (forest state) (asked bytes c) x)) ∙ k))
+        go (some l) q k =
+            let stands = slot-stands (forest state) (l .parent) (kept .parent-present x l q) in
+            let more : room ≡ suc (room - 1) = omega arith in
+            record {
+              there = omega (arith, forest-length state, stands .0);
+              fares-as =
+                  rw (stands .1) (climb .fares-as ∙ kept .gone-parent (asked bytes c) x l q ∙ as-parent-fares (fate (forest state) (asked bytes c) x l) _ k);
+              fares-within =
+                  rw (stands .1) (climb .fares-within
+                  ∙ ap (λ k. goneWithin (forest state) (asked bytes c) k x) more
+                  ∙ within-parent (forest state) (asked bytes c) (room - 1) x l q
+                  ∙ as-parent-fares (fate (forest state) (asked bytes c) x l) _ k);
+            }

@@ -1,0 +1,102 @@
+-- `gone::climbed` meets its contract. Assumes nothing.
+use denote.Ref.{now}
+use mathlib.Core.Path.{_≡_, sym, _∙_}
+use Prim.Native.Nat.{_+_, _-_, _<_}
+use lib.ListN.{getD}
+use Rattle.state_array.specs.View.{slotsOf}
+use Rattle.update_notes.specs.Layout.{ABOVE}
+use Rattle.update_notes.specs.declared.Scope.{Scope}
+use Rattle.update_gone.specs.Fates.{Fated}
+use Rattle.update_gone.proofs.Climb.{Climbing, climb-start, climb-left, climb-same}
+use Rattle.update_gone.proofs.Memo.{memo-known, memo-step}
+use native.Mathlib.Omega.{arith}
+use borrow.Author.Needs.{needs}
+use Rattle.update_gone.proofs.climbed.Statement.{statement}
+use Rattle.update_gone.proofs.climbed.Tie as tie
+
+abbrev Inv-loop : tie.InvT-loop
+Inv-loop state batch notes i at₀ room₀ at room =
+    (at < 320) × ((scope : Scope) → Fated i state batch scope notes → i < slotsOf state → Climbing state batch scope i room at)
+
+abbrev μ-loop : tie.MeasureT-loop
+μ-loop state batch notes i at₀ room₀ at room = room
+
+slots-requires : tie.Need-slots-requires Inv-loop μ-loop
+slots-requires c κs = search needs
+
+loop-holds : tie.Need-loop-holds Inv-loop μ-loop
+loop-holds c =
+    let s = c .before .before in
+    let a = s .args in
+    (omega (arith, s .pre .1), λ scope fated h. rw (c .slots .ensures) (climb-start (now (a .state)) (now (a .batch)) scope (a .i) h))
+
+add-known : tie.Need-add-known Inv-loop μ-loop
+add-known c = search needs
+
+mul-known : tie.Need-mul-known Inv-loop μ-loop
+mul-known c = search needs
+
+element-copy-out-known : tie.Need-element-copy-out-known Inv-loop μ-loop
+element-copy-out-known c = search needs
+
+returns : tie.Need-returns Inv-loop μ-loop
+returns c =
+    let s = c .before .before .before .before .before .before in
+    let l = c .before .before .before .loop in
+    let a = s .args in
+    let climb = l .inv .1 (a .scope) (s .pre .0) (s .pre .1) in
+    memo-known (now (a .state)) (now (a .batch)) (a .scope) (now (a .notes)) (a .i) (s .pre .0) (l .at) (climb .there) (c .if1 .taken)
+    ∙ climb-same (now (a .state)) (now (a .batch)) (a .scope) (a .i) (l .room) (l .at) climb
+
+add-at : tie.Need-add-at Inv-loop μ-loop
+add-at c = search needs
+
+mul-at : tie.Need-mul-at Inv-loop μ-loop
+mul-at c = search needs
+
+element-copy-out-at : tie.Need-element-copy-out-at Inv-loop μ-loop
+element-copy-out-at c = search needs
+
+sub-room : tie.Need-sub-room Inv-loop μ-loop
+sub-room c = search needs
+
+loop-less : tie.Need-loop-less Inv-loop μ-loop
+loop-less c = search needs
+
+loop-again : tie.Need-loop-again Inv-loop μ-loop
+loop-again c =
+    let s = c .before .before .before .before .before .before .before in
+    let l = c .before .before .before .before .loop in
+    let a = s .args in
+    let next : (scope : Scope) → Fated (a .i) (now (a .state)) (now (a .batch)) scope (now (a .notes)) → a .i < slotsOf (now (a .state))
+    → Climbing (now (a .state)) (now (a .batch)) scope (a .i) (l .room - 1) (getD (now (a .notes)) (ABOVE + l .at) 0) =
+    λ scope fated h. memo-step (now (a .state)) (now (a .batch)) scope (now (a .notes)) (a .i) fated (a .i) (l .room) (l .at) (l .inv .1 scope fated h)
+    (c .before .if1 .left) (c .before .before .before .loop-test .taken) in
+    (omega (arith, next (a .scope) (s .pre .0) (s .pre .1) .there), next)
+
+returns-2 : tie.Need-returns-2 Inv-loop μ-loop
+returns-2 c =
+    let s = c .before .before .before .before in
+    let l = c .before .loop in
+    let a = s .args in
+    climb-left (now (a .state)) (now (a .batch)) (a .scope) (a .i) (l .room) (l .at) (l .inv .1 (a .scope) (s .pre .0) (s .pre .1)) (c .loop-test .left)
+
+pub climbed-spec : {M : Type 1} → statement M
+climbed-spec =
+    tie.close
+    (tie.spec
+    Inv-loop
+    μ-loop
+    slots-requires
+    loop-holds
+    add-known
+    mul-known
+    element-copy-out-known
+    returns
+    add-at
+    mul-at
+    element-copy-out-at
+    sub-room
+    loop-less
+    loop-again
+    returns-2)

@@ -1,0 +1,118 @@
+-- `gone::pass_on` meets its contract. Assumes nothing.
+use denote.Ref.{now}
+use mathlib.Core.Path.{_≡_, sym, _∙_}
+use Prim.Native.Nat.{_+_, _-_, _<_}
+use lib.ListN.{getD}
+use Rattle.state_array.specs.View.{slotsOf}
+use Rattle.update_notes.specs.Layout.{ABOVE}
+use Rattle.update_notes.specs.declared.Scope.{Scope}
+use Rattle.update_notes.specs.Says.{goesWord}
+use Rattle.update_gone.specs.Fates.{Fated}
+use Rattle.update_gone.proofs.Climb.{Climbing, climb-start, climb-same}
+use Rattle.update_gone.proofs.Memo.{memo-step, memo-set}
+use native.Mathlib.Omega.{arith}
+use borrow.Author.Needs.{needs}
+use Rattle.update_gone.proofs.pass_on.Statement.{statement}
+use Rattle.update_gone.proofs.pass_on.Tie as tie
+
+abbrev Inv-loop : tie.InvT-loop
+Inv-loop state batch notes₀ i goes at₀ room₀ notes at room =
+    (at < 320) × ((scope : Scope) → Fated i state batch scope notes₀ → i < slotsOf state → goes ≡ goesWord state batch scope i
+    → Climbing state batch scope i room at × Fated i state batch scope notes)
+
+abbrev μ-loop : tie.MeasureT-loop
+μ-loop state batch notes₀ i goes at₀ room₀ notes at room = room
+
+slots-requires : tie.Need-slots-requires Inv-loop μ-loop
+slots-requires c κs = search needs
+
+loop-holds : tie.Need-loop-holds Inv-loop μ-loop
+loop-holds c =
+    let s = c .before .before in
+    let a = s .args in
+    (omega (arith, s .pre .1 .0), λ scope fated h e. (rw (c .slots .ensures) (climb-start (now (a .state)) (now (a .batch)) scope (a .i) h), fated))
+
+add-if1 : tie.Need-add-if1 Inv-loop μ-loop
+add-if1 c = search needs
+
+mul-if1 : tie.Need-mul-if1 Inv-loop μ-loop
+mul-if1 c = search needs
+
+element-copy-out-if1 : tie.Need-element-copy-out-if1 Inv-loop μ-loop
+element-copy-out-if1 c = search needs
+
+returns : tie.Need-returns Inv-loop μ-loop
+returns c =
+    let s = c .before .before .before .before .before .before in
+    c .before .before .before .loop .inv .1 (s .args .scope) (s .pre .0) (s .pre .1 .0) (s .pre .1 .1) .1
+
+add-next : tie.Need-add-next Inv-loop μ-loop
+add-next c = search needs
+
+mul-next : tie.Need-mul-next Inv-loop μ-loop
+mul-next c = search needs
+
+element-copy-out-next : tie.Need-element-copy-out-next Inv-loop μ-loop
+element-copy-out-next c = search needs
+
+add-notes : tie.Need-add-notes Inv-loop μ-loop
+add-notes c = search needs
+
+mul-notes : tie.Need-mul-notes Inv-loop μ-loop
+mul-notes c = search needs
+
+element-write-notes : tie.Need-element-write-notes Inv-loop μ-loop
+element-write-notes c = search needs
+
+sub-room : tie.Need-sub-room Inv-loop μ-loop
+sub-room c = search needs
+
+loop-less : tie.Need-loop-less Inv-loop μ-loop
+loop-less c = search needs
+
+loop-again : tie.Need-loop-again Inv-loop μ-loop
+loop-again c =
+    let s = c .before .before .before .before .before .before .before in
+    let l = c .before .before .before .before .loop in
+    let a = s .args in
+    let before = l .inv .1 (a .scope) (s .pre .0) (s .pre .1 .0) (s .pre .1 .1) in
+    let there : (scope : Scope) → Climbing (now (a .state)) (now (a .batch)) scope (a .i) (l .room) (l .at) → Fated (a .i) (now (a .state)) (now (a .batch)) scope (l .notes)
+    → Climbing (now (a .state)) (now (a .batch)) scope (a .i) (l .room - 1) (getD (l .notes) (ABOVE + l .at) 0) =
+    λ scope climb fated. memo-step (now (a .state)) (now (a .batch)) scope (l .notes) (a .i) fated (a .i) (l .room) (l .at) climb
+    (c .before .if1 .left) (c .before .before .before .loop-test .taken) in (
+      omega (arith, there (a .scope) (before .0) (before .1) .there),
+      λ scope fated h e.
+          let now-at = l .inv .1 scope fated h e in (
+            there scope (now-at .0) (now-at .1),
+            memo-set (now (a .state)) (now (a .batch)) scope (l .notes) (a .i) (now-at .1) (l .at) (a .goes) (now-at .0 .there)
+                (e ∙ sym (climb-same (now (a .state)) (now (a .batch)) scope (a .i) (l .room) (l .at) (now-at .0))),
+          ),
+    )
+
+returns-2 : tie.Need-returns-2 Inv-loop μ-loop
+returns-2 c =
+    let s = c .before .before .before .before in
+    c .before .loop .inv .1 (s .args .scope) (s .pre .0) (s .pre .1 .0) (s .pre .1 .1) .1
+
+pub pass-on-spec : {M : Type 1} → statement M
+pass-on-spec =
+    tie.close
+    (tie.spec
+    Inv-loop
+    μ-loop
+    slots-requires
+    loop-holds
+    add-if1
+    mul-if1
+    element-copy-out-if1
+    returns
+    add-next
+    mul-next
+    element-copy-out-next
+    add-notes
+    mul-notes
+    element-write-notes
+    sub-room
+    loop-less
+    loop-again
+    returns-2)

@@ -1,0 +1,151 @@
+-- Laws of slots: the forest that columns show, and what the slot of an id says. Assumes nothing.
+use mathlib.Core.Bool.{Bool, true, false, true≢false}
+use mathlib.Core.List.{List, [], _∷_}
+use mathlib.Core.Option.{none, some}
+use mathlib.Core.Path.{_≡_, refl, sym, ap, _∙_}
+use Prim.Native.Nat.{ℕ, zero, suc, _≤_, _<_}
+use native.Mathlib.Decide.{decLt}
+use native.Mathlib.Omega.{arith}
+use lib.Dec.{ltb}
+use lib.ListN.{length, getD}
+use borrow.Author.Tests.{lt-ltb, le-ltb}
+use Rattle.base.specs.Tests.{if_then_else_, isSome, all, position}
+use Rattle.base.specs.Search.{First}
+use Rattle.base.proofs.Tests.{both, is-some-if}
+use Rattle.base.proofs.Bytes.{length-list-of, list-of-at}
+use Rattle.ids.specs.Ids.{sameId, before}
+use Rattle.ids.proofs.Ids.{same-id→≡, same-id-refl, before-apart}
+use Rattle.ids.specs.declared.FullNodeId.{FullNodeId}
+use Rattle.record.specs.Batch.{Batch}
+use Rattle.state.specs.State.{NodeState, idsOf, Forest, find, present, linkAt}
+use Rattle.state.specs.Sound.{ascending}
+use Rattle.state_array.specs.View.{idIn, linkIn, linkOf, nodeIn, slotsOf, view}
+use Rattle.update.specs.Words.{old}
+use Rattle.update_notes.specs.Setting.{forest}
+use Rattle.update_notes.specs.Says.{noState, nodeAt, idAt, slotAt}
+use Rattle.update_notes.proofs.Positions.{ltb-suc, first-unique, first-cong, position-first}
+
+-- ## Lists of nodes
+
+-- an id by index
+ids-at : (ns : List NodeState) (i : ℕ) → getD (idsOf ns) i (noState .id) ≡ getD ns i noState .id
+unfolding idsOf
+ids-at [] i = refl
+ids-at (n ∷ ns) zero = refl
+ids-at (n ∷ ns) (suc i) = ids-at ns i
+
+ids-length : (ns : List NodeState) → length (idsOf ns) ≡ length ns
+unfolding idsOf
+ids-length [] = refl
+ids-length (n ∷ ns) = ap suc (ids-length ns)
+
+-- the node found is the one at its position
+find-position : (ns : List NodeState) (x : FullNodeId) → find x ns ≡ (if ltb (position sameId (idsOf ns) x) (length ns) then some (getD ns (position sameId (idsOf ns) x) noState) else none)
+unfolding find idsOf
+find-position [] x = refl
+find-position (n ∷ ns) x = go (sameId x (n .id)) (position sameId (idsOf ns) x) (find-position ns x)
+  where
+    go : (c : Bool) (r : ℕ) → find x ns ≡ (if ltb r (length ns) then some (getD ns r noState) else none)
+        → (if c then some n else find x ns)
+        ≡ (if ltb (if c then zero else suc r) (suc (length ns)) then some (getD (n ∷ ns) (if c then zero else suc r) noState) else none)
+    go true r h = rw (lt-ltb 0 (suc (length ns)) (omega arith))
+    go false r h = rw (ltb-suc r (length ns)) h
+
+-- ## The slot of an id
+
+module _ (s : Forest) (x : FullNodeId) where
+  -- it is what a search for the id answers
+  pub slot-first : First (λ i. sameId x (idAt s i)) (length (s .nodes)) (slotAt s x)
+  slot-first =
+      let h = position-first sameId x (noState .id) (idsOf (s .nodes)) in
+      first-cong _ _ (length (s .nodes)) (slotAt s x) (λ i l. ap (sameId x) (ids-at (s .nodes) i)) (rw (ids-length (s .nodes)) at h)
+
+  -- and what a search answers is it
+  pub slot-search : (r : ℕ) → First (λ i. sameId x (idAt s i)) (length (s .nodes)) r → r ≡ slotAt s x
+  slot-search r h = first-unique (λ i. sameId x (idAt s i)) (length (s .nodes)) r (slotAt s x) h slot-first
+
+  -- at most the number of nodes
+  pub slot-within : slotAt s x ≤ length (s .nodes)
+  slot-within = slot-first .within
+
+  -- the node found
+  pub slot-found : find x (s .nodes) ≡ (if ltb (slotAt s x) (length (s .nodes)) then some (nodeAt s (slotAt s x)) else none)
+  slot-found = find-position (s .nodes) x
+
+  pub slot-find : slotAt s x < length (s .nodes) → find x (s .nodes) ≡ some (nodeAt s (slotAt s x))
+  slot-find h = slot-found ∙ rw (lt-ltb (slotAt s x) (length (s .nodes)) h)
+
+  pub slot-none : length (s .nodes) ≤ slotAt s x → find x (s .nodes) ≡ none
+  slot-none h = slot-found ∙ rw (le-ltb (slotAt s x) (length (s .nodes)) h)
+
+  -- a node is present if it has a slot
+  pub slot-present : present (s .nodes) x ≡ ltb (slotAt s x) (length (s .nodes))
+  unfolding present
+  slot-present = ap (λ o. isSome o) slot-found ∙ is-some-if (ltb (slotAt s x) (length (s .nodes))) (nodeAt s (slotAt s x))
+
+  pub slot-old : (b : Batch) → old s b x ≡ ltb (slotAt s x) (length (s .nodes))
+  unfolding old
+  slot-old b = slot-present
+
+  -- the id in its slot
+  pub slot-id : slotAt s x < length (s .nodes) → idAt s (slotAt s x) ≡ x
+  slot-id h = sym (same-id→≡ x (idAt s (slotAt s x)) (slot-first .hit h))
+
+  -- the link that it records
+  pub slot-link : slotAt s x < length (s .nodes) → linkAt (s .nodes) x ≡ nodeAt s (slotAt s x) .parentAndIndex
+  unfolding linkAt
+  slot-link h = rw (slot-find h, linkAt)
+
+-- two ids in one slot are one
+pub slot-one : (s : Forest) (x y : FullNodeId) → slotAt s x ≡ slotAt s y → slotAt s x < length (s .nodes) → x ≡ y
+slot-one s x y e h = sym (slot-id s x h) ∙ ap (idAt s) e ∙ slot-id s y (rw e at h)
+
+-- ## Slots of nodes in order
+
+module _ (s : Forest) (up : ascending (s .nodes) ≡ true) (i : ℕ) (h : i < length (s .nodes)) where
+  -- the slot of the id in a slot is that slot
+  pub slot-self : slotAt s (idAt s i) ≡ i
+  unfolding ascending
+  slot-self = sym (slot-search s (idAt s i) i (record { within = omega arith; passed = λ k l. before-apart (idAt s k) (idAt s i) (pair (s .nodes) up k i l h); hit = λ _. same-id-refl (idAt s i) }))
+    where
+      later : (p : NodeState → Bool) (ns : List NodeState) → all p ns ≡ true → (k : ℕ) → k < length ns → p (getD ns k noState) ≡ true
+      later p [] e k l = absurd (omega arith)
+      later p (n ∷ ns) e zero l = both e .0
+      later p (n ∷ ns) e (suc k) l = later p ns (both e .1) k (omega arith)
+
+      pair : (ns : List NodeState) → ascending ns ≡ true → (k j : ℕ) → k < j → j < length ns → before (getD ns k noState .id) (getD ns j noState .id) ≡ true
+      pair [] e k j l m = absurd (omega arith)
+      pair (n ∷ ns) e k zero l m = absurd (omega arith)
+      pair (n ∷ ns) e zero (suc j) l m = later (λ q. before (n .id) (q .id)) ns (both e .0) j (omega arith)
+      pair (n ∷ ns) e (suc k) (suc j) l m = pair ns (both e .1) k j (omega arith) (omega arith)
+
+  -- so the node in a slot is found by its id
+  pub find-at : find (idAt s i) (s .nodes) ≡ some (nodeAt s i)
+  find-at = slot-find s (idAt s i) (rw slot-self h) ∙ ap (λ j. some (nodeAt s j)) slot-self
+
+-- an id that stands in a slot is present
+pub present-at : (s : Forest) (i : ℕ) → i < length (s .nodes) → present (s .nodes) (idAt s i) ≡ true
+present-at s i h = slot-present s (idAt s i) ∙ lt-ltb _ _ (go (decLt i (slotAt s (idAt s i))))
+  where
+    go : Dec (i < slotAt s (idAt s i)) → slotAt s (idAt s i) < length (s .nodes)
+    go (yes l) = absurd (true≢false (sym (same-id-refl (idAt s i)) ∙ slot-first s (idAt s i) .passed i l))
+    go (no l) = omega arith
+
+-- ## The forest that the words of a state show
+
+module _ (state : List ℕ) where
+  pub forest-length : length (forest state .nodes) ≡ slotsOf state
+  unfolding view
+  forest-length = length-list-of (slotsOf state) (nodeIn state)
+
+  pub forest-node : (i : ℕ) → i < slotsOf state → nodeAt (forest state) i ≡ nodeIn state i
+  unfolding view
+  forest-node i h = list-of-at (slotsOf state) i (nodeIn state) noState h
+
+  pub forest-id : (i : ℕ) → i < slotsOf state → idAt (forest state) i ≡ idIn state i
+  unfolding nodeIn
+  forest-id i h = ap (λ (k : NodeState). k .id) (forest-node i h)
+
+  pub forest-link : (i : ℕ) → i < slotsOf state → nodeAt (forest state) i .parentAndIndex ≡ linkOf (linkIn state i)
+  unfolding nodeIn
+  forest-link i h = ap (λ (k : NodeState). k .parentAndIndex) (forest-node i h)

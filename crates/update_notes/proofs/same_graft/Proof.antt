@@ -1,0 +1,52 @@
+-- `update_notes::same_graft` meets its contract: none on both sides, or one tree on both. Assumes nothing.
+use mathlib.Core.Bool.{not}
+use mathlib.Core.Path.{ap, ap₂, _∙_}
+use denote.Ref.{now}
+use Rattle.base.specs.Tests.{_&&_}
+use Rattle.base.proofs.Tests.{call-false, call-true}
+use Rattle.ids.specs.Ids.{sameTree}
+use Rattle.update_notes.proofs.Grafts.{same-graft-none, same-graft-some}
+use borrow.Author.Needs.{needs}
+use Rattle.update_notes.proofs.same_graft.Statement.{statement}
+use Rattle.update_notes.proofs.same_graft.Tie as tie
+
+grafts-old-requires : tie.Need-grafts-old-requires
+grafts-old-requires c κs = search needs
+
+grafts-new-requires : tie.Need-grafts-new-requires
+grafts-new-requires c κs = search needs
+
+returns : tie.Need-returns
+returns c =
+    let a = c .before .before .before .before .args in
+    ap not (c .before .before .grafts-old .ensures)
+    ∙ same-graft-none _ (now (a .state)) (a .slot) (call-false (c .before .grafts-new .ensures) (c .if1 .taken))
+
+shape-at-requires : tie.Need-shape-at-requires
+shape-at-requires c κs = search needs
+
+graft-requires : tie.Need-graft-requires
+graft-requires c κs = search needs
+
+same-tree-requires : tie.Need-same-tree-requires
+same-tree-requires c κs = search needs
+
+returns-2 : tie.Need-returns-2
+unfolding _&&_
+returns-2 c =
+    let a = c .before .before .before .before .before .before .before .args in
+    ap₂ _&&_ (c .before .before .before .before .before .grafts-old .ensures)
+    (c .same-tree .ensures ∙ ap₂ sameTree (c .before .graft .ensures) (ap (λ d. d .graft) (c .before .before .shape-at .ensures)))
+    ∙ same-graft-some _ (now (a .state)) (a .slot) (call-true (c .before .before .before .before .grafts-new .ensures) (c .before .before .before .if1 .left))
+
+pub same-graft-spec : {M : Type 1} → statement M
+same-graft-spec =
+    tie.close
+    (tie.spec
+    grafts-old-requires
+    grafts-new-requires
+    returns
+    shape-at-requires
+    graft-requires
+    same-tree-requires
+    returns-2)

@@ -1,0 +1,118 @@
+// What the phases of an update are given, and questions about grafts and roots that several of them ask.
+ghost use mathlib.Core.Path.{_≡_};
+ghost use mathlib.Core.Option.{some};
+ghost use Prim.Native.Nat.{_≤_};
+ghost use Rattle.base.specs.Tests.{isSome, sameOption};
+ghost use Rattle.ids.specs.Ids.{sameTree, sameId};
+ghost use Rattle.record.specs.Batch.{graft?};
+ghost use Rattle.reader.specs.Reader.{batchIn, listedAt};
+ghost use Rattle.update_notes.specs.Setting.{rootIn};
+ghost use Rattle.update_notes.specs.Says.{graftBelow, ClaimerIs, ClaimedFromIs};
+use ids::FullNodeId;
+use ids::NodeId;
+use ids::TreeId;
+use ids::TreeIndex;
+use state_array::State;
+
+pub type Notes = [u64; 4096];
+
+// The numbers of the listed nodes (64), the children that they name (256), where the children of each end (64).
+pub const LISTED: usize = 0;
+
+pub const NAMED: usize = 64;
+
+pub const ENDS: usize = 320;
+// The slot of each listed node (64) and of each child (256), the number of nodes where it has none.
+pub const LISTED_SLOTS: usize = 384;
+
+pub const NAMED_SLOTS: usize = 448;
+// For each of 320 slots, one more than its place among the listed nodes and among the children, 0 where it is not there.
+pub const TURNS: usize = 704;
+
+pub const NAMINGS: usize = 1024;
+// Which listed nodes claim a tree (64).
+pub const CLAIMS: usize = 1344;
+// For each slot, the slot of its parent, the number of nodes where it has none; whether it goes.
+pub const ABOVE: usize = 1408;
+
+pub const GOES: usize = 1728;
+
+// What a batch is about: its tree's number, whether that tree is ROOT, how many nodes it lists and how many children they name, whether it
+// has tree data, and the tree's root as the batch leaves it, if there is one.
+pub struct Scope {
+    pub tree: TreeIndex,
+    pub is_root_tree: bool,
+    pub listed: usize,
+    pub named: usize,
+    pub with_tree_data: bool,
+    pub rooted: bool,
+    pub root: NodeId,
+}
+
+// Whether listed node i grafts a tree.
+pub fn grafts_new(batch: &[u8], i: usize) -> bool
+    ensures { λ r. ⌜ r ≡ isSome (graft? (listedAt (batchIn (now (batch .entry))) i .body)) ⌝ }
+{
+    state_array::is_graft(reader::flags(batch, i) as u64)
+}
+
+// Whether the node in a slot grafts a tree.
+pub fn grafts_old(state: &State, slot: usize) -> bool
+    ensures { λ r. ⌜ r ≡ isSome (graftBelow (now (state .entry)) slot) ⌝ }
+{
+    let n = state_array::slots(state);
+    let d = state_array::shape_at(state, slot);
+    (slot < n) & state_array::is_graft(d.flags)
+}
+
+// Whether listed node i grafts what the node in a slot grafts: the same tree, or none both.
+pub fn same_graft<'a>(state: &'a State, batch: &'a [u8], i: usize, slot: usize) -> bool
+    ensures { λ r. ⌜ r ≡ sameOption sameTree (graft? (listedAt (batchIn (now (batch .entry))) i .body)) (graftBelow (now (state .entry)) slot) ⌝ }
+{
+    let old = grafts_old(state, slot);
+    if !grafts_new(batch, i) {
+        return !old;
+    }
+    let d = state_array::shape_at(state, slot);
+    old & ids::same_tree(reader::graft(batch, i), d.graft)
+}
+
+// The first of k listed nodes that claims a tree, or k.
+pub fn claimer_of<'a>(batch: &'a [u8], notes: &'a Notes, k: usize, t: TreeId) -> usize
+    requires { ⌜ k ≤ 64 ⌝ }
+    ensures { λ r. ⌜ ClaimerIs (batchIn (now (batch .entry))) (now (notes .entry)) k t r ⌝ }
+{
+    let mut i = 0usize;
+    while i < k {
+        if (notes[CLAIMS + i] == 1) & ids::same_tree(reader::graft(batch, i), t) {
+            return i;
+        }
+        i += 1;
+    }
+    k
+}
+
+// The listed node that claims the tree that the node in a slot grafted, or k.
+pub fn claimed_from<'a>(
+    state: &'a State,
+    batch: &'a [u8],
+    notes: &'a Notes,
+    k: usize,
+    slot: usize,
+) -> usize
+    requires { ⌜ k ≤ 64 ⌝ }
+    ensures { λ r. ⌜ ClaimedFromIs (batchIn (now (batch .entry))) (now (notes .entry)) k (graftBelow (now (state .entry)) slot) r ⌝ }
+{
+    if !grafts_old(state, slot) {
+        return k;
+    }
+    let d = state_array::shape_at(state, slot);
+    claimer_of(batch, notes, k, d.graft)
+}
+
+// Whether x is the root as the batch leaves it.
+pub fn is_root(scope: Scope, x: FullNodeId) -> bool
+    ensures { λ r. ⌜ r ≡ sameOption sameId (rootIn scope) (some x) ⌝ }
+{
+    scope.rooted & (scope.tree.0 == x.tree.0) & (scope.root.0 == x.node.0)
+}

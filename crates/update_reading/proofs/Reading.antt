@@ -1,0 +1,135 @@
+-- What is read out of a batch is what the columns are to hold. Assumes nothing.
+use mathlib.Core.Bool.{Bool, true, false, not}
+use mathlib.Core.List.{List, [], _∷_, append-nil}
+use mathlib.Core.Option.{Option, none}
+use mathlib.Core.Path.{_≡_, refl, sym, ap, ap₂, _∙_}
+use Prim.Native.Nat.{ℕ, _+_, _≤_, _<_}
+use native.Mathlib.Numerals.{add-one}
+use native.Mathlib.Omega.{arith}
+use lib.Dec.{ltb}
+use lib.ListN.{length, getD, take, length-append}
+use lib.Seq.{take-suc}
+use Rattle.base.specs.Tests.{_&&_, if_then_else_, isSome, sameOption}
+use Rattle.base.specs.Bytes.{le}
+use Rattle.base.proofs.Tests.{and-false, and-right}
+use Rattle.base.proofs.Bytes.{le-one, le-add}
+use Rattle.ids.specs.Ids.{sameTree}
+use Rattle.ids.specs.declared.TreeId.{TreeId}
+use Rattle.ids.specs.declared.TreeIndex.{TreeIndex}
+use Rattle.ids.specs.declared.NodeId.{NodeId}
+use Rattle.record.specs.Batch.{graft?, Listed, listedIds, namedIds}
+use Rattle.record.specs.Layout.{nodeCount, recordAt}
+use Rattle.record.proofs.Batch.{listed-length, listed-at, named-append}
+use Rattle.reader.specs.Reader.{batchIn, noNode, blank, listedAt, fieldAt, entriesOf}
+use Rattle.reader.proofs.Reader.{children-count, entries-are, first-child-is}
+use Rattle.state.specs.State.{graftAt}
+use Rattle.state_array.specs.View.{slotsOf}
+use Rattle.update.specs.Words.{here, claim}
+use Rattle.update_notes.specs.Layout.{LISTED, NAMED, LISTED-SLOTS, NAMED-SLOTS, TURNS, NAMINGS}
+use Rattle.update_notes.specs.Columns.{Holds}
+use Rattle.update_notes.specs.declared.Scope.{Scope}
+use Rattle.update_notes.specs.Setting.{asked, forest, Given}
+use Rattle.update_notes.specs.Says.{idAt, slotAt, flag, turnMark, namingMark, listedWord, namedWord, endWord, listedSlot, namedSlot, turnWord, namingWord, claimWord, Told}
+use Rattle.update_notes.proofs.Places.{forest-length}
+use Rattle.update_notes.proofs.Marks.{turn-mark, naming-mark}
+use Rattle.update_notes.proofs.Grafts.{graft-slot}
+use Rattle.update_notes.proofs.Setting.{batched-at}
+use Rattle.update_notes.proofs.Told.{batched, told-below, told-more}
+use Rattle.update_reading.specs.Reading.{slotWord, Marked, claimOf}
+use Rattle.update_reading.proofs.Marks.{mark-is}
+
+-- ## The record
+
+-- a number of two bytes is below 65536
+le-two : (s : List ℕ) → ((k : ℕ) → getD s k 0 < 256) → (at : ℕ) → le 2 s at < 65536
+le-two s byte at = rw (le-add s at 1 1, le-one s at, le-one s (at + 1)) (omega (arith, byte at, byte (at + 1)))
+
+-- so is a number of two bytes within a node record
+pub field-small : (s : List ℕ) → ((k : ℕ) → getD s k 0 < 256) → (i offset : ℕ) → fieldAt 2 s i offset < 65536
+unfolding fieldAt
+field-small s byte i offset = go (ltb i (nodeCount s))
+  where
+    go : (t : Bool) → (if t then le 2 s (recordAt i + offset) else 0) < 65536
+    go true = le-two s byte (recordAt i + offset)
+    go false = omega arith
+
+-- and the number of a node's children
+pub children-small : (s : List ℕ) → ((k : ℕ) → getD s k 0 < 256) → (i : ℕ) → length (listedAt (batchIn s) i .body .children) < 65536
+children-small s byte i = rw (← children-count s i) (field-small s byte i 34)
+
+-- the children that one more node names
+named-next : (ls : List Listed) (i : ℕ) (d : Listed) → i < length ls
+    → length (namedIds (take (i + 1) ls)) ≡ length (namedIds (take i ls)) + length (getD ls i d .body .children)
+unfolding namedIds
+named-next ls i d h =
+    rw (add-one i, take-suc ls i d h, named-append (take i ls) (getD ls i d ∷ []), append-nil (getD ls i d .body .children), length-append)
+
+module _ (state bytes : List ℕ) (c : Scope) (g : Given state bytes c) where
+  pub listed-is : (i : ℕ) → listedAt (batchIn bytes) i .id .0 ≡ listedWord state bytes c i
+  unfolding listedWord
+  listed-is i = ap (λ (x : Listed). x .id .0) (batched-at bytes (asked bytes c) (batched state bytes c g) i)
+
+  pub named-is : (j : ℕ) → getD (entriesOf bytes) j noNode .0 ≡ namedWord state bytes c j
+  unfolding namedWord
+  named-is j = ap (λ (xs : List NodeId). getD xs j noNode .0) (entries-are bytes (g .formed) ∙ ap namedIds (sym (batched state bytes c g .nodes)))
+
+  pub end-is : (i : ℕ) → i < c .listed → fieldAt 2 bytes i 32 + length (listedAt (batchIn bytes) i .body .children) ≡ endWord state bytes c i
+  unfolding endWord listedAt
+  end-is i h =
+      let nodes = batched state bytes c g .nodes in
+      let m : i < length (batchIn bytes .nodes) = rw (← nodes) (omega (arith, g .scoped .listed)) in
+      rw (first-child-is bytes (g .formed) i m, nodes) (sym (named-next (batchIn bytes .nodes) i blank m))
+
+  -- ## Slots
+
+  pub listed-slot-is : (notes : List ℕ) → Holds notes LISTED (c .listed) (listedWord state bytes c) → (j : ℕ) → j < c .listed
+      → slotWord state (c .tree) notes LISTED j ≡ listedSlot state bytes c j
+  unfolding slotWord listedSlot listedWord here
+  listed-slot-is notes say j h =
+      ap₂ {A = TreeIndex} {B = ℕ} {C = ℕ} (λ t k. slotAt (forest state) (record { tree = t; node = record { 0 = k } })) (g .scoped .tree) (say j h)
+
+  pub named-slot-is : (notes : List ℕ) → Holds notes NAMED (c .named) (namedWord state bytes c) → (j : ℕ) → j < c .named
+      → slotWord state (c .tree) notes NAMED j ≡ namedSlot state bytes c j
+  unfolding slotWord namedSlot namedWord here
+  named-slot-is notes say j h =
+      ap₂ {A = TreeIndex} {B = ℕ} {C = ℕ} (λ t k. slotAt (forest state) (record { tree = t; node = record { 0 = k } })) (g .scoped .tree) (say j h)
+
+  -- ## Claims
+
+  -- a graft is claimed where it is not the one before
+  claims-some : (new old : Option TreeId) → (isSome new && not (sameOption sameTree new old)) ≡ isSome (if sameOption sameTree new old then none else new)
+  claims-some new old = go (sameOption sameTree new old)
+    where
+      go : (t : Bool) → (isSome new && not t) ≡ isSome (if t then none else new)
+      go true = and-false (isSome new)
+      go false = and-right (isSome new)
+
+  pub claim-is : (notes : List ℕ) → Holds notes LISTED-SLOTS (c .listed) (listedSlot state bytes c) → (i : ℕ) → i < c .listed
+      → claimOf state bytes notes i ≡ claimWord state bytes c i
+  unfolding claimOf claimWord listedSlot claim
+  claim-is notes say i h =
+      rw (batched-at bytes (asked bytes c) (batched state bytes c g) i, say i h, ← graft-slot state (here (forest state) (asked bytes c) (listedAt (asked bytes c) i .id)))
+      (ap (λ t. flag t) (claims-some (graft? (listedAt (asked bytes c) i .body)) (graftAt (forest state .nodes) (here (forest state) (asked bytes c) (listedAt (asked bytes c) i .id)))))
+
+-- ## Marks
+
+module _ (state bytes : List ℕ) (c : Scope) (s t : List ℕ) where
+  pub turns-told : Told 5 state bytes c s → Marked LISTED-SLOTS (c .listed) TURNS (slotsOf state) s t → Told 6 state bytes c t
+  unfolding listedSlot turnWord listedAt asked
+  turns-told told m = told-more state bytes c t 5 (told-below state bytes c s 5 told t (m .below)) (λ i h.
+      let b = asked bytes c in
+      let count : c .listed ≡ length (listedIds (b .nodes)) = told .given .scoped .listed ∙ sym (listed-length (b .nodes)) in
+      mark-is (λ j. getD s (LISTED-SLOTS + j) 0) (λ j. slotAt (forest state) (here (forest state) b (getD (listedIds (b .nodes)) j noNode))) (c .listed) i
+      (getD t (TURNS + i) 0) (turnMark (forest state) b (idAt (forest state) i))
+      (λ j l. told .written 3 (omega arith) j l ∙ ap (λ (x : NodeId). slotAt (forest state) (here (forest state) b x)) (sym (listed-at (b .nodes) j blank)))
+      (m .marks i h)
+      (rw count (turn-mark (forest state) b (told .given .kept .ascending) i (omega (arith, forest-length state)))))
+
+  pub namings-told : Told 6 state bytes c s → Marked NAMED-SLOTS (c .named) NAMINGS (slotsOf state) s t → Told 7 state bytes c t
+  unfolding namedSlot namingWord asked
+  namings-told told m = told-more state bytes c t 6 (told-below state bytes c s 6 told t (m .below)) (λ i h.
+      let b = asked bytes c in
+      mark-is (λ j. getD s (NAMED-SLOTS + j) 0) (λ j. slotAt (forest state) (here (forest state) b (getD (namedIds (b .nodes)) j noNode))) (c .named) i
+      (getD t (NAMINGS + i) 0) (namingMark (forest state) b (idAt (forest state) i))
+      (λ j l. told .written 4 (omega arith) j l) (m .marks i h)
+      (rw (told .given .scoped .named) (naming-mark (forest state) b (told .given .kept .ascending) i (omega (arith, forest-length state)))))

@@ -1,0 +1,76 @@
+-- `reading::write_named` meets its contract. Assumes nothing.
+use denote.Ref.{now}
+use mathlib.Core.Path.{_≡_, sym, ap, ap₂, _∙_}
+use Prim.Native.Nat.{ℕ, _+_, _-_, _≤_, _<_}
+use lib.ListN.{length, getD}
+use Rattle.ids.specs.declared.NodeId.{NodeId}
+use Rattle.reader.specs.Reader.{batchIn, noNode, listedAt, fieldAt, entriesOf}
+use Rattle.update_notes.specs.Layout.{NAMED}
+use Rattle.base.specs.Regions.{fill}
+use Rattle.base.proofs.Regions.{fill-none, fill-more}
+use Rattle.update_notes.proofs.Told.{few-named, told-filled}
+use Rattle.update_reading.proofs.Reading.{named-is}
+use native.Mathlib.Omega.{arith}
+use borrow.Author.Needs.{needs}
+use Rattle.update_reading.proofs.write_named.Statement.{statement}
+use Rattle.update_reading.proofs.write_named.Tie as tie
+
+abbrev Inv-loop : tie.InvT-loop
+Inv-loop state batch notes₀ k i₀ notes i = (i ≤ k) × (k ≤ 256) × (notes ≡ fill NAMED i (λ j. getD (entriesOf batch) j noNode .0) notes₀)
+
+abbrev μ-loop : tie.MeasureT-loop
+μ-loop state batch notes₀ k i₀ notes i = k - i
+
+loop-holds : tie.Need-loop-holds Inv-loop μ-loop
+loop-holds c =
+    let s = c .before in
+    let a = s .args in
+    (omega arith, few-named (now (a .state)) (now (a .batch)) (a .scope) (s .pre .given), sym (fill-none NAMED _ (now (a .notes))))
+
+child-entry-requires : tie.Need-child-entry-requires Inv-loop μ-loop
+child-entry-requires c κs = search needs
+
+add-notes : tie.Need-add-notes Inv-loop μ-loop
+add-notes c = search needs
+
+mul-notes : tie.Need-mul-notes Inv-loop μ-loop
+mul-notes c = search needs
+
+element-write-notes : tie.Need-element-write-notes Inv-loop μ-loop
+element-write-notes c = search needs
+
+add-i : tie.Need-add-i Inv-loop μ-loop
+add-i c = search needs
+
+loop-less : tie.Need-loop-less Inv-loop μ-loop
+loop-less c = search needs
+
+loop-again : tie.Need-loop-again Inv-loop μ-loop
+loop-again c =
+    let l = c .before .before .loop in
+    let a = c .before .before .before .before .args in
+    (omega arith, l .inv .1, rw (l .inv .2, ap (λ (x : NodeId). x .0) (c .child-entry .ensures)) (sym (fill-more NAMED _ (l .i) (now (a .notes)))))
+
+returns : tie.Need-returns Inv-loop μ-loop
+returns c =
+    let s = c .before .before .before in
+    let l = c .before .loop in
+    let a = s .args in
+    told-filled (now (a .state)) (now (a .batch)) (a .scope) (now (a .notes)) (l .notes) 1 (l .i) _ (s .pre) (omega (arith, l .inv .1)) (l .inv .2) (omega arith)
+    (λ j h. named-is (now (a .state)) (now (a .batch)) (a .scope) (s .pre .given) j)
+
+pub write-named-spec : {M : Type 1} → statement M
+write-named-spec =
+    tie.close
+    (tie.spec
+    Inv-loop
+    μ-loop
+    loop-holds
+    child-entry-requires
+    add-notes
+    mul-notes
+    element-write-notes
+    add-i
+    loop-less
+    loop-again
+    returns)
