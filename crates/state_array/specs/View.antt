@@ -12,7 +12,8 @@ use Prim.Native.Nat.{ℕ, _+_, _*_, _/_, _%_, _^_, min}
 use lib.Dec.{eqb, ltb}
 use lib.Ieee.{Float, ofBits, binary64}
 use Rattle.base.specs.Tests.{if_then_else_}
-use Rattle.base.specs.Bytes.{listOf}
+use Rattle.base.specs.Bytes.{bit, listOf}
+use Rattle.ids.specs.declared.TreeId.{TreeId}
 use Rattle.ids.specs.declared.NodeId.{NodeId}
 use Rattle.ids.specs.declared.TreeIndex.{TreeIndex}
 use Rattle.ids.specs.declared.FullNodeId.{FullNodeId}
@@ -51,6 +52,10 @@ shapeIn s i = record {
   «first_child» = word s FIRST-CHILD i;
   «child_count» = word s CHILD-COUNT i;
 }
+
+-- the tree that the node grafts
+unfoldable pub graftIn : List ℕ → ℕ → Option TreeId
+graftIn s i = if bit 8 (shapeIn s i .flags) then some (shapeIn s i .graft) else none
 
 -- byte j of the label: four little-endian words, and 0 past them
 unfoldable pub labelByte : List ℕ → ℕ → ℕ → ℕ

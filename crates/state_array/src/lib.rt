@@ -99,6 +99,19 @@ pub struct ShapeRow {
     pub child_count: u64,
 }
 
+// A node's data as it stands in memory, its children aside: the graft, the record's flags, how many children there are, the active
+// descendant, the role, the label's length and its bytes as little-endian words, the bounds and the transform as bit patterns.
+pub struct Body {
+    pub graft: TreeId,
+    pub flags: u64,
+    pub child_count: u64,
+    pub active_descendant: NodeId,
+    pub role: u64,
+    pub label_length: u64,
+    pub label: [u64; 4],
+    pub floats: [u64; 10],
+}
+
 // A tree number's row. `exists` is 0 while the tree does not exist.
 pub struct TreeRow {
     pub id: TreeId,

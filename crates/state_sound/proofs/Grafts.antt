@@ -26,8 +26,8 @@ use Rattle.state_array.specs.declared.ShapeRow.{ShapeRow}
 use Rattle.state_array.specs.Layout.{child}
 use Rattle.state.specs.State.{NodeState, holder}
 use Rattle.state.specs.Sound.{graftIsBare, graftsDiffer}
-use Rattle.state_array.specs.View.{idIn, shapeIn, childrenOf, bodyIn, nodeIn, slotsOf, view}
-use Rattle.state_sound.specs.Parts.{graftIn, bareIn, graftsTree, noneGrafts, markOf, Marked}
+use Rattle.state_array.specs.View.{graftIn, idIn, shapeIn, childrenOf, bodyIn, nodeIn, slotsOf, view}
+use Rattle.state_sound.specs.Parts.{bareIn, graftsTree, noneGrafts, markOf, Marked}
 
 -- ## Lists that grow at the end
 

@@ -17,13 +17,13 @@ use Rattle.state_array.specs.Layout.{child}
 use Rattle.state.specs.State.{SubtreeState, subtreeOf}
 use Rattle.state.specs.Down.{Met, metUnder, childrenMet, below}
 use Rattle.ids.specs.declared.TreeId.{TreeId}
-use Rattle.state_array.specs.View.{idIn, shapeIn, childrenOf, bodyIn, nodeIn, view}
+use Rattle.state_array.specs.View.{graftIn, idIn, shapeIn, childrenOf, bodyIn, nodeIn, view}
 use Rattle.state_lookup.specs.declared.Ends.{Ends}
 use Rattle.state_lookup.specs.declared.FoundTree.{FoundTree}
 use Rattle.state_lookup.specs.declared.FoundTree.the-variants as tree
 use Rattle.state_lookup.specs.Lookup.{endsOf}
 use Rattle.state_sound.specs.declared.walk.Kid.the-variants as kid
-use Rattle.state_sound.specs.Parts.{graftIn, belowIn, KidSays}
+use Rattle.state_sound.specs.Parts.{belowIn, KidSays}
 use Rattle.state_sound.proofs.Grafts.{graft-none, graft-some}
 
 -- a node number in a node's tree

@@ -23,10 +23,6 @@ use Rattle.state_sound.specs.declared.walk.Kid.the-variants as kid
 
 -- ## Grafts
 
--- the tree that the node in slot i grafts
-unfoldable pub graftIn : List ℕ → ℕ → Option TreeId
-graftIn s i = if bit 8 (shapeIn s i .flags) then some (shapeIn s i .graft) else none
-
 -- the node is no graft, or has no children
 unfoldable pub bareIn : List ℕ → ℕ → Bool
 bareIn s i = not (bit 8 (shapeIn s i .flags)) || eqb (shapeIn s i .«child_count») 0

@@ -8,3 +8,4 @@ pub mod Reports
 pub mod Numbers
 pub mod Calls
 pub mod Cases
+pub mod Sorted

@@ -18,7 +18,8 @@ use Rattle.state_lookup.specs.Lookup.{inSlot, SlotOf}
 use Rattle.state_lookup.proofs.Order.{slot-here, slot-of-place}
 use Rattle.update_notes.specs.declared.Scope.{Scope}
 use Rattle.update_notes.specs.Setting.{forest}
-use Rattle.update_notes.specs.Says.{nodeAt, idAt, slotAt, slotAbove, aboveWord}
+use Rattle.update_notes.specs.Codes.{nodeAt, idAt, slotAt}
+use Rattle.update_notes.specs.Says.{slotAbove, aboveWord}
 use Rattle.update_notes.proofs.Places.{slot-present, slot-id, find-at, forest-length, forest-link}
 
 -- ## The nodes of a forest

@@ -12,7 +12,8 @@ use Rattle.update_notes.specs.Layout.{ABOVE, GOES}
 use Rattle.update_notes.specs.Columns.{Holds}
 use Rattle.update_notes.specs.declared.Scope.{Scope}
 use Rattle.update_notes.specs.Setting.{asked, forest}
-use Rattle.update_notes.specs.Says.{idAt, goesWord, Told, GONE}
+use Rattle.update_notes.specs.Codes.{idAt}
+use Rattle.update_notes.specs.Says.{goesWord, Told, GONE}
 use Rattle.update_notes.proofs.Told.{told-set, told-more}
 use Rattle.update.specs.Gone.{gone}
 use Rattle.update_gone.specs.Fates.{fateWord, ABOVE-TOLD, Cell, Fated}

@@ -19,7 +19,8 @@ use Rattle.update_notes.specs.Layout.{TURNS, NAMINGS, CLAIMS, ABOVE}
 use Rattle.update_notes.specs.Columns.{Holds}
 use Rattle.update_notes.specs.declared.Scope.{Scope}
 use Rattle.update_notes.specs.Setting.{asked, forest}
-use Rattle.update_notes.specs.Says.{idAt, slotAt, flag, turnMark, namingMark, graftBelow, ClaimedFromIs, slotAbove, turnWord, namingWord, claimWord, aboveWord, Told}
+use Rattle.update_notes.specs.Codes.{idAt, slotAt, flag}
+use Rattle.update_notes.specs.Says.{turnMark, namingMark, graftBelow, ClaimedFromIs, slotAbove, turnWord, namingWord, claimWord, aboveWord, Told}
 use Rattle.update_notes.proofs.Places.{slot-self, forest-length, forest-id, forest-link}
 use Rattle.update_notes.proofs.Grafts.{graft-slot, claimed-from-is}
 use Rattle.update_notes.proofs.Setting.{batched-at}

@@ -14,7 +14,8 @@ use Rattle.update.specs.Gone.{Fate, stays, goes, asParent, goesIf, replaced, fa
 use Rattle.update_notes.specs.Layout.{GOES}
 use Rattle.update_notes.specs.declared.Scope.{Scope}
 use Rattle.update_notes.specs.Setting.{asked, forest, Scoped}
-use Rattle.update_notes.specs.Says.{idAt, turnMark, namingMark, goesWord, Told}
+use Rattle.update_notes.specs.Codes.{idAt}
+use Rattle.update_notes.specs.Says.{turnMark, namingMark, goesWord, Told}
 
 -- ## Fates
 

@@ -19,12 +19,13 @@ use Rattle.ids.specs.declared.FullNodeId.{FullNodeId}
 use Rattle.record.specs.Batch.{NodeData, graft?, Listed, Batch}
 use Rattle.reader.specs.Reader.{batchIn, blank, listedAt}
 use Rattle.state.specs.State.{NodeState, Forest, graftAt}
-use Rattle.state_array.specs.View.{shapeIn, bodyIn, nodeIn, slotsOf}
+use Rattle.state_array.specs.View.{graftIn, shapeIn, bodyIn, nodeIn, slotsOf}
 use Rattle.update.specs.Words.{here, listed, claim, claimer, claimedFrom, letsGo}
 use Rattle.update_notes.specs.Layout.{CLAIMS}
 use Rattle.update_notes.specs.Columns.{Holds}
 use Rattle.update_notes.specs.Setting.{Batched, forest}
-use Rattle.update_notes.specs.Says.{nodeAt, slotAt, flag, turnMark, graftIn, graftBelow, ClaimerIs, ClaimedFromIs}
+use Rattle.update_notes.specs.Codes.{nodeAt, slotAt, flag}
+use Rattle.update_notes.specs.Says.{turnMark, graftBelow, ClaimerIs, ClaimedFromIs}
 use Rattle.update_notes.proofs.Positions.{first-cong, first-given-at}
 use Rattle.update_notes.proofs.Places.{slot-found, forest-length, forest-node}
 use Rattle.update_notes.proofs.Marks.{turn-listed, turn-listing}
@@ -58,6 +59,11 @@ graft-given d e = rw (graft-flag d ∙ e)
 -- ## A slot's graft
 
 module _ (state : List ℕ) (i : ℕ) where
+  -- whether it is a tree's
+  pub graft-in-is : (t : TreeId) → (bit 8 (shapeIn state i .flags) && sameTree (shapeIn state i .graft) t) ≡ sameOption sameTree (graftIn state i) (some t)
+  unfolding graftIn
+  graft-in-is t = same-some (bit 8 (shapeIn state i .flags)) (shapeIn state i .graft) t
+
   -- whether a slot of a node grafts a tree
   pub graft-below-some : (ltb i (slotsOf state) && bit 8 (shapeIn state i .flags)) ≡ isSome (graftBelow state i)
   unfolding graftBelow graftIn _&&_

@@ -24,7 +24,8 @@ use Rattle.reader.specs.Reader.{noNode, blank, listedAt}
 use Rattle.state.specs.State.{ParentAndIndex, Forest}
 use Rattle.state.specs.Sound.{ascending}
 use Rattle.update.specs.Words.{listing, number, here, mine, listed, turn, naming, named}
-use Rattle.update_notes.specs.Says.{idAt, slotAt, turnMark, namingMark}
+use Rattle.update_notes.specs.Codes.{idAt, slotAt}
+use Rattle.update_notes.specs.Says.{turnMark, namingMark}
 use Rattle.update_notes.proofs.Positions.{first-unique, first-cong, position-first, has-position, position-append, position-self, first-given-at}
 use Rattle.update_notes.proofs.Places.{slot-id, slot-self}
 

@@ -22,7 +22,8 @@ use Rattle.state.specs.Sound.{ascending}
 use Rattle.state_array.specs.View.{idIn, linkIn, linkOf, nodeIn, slotsOf, view}
 use Rattle.update.specs.Words.{old}
 use Rattle.update_notes.specs.Setting.{forest}
-use Rattle.update_notes.specs.Says.{noState, nodeAt, idAt, slotAt}
+use Rattle.state_array.specs.Stored.{noState}
+use Rattle.update_notes.specs.Codes.{nodeAt, idAt, slotAt}
 use Rattle.update_notes.proofs.Positions.{ltb-suc, first-unique, first-cong, position-first}
 
 -- ## Lists of nodes

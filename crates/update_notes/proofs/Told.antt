@@ -11,7 +11,8 @@ use Rattle.base.proofs.Regions.{fill-cong}
 use Rattle.update_notes.proofs.Columns.{below-none, below-set, below-fill, holds-fill, columns-below, columns-more}
 use Rattle.update_notes.specs.declared.Scope.{Scope}
 use Rattle.update_notes.specs.Setting.{Batched, asked, forest, Given}
-use Rattle.update_notes.specs.Says.{columns, Told}
+use Rattle.update.proofs.Outcome.{length-outcome}
+use Rattle.update_notes.specs.Says.{outcomeCount, columns, Told}
 use Rattle.update_notes.proofs.Setting.{batched-facts}
 
 module _ (state bytes : List ℕ) (c : Scope) (g : Given state bytes c) where
@@ -27,6 +28,11 @@ module _ (state bytes : List ℕ) (c : Scope) (g : Given state bytes c) where
   pub few-named : c .named ≤ 256
   few-named = omega (arith, batched-facts bytes (asked bytes c) batched .named-limit, g .scoped .named)
 
+  pub few-after : outcomeCount state bytes c ≤ 320
+  few-after =
+      let n = length-outcome (forest state) (asked bytes c) in
+      omega (arith, g .kept .few-nodes, batched-facts bytes (asked bytes c) batched .nodes-limit)
+
   -- so no column is too small
   pub fit : Fit (columns state bytes c)
   fit zero = few-listed
@@ -39,7 +45,12 @@ module _ (state bytes : List ℕ) (c : Scope) (g : Given state bytes c) where
   fit (suc (suc (suc (suc (suc (suc (suc zero))))))) = few-listed
   fit (suc (suc (suc (suc (suc (suc (suc (suc zero)))))))) = omega arith
   fit (suc (suc (suc (suc (suc (suc (suc (suc (suc zero))))))))) = omega arith
-  fit (suc (suc (suc (suc (suc (suc (suc (suc (suc (suc j)))))))))) = omega arith
+  fit (suc (suc (suc (suc (suc (suc (suc (suc (suc (suc zero)))))))))) = few-listed
+  fit (suc (suc (suc (suc (suc (suc (suc (suc (suc (suc (suc zero))))))))))) = omega arith
+  fit (suc (suc (suc (suc (suc (suc (suc (suc (suc (suc (suc (suc zero)))))))))))) = few-after
+  fit (suc (suc (suc (suc (suc (suc (suc (suc (suc (suc (suc (suc (suc zero))))))))))))) = few-after
+  fit (suc (suc (suc (suc (suc (suc (suc (suc (suc (suc (suc (suc (suc (suc zero)))))))))))))) = few-after
+  fit (suc (suc (suc (suc (suc (suc (suc (suc (suc (suc (suc (suc (suc (suc (suc j))))))))))))))) = omega arith
 
 module _ (state bytes : List ℕ) (c : Scope) (s : List ℕ) (k : ℕ) (told : Told k state bytes c s) where
   -- THE FRAME: words past the columns that are written change

@@ -1,4 +1,5 @@
 pub mod Layout
 pub mod Columns
 pub mod Setting
+pub mod Codes
 pub mod Says

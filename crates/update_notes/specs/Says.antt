@@ -6,44 +6,24 @@ use mathlib.Core.Path.{_≡_}
 use Prim.Native.Nat.{ℕ, suc, _+_, _<_}
 use lib.Dec.{eqb, ltb}
 use lib.ListN.{length, getD, take}
-use Rattle.base.specs.Tests.{_&&_, if_then_else_, isSome, has, position}
-use Rattle.base.specs.Bytes.{bit}
+use Rattle.base.specs.Tests.{_&&_, if_then_else_, isSome, sameOption, has, position}
 use Rattle.base.specs.Search.{First}
 use Rattle.ids.specs.Ids.{sameTree, sameNode, sameId}
 use Rattle.ids.specs.declared.TreeId.{TreeId}
 use Rattle.ids.specs.declared.FullNodeId.{FullNodeId}
 use Rattle.record.specs.Batch.{Batch, namedIds}
-use Rattle.reader.specs.Reader.{noNode, blank, listedAt}
-use Rattle.state.specs.State.{ParentAndIndex, NodeState, idsOf, Forest}
-use Rattle.state_array.specs.View.{shapeIn, slotsOf}
+use Rattle.reader.specs.Reader.{noNode, listedAt}
+use Rattle.state.specs.State.{ParentAndIndex, Forest}
+use Rattle.state_array.specs.View.{graftIn, slotsOf}
 use Rattle.update.specs.Words.{here, mine, listed, turn, claim}
 use Rattle.update.specs.Gone.{gone}
+use Rattle.update.specs.Outcome.{outcome}
 use Rattle.update_notes.specs.Layout.{CLAIMS}
 use Rattle.base.specs.Regions.{Part, part}
 use Rattle.update_notes.specs.Columns.{Column}
 use Rattle.update_notes.specs.declared.Scope.{Scope}
 use Rattle.update_notes.specs.Setting.{asked, forest, Given}
-
--- ## Places
-
--- what stands past the last node
-abbrev pub noState : NodeState
-noState = record { id = record { tree = record { 0 = 0 }; node = noNode }; parentAndIndex = none; body = blank .body }
-
--- the node in slot i, and its id
-abbrev pub nodeAt : Forest → ℕ → NodeState
-nodeAt s i = getD (s .nodes) i noState
-
-abbrev pub idAt : Forest → ℕ → FullNodeId
-idAt s i = nodeAt s i .id
-
--- the slot of an id, the number of nodes where it is absent
-abbrev pub slotAt : Forest → FullNodeId → ℕ
-slotAt s x = position sameId (idsOf (s .nodes)) x
-
--- 1 where a test holds, else 0
-abbrev pub flag : Bool → ℕ
-flag t = if t then 1 else 0
+use Rattle.update_notes.specs.Codes.{idAt, slotAt, nodeAt, flag, differs, codeOf, sourceOf, changeOf}
 
 -- ## Marks
 
@@ -58,11 +38,7 @@ namingMark s b x =
 
 -- ## Grafts in a state
 
--- the tree that the node in slot i grafts
-unfoldable pub graftIn : List ℕ → ℕ → Option TreeId
-graftIn state i = if bit 8 (shapeIn state i .flags) then some (shapeIn state i .graft) else none
-
--- the same; none past the last node
+-- the tree that the node in slot i grafts; none past the last node
 unfoldable pub graftBelow : List ℕ → ℕ → Option TreeId
 graftBelow state i = if ltb i (slotsOf state) then graftIn state i else none
 
@@ -74,6 +50,16 @@ ClaimerIs b notes k t r = First (λ i. eqb (getD notes (CLAIMS + i) 0) 1 && same
 pub record ClaimedFromIs (b : Batch) (notes : List ℕ) (k : ℕ) (graft : Option TreeId) (r : ℕ) : Type 0 where
   pub ungrafted : graft ≡ none → r ≡ k
   pub grafted : (t : TreeId) → graft ≡ some t → ClaimerIs b notes k t r
+
+-- ## Searches
+
+-- the first of the n words from `from` on that is x, or n
+abbrev pub PositionIn : List ℕ → ℕ → ℕ → ℕ → ℕ → Type 0
+PositionIn notes from n x r = First (λ i. eqb (getD notes (from + i) 0) x) n r
+
+-- the first slot whose node grafts t, or the number of slots
+abbrev pub HolderIs : List ℕ → TreeId → ℕ → Type 0
+HolderIs state t r = First (λ i. sameOption sameTree (graftIn state i) (some t)) (slotsOf state) r
 
 -- ## The words of the columns
 
@@ -116,6 +102,24 @@ module _ (state bytes : List ℕ) (c : Scope) where
   unfoldable pub goesWord : ℕ → ℕ
   goesWord i = flag (gone (forest state) (asked bytes c) (idAt (forest state) i))
 
+  -- whether listed node i is old and differs
+  unfoldable pub differWord : ℕ → ℕ
+  differWord i = flag (differs (forest state) (asked bytes c) (listedAt (asked bytes c) i))
+
+  -- how many nodes the outcome has
+  abbrev pub outcomeCount : ℕ
+  outcomeCount = length (outcome (forest state) (asked bytes c) .nodes)
+
+  -- the code of the outcome's node r, where its data comes from, what changed of it
+  unfoldable pub codeWord : ℕ → ℕ
+  codeWord r = codeOf (forest state) (asked bytes c) (idAt (outcome (forest state) (asked bytes c)) r)
+
+  unfoldable pub sourceWord : ℕ → ℕ
+  sourceWord r = sourceOf (forest state) (asked bytes c) (idAt (outcome (forest state) (asked bytes c)) r)
+
+  unfoldable pub changedWord : ℕ → ℕ
+  changedWord r = changeOf (forest state) (asked bytes c) (idAt (outcome (forest state) (asked bytes c)) r)
+
 -- ## The table of columns, in the order in which the phases write them, and where they stand in the notes
 
 abbrev pub columns : List ℕ → List ℕ → Scope → List Part
@@ -130,6 +134,11 @@ columns state bytes c =
     ∷ part 64 (c .listed) (claimWord state bytes c)
     ∷ part 320 (slotsOf state) (aboveWord state bytes c)
     ∷ part 320 (slotsOf state) (goesWord state bytes c)
+    ∷ part 64 (c .listed) (differWord state bytes c)
+    ∷ part 1 1 (λ r. outcomeCount state bytes c)
+    ∷ part 320 (outcomeCount state bytes c) (codeWord state bytes c)
+    ∷ part 320 (outcomeCount state bytes c) (sourceWord state bytes c)
+    ∷ part 320 (outcomeCount state bytes c) (changedWord state bytes c)
     ∷ []
 
 -- how many columns are written after each phase
@@ -138,6 +147,15 @@ READ = 8
 
 abbrev pub GONE : ℕ
 GONE = 10
+
+abbrev pub COMPARED : ℕ
+COMPARED = 11
+
+abbrev pub PLANNED : ℕ
+PLANNED = 14
+
+abbrev pub REPORTED : ℕ
+REPORTED = 15
 
 -- THE PREMISE OF A PHASE: what it is given, and that the notes' first k columns are written.
 pub record Told (k : ℕ) (state bytes : List ℕ) (c : Scope) (notes : List ℕ) : Type 0 where

@@ -1,23 +1,25 @@
 -- What the phases of an update are given: a forest that passed number 1, or a start's, a batch that passed number 2, and its scope.
 -- Assumes nothing.
-use mathlib.Core.Bool.{true}
+use mathlib.Core.Bool.{true, _||_}
 use mathlib.Core.List.{List}
 use mathlib.Core.Option.{Option, none, some}
 use mathlib.Core.Path.{_≡_}
 use Prim.Native.Nat.{ℕ, _≤_}
+use lib.Dec.{ltb}
 use lib.ListN.{length}
-use Rattle.base.specs.Tests.{if_then_else_, all}
-use Rattle.ids.specs.Ids.{ROOT, sameTree}
+use Rattle.base.specs.Tests.{if_then_else_, all, distinct}
+use Rattle.ids.specs.Ids.{ROOT, sameTree, sameNode}
 use Rattle.ids.specs.declared.FullNodeId.{FullNodeId}
-use Rattle.record.specs.Batch.{fieldsOk, Batch, namedIds}
+use Rattle.record.specs.Batch.{fieldsOk, Batch, listedIds, namedIds}
 use Rattle.record.specs.Parse.{wellFormed}
 use Rattle.reader.specs.Reader.{batchIn}
 use Rattle.state.specs.State.{ParentAndIndex, Forest, present, linkAt}
 use Rattle.state.specs.Sound as sound
 use Rattle.state_array.specs.View.{view}
 use Rattle.state.proofs.Pool.{childTotal}
-use Rattle.update.specs.Words.{number, withTreeData, rootAfter}
+use Rattle.update.specs.Words.{known, number, withTreeData, rootAfter}
 use Rattle.update.specs.Gone.{fares, fate, gone}
+use Rattle.update_notes.specs.declared.Refusal.{Refusal}
 use Rattle.update_notes.specs.declared.Scope.{Scope}
 
 -- The bytes are a record, and b lists its nodes. (A start's b is the record's batch with its tree data taken.)
@@ -62,8 +64,14 @@ pub record Kept (s : Forest) : Type 0 where
   pub gone-parent : (b : Batch) (x : FullNodeId) (l : ParentAndIndex) → linkAt (s .nodes) x ≡ some l
       → gone s b x ≡ fares (fate s b x l) (gone s b (l .parent))
 
--- What every phase is given: the words of a state that is kept, the bytes of a record, and its scope.
+-- What every phase is given: the words of a state that is kept, the bytes of a record that passed rows 5 to 8, and its scope.
 pub record Given (state bytes : List ℕ) (c : Scope) : Type 0 where
   pub kept : Kept (forest state)
   pub formed : wellFormed bytes ≡ true
   pub scoped : Scoped (forest state) (asked bytes c) c
+  pub once : distinct sameNode (listedIds (asked bytes c .nodes)) ≡ true
+  pub numbered : (known (forest state) (asked bytes c) || ltb (length (forest state .trees)) 32) ≡ true
+
+-- what a number of document 01's table is as a phase answers it; no number fills the place for a node's id yet
+abbrev pub refusal : ℕ → Refusal
+refusal k = record { number = k; node = record { tree = record { 0 = 0 }; node = record { 0 = 0 } } }

@@ -1,19 +1,21 @@
-// What the phases of an update are given, and questions about grafts and roots that several of them ask.
+// The notes of an update: its working words, in columns; what its phases are given, and questions about grafts and roots that several of
+// them ask. specs/Layout.antt has the same numbers for contracts, specs/Says.antt what each column says.
 ghost use mathlib.Core.Path.{_≡_};
 ghost use mathlib.Core.Option.{some};
-ghost use Prim.Native.Nat.{_≤_};
+ghost use Prim.Native.Nat.{_+_, _≤_};
 ghost use Rattle.base.specs.Tests.{isSome, sameOption};
 ghost use Rattle.ids.specs.Ids.{sameTree, sameId};
 ghost use Rattle.record.specs.Batch.{graft?};
 ghost use Rattle.reader.specs.Reader.{batchIn, listedAt};
-ghost use Rattle.update_notes.specs.Setting.{rootIn};
-ghost use Rattle.update_notes.specs.Says.{graftBelow, ClaimerIs, ClaimedFromIs};
+ghost use Rattle.update_notes.specs.Setting.{rootIn, refusal};
+ghost use Rattle.update_notes.specs.Says.{graftBelow, ClaimerIs, ClaimedFromIs, PositionIn, HolderIs};
 use ids::FullNodeId;
 use ids::NodeId;
 use ids::TreeId;
 use ids::TreeIndex;
 use state_array::State;
 
+// The working words of an update, in columns that stand in the order in which the phases write them.
 pub type Notes = [u64; 4096];
 
 // The numbers of the listed nodes (64), the children that they name (256), where the children of each end (64).
@@ -36,6 +38,17 @@ pub const CLAIMS: usize = 1344;
 pub const ABOVE: usize = 1408;
 
 pub const GOES: usize = 1728;
+// Which listed nodes are old and have other data than before (64).
+pub const DIFFERS: usize = 2048;
+// How many nodes the outcome has (1).
+pub const COUNT: usize = 2112;
+// For each node of the outcome (320): its code, a slot below 320 or 320 and a listed node's place; where its data comes from, the same way;
+// what changed of it: 1 added, 2 updated, 4 relinked, 6 both.
+pub const CODES: usize = 2113;
+
+pub const SOURCES: usize = 2433;
+
+pub const CHANGED: usize = 2753;
 
 // What a batch is about: its tree's number, whether that tree is ROOT, how many nodes it lists and how many children they name, whether it
 // has tree data, and the tree's root as the batch leaves it, if there is one.
@@ -47,6 +60,25 @@ pub struct Scope {
     pub with_tree_data: bool,
     pub rooted: bool,
     pub root: NodeId,
+}
+
+// Why a phase turns a batch away: a number of document 01's table, 0 where it does not, and a place for a node's id.
+pub struct Refusal {
+    pub number: u8,
+    pub node: FullNodeId,
+}
+
+// A refusal by a number alone.
+pub fn refuse(number: u8) -> Refusal
+    ensures { λ r. ⌜ r ≡ refusal number ⌝ }
+{
+    Refusal {
+        number,
+        node: FullNodeId {
+            tree: TreeIndex(0),
+            node: NodeId(0),
+        },
+    }
 }
 
 // Whether listed node i grafts a tree.
@@ -115,4 +147,35 @@ pub fn is_root(scope: Scope, x: FullNodeId) -> bool
     ensures { λ r. ⌜ r ≡ sameOption sameId (rootIn scope) (some x) ⌝ }
 {
     scope.rooted & (scope.tree.0 == x.tree.0) & (scope.root.0 == x.node.0)
+}
+
+// The first of the n words from `from` on that is x, or n.
+pub fn position_in(notes: &Notes, from: usize, n: usize, x: u64) -> usize
+    requires { ⌜ from + n ≤ 4096 ⌝ }
+    ensures { λ r. ⌜ PositionIn (now (notes .entry)) from n x r ⌝ }
+{
+    let mut i = 0usize;
+    while i < n {
+        if notes[from + i] == x {
+            return i;
+        }
+        i += 1;
+    }
+    n
+}
+
+// The first slot whose node grafts a tree, or the number of slots.
+pub fn holder_of(state: &State, t: TreeId) -> usize
+    ensures { λ r. ⌜ HolderIs (now (state .entry)) t r ⌝ }
+{
+    let n = state_array::slots(state);
+    let mut i = 0usize;
+    while i < n {
+        let d = state_array::shape_at(state, i);
+        if state_array::is_graft(d.flags) & ids::same_tree(d.graft, t) {
+            return i;
+        }
+        i += 1;
+    }
+    n
 }

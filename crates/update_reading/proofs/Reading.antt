@@ -29,7 +29,8 @@ use Rattle.update_notes.specs.Layout.{LISTED, NAMED, LISTED-SLOTS, NAMED-SLOTS,
 use Rattle.update_notes.specs.Columns.{Holds}
 use Rattle.update_notes.specs.declared.Scope.{Scope}
 use Rattle.update_notes.specs.Setting.{asked, forest, Given}
-use Rattle.update_notes.specs.Says.{idAt, slotAt, flag, turnMark, namingMark, listedWord, namedWord, endWord, listedSlot, namedSlot, turnWord, namingWord, claimWord, Told}
+use Rattle.update_notes.specs.Codes.{idAt, slotAt, flag}
+use Rattle.update_notes.specs.Says.{turnMark, namingMark, listedWord, namedWord, endWord, listedSlot, namedSlot, turnWord, namingWord, claimWord, Told}
 use Rattle.update_notes.proofs.Places.{forest-length}
 use Rattle.update_notes.proofs.Marks.{turn-mark, naming-mark}
 use Rattle.update_notes.proofs.Grafts.{graft-slot}

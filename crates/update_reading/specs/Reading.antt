@@ -14,7 +14,8 @@ use Rattle.reader.specs.Reader.{batchIn, listedAt}
 use Rattle.update_notes.specs.Layout.{LISTED-SLOTS}
 use Rattle.update_notes.specs.Columns.{Holds, Below}
 use Rattle.update_notes.specs.Setting.{forest}
-use Rattle.update_notes.specs.Says.{slotAt, flag, graftBelow}
+use Rattle.update_notes.specs.Codes.{slotAt, flag}
+use Rattle.update_notes.specs.Says.{graftBelow}
 
 -- n words from `to` on stand within the notes
 abbrev pub Room : ℕ → ℕ → Type 0

@@ -8,7 +8,7 @@ use Rattle.ids.specs.Ids.{sameId}
 use Rattle.base.specs.Regions.{fill}
 use Rattle.base.proofs.Regions.{fill-none, fill-more, fill-kept}
 use Rattle.update_notes.specs.Setting.{forest}
-use Rattle.update_notes.specs.Says.{slotAt}
+use Rattle.update_notes.specs.Codes.{slotAt}
 use Rattle.update_reading.specs.Reading.{slotWord}
 use native.Mathlib.Omega.{arith}
 use borrow.Author.Needs.{needs}

@@ -11,7 +11,8 @@ use Rattle.reader.specs.Reader.{batchIn, listedAt}
 use Rattle.update_notes.specs.Layout.{CLAIMS, LISTED-SLOTS}
 use Rattle.base.specs.Regions.{fill}
 use Rattle.base.proofs.Regions.{fill-none, fill-more, fill-kept}
-use Rattle.update_notes.specs.Says.{flag, graftBelow}
+use Rattle.update_notes.specs.Codes.{flag}
+use Rattle.update_notes.specs.Says.{graftBelow}
 use Rattle.update_notes.proofs.Told.{few-listed, told-filled}
 use Rattle.update_reading.specs.Reading.{claimOf}
 use Rattle.update_reading.proofs.Reading.{claim-is}
