@@ -1,18 +1,17 @@
 // Cartgravel: the accessibility tree of a payment terminal, for C11 and C++17 or later.
 //
 // A program keeps a `cartgravel_state`, starts it once and hands it batches. Each call answers a number; CARTGRAVEL_ACCEPTED is 0. After any
-// other number the lent slice is as it was, the report is zeros, and the state is as it was; only a refused start leaves the blank state,
+// other number the lent slice is as it was, the rest of the reply is zeros, and the state is as it was; only a refused start leaves the blank state,
 // which no other call takes. Any bytes may stand in a state, a batch or a slice.
 //
 // The calls keep no pointer, allocate nothing and have no state of their own, so threads may call them at once, each on its own memory. A
 // call needs CARTGRAVEL_STACK bytes of stack. A state lives where its owner puts it.
 //
-// Link libconsumer.a, which `rt staticlib consumer` proves and writes to target/staticlib. examples/c has a program.
+// Link libcartgravel.a, which `rt staticlib cartgravel` proves and writes to target/staticlib. examples/c has a program.
 #ifndef CARTGRAVEL_H
 #define CARTGRAVEL_H
 
 #include <assert.h>
-#include <stdbool.h>
 #include <stddef.h>
 #include <stdint.h>
 
@@ -56,7 +55,8 @@ enum {
     CARTGRAVEL_LABEL_BYTES = 32,     // bytes of a node's label
     CARTGRAVEL_RECORD_BYTES = 12352, // bytes of a batch
     CARTGRAVEL_CHANGES = 1024,       // elements of the lists
-    CARTGRAVEL_STATE_BYTES = 70024,  // bytes of a state
+    CARTGRAVEL_STATE_WORDS = 9640,   // words of a state
+    CARTGRAVEL_STATE_BYTES = 77120,  // bytes of a state
     CARTGRAVEL_STACK = 196608        // bytes of stack for a call
 };
 
@@ -78,19 +78,11 @@ enum {
 //
 // A child entry is a u64, a node's number. Each node's children and label start where those of the node before it end. Floats are finite.
 
-// The state. Its fields are the library's own: read and write them only by the calls, or copy the whole.
+// The state: one array of words, which are the library's own: read and write them only by the calls, or copy the whole. Any words are a state;
+// one that no call has made is refused with 1 unless it is sound. After acceptance the words are the one form of what the state shows, and
+// nothing is left in them of what is gone.
 typedef struct {
-    uint64_t rows[2880];
-    uint64_t nodes[320];
-    uint64_t children[512];
-    uint64_t table[160];
-    double floats[3200];
-    uint32_t trees[320];
-    uint32_t parents[320];
-    uint16_t count;
-    uint16_t tree_count;
-    uint8_t texts[10880];
-    uint8_t host_focused;
+    uint64_t words[CARTGRAVEL_STATE_WORDS];
 } cartgravel_state;
 
 static_assert(sizeof(cartgravel_state) == CARTGRAVEL_STATE_BYTES, "the state's size");
@@ -102,81 +94,44 @@ typedef struct {
     uint32_t present;
 } cartgravel_id;
 
-// What a call reports: how many ids each of the four lists has, and the focus before and after. Where the focus moved, `extra_before` is the
-// node that it left, unless that was updated or removed, and `extra_after` the one that it reached, unless that was added or updated.
+// How many ids each of the four lists has.
 typedef struct {
     size_t added;
     size_t updated;
     size_t removed;
     size_t relinked;
+} cartgravel_lengths;
+
+// The focus before and after. Where it moved, `extra_before` is the node that it left, unless that was updated or removed, and `extra_after` the
+// one that it reached, unless that was added or updated.
+typedef struct {
     cartgravel_id focus_before;
     cartgravel_id focus_after;
     cartgravel_id extra_before;
     cartgravel_id extra_after;
 } cartgravel_report;
 
-// What the library's functions answer: a report, the number, and the numbers of the state then.
+// What a call answers. After any number but CARTGRAVEL_ACCEPTED the rest is zeros.
 typedef struct {
+    cartgravel_lengths lengths;
     cartgravel_report report;
     uint32_t number;
-    uint16_t count;
-    uint16_t tree_count;
-    uint8_t host_focused;
 } cartgravel_reply;
 
-// The library's functions, proved. The state is lent column by column and changed in place; a slice passes as a pointer and a length. No
-// pointer may be null, each must point to its column or to as many elements as are said, and none may overlap another. The calls below are
-// these with the state behind one pointer.
-cartgravel_reply cartgravel_start_columns(
-    const uint8_t *batch, size_t length, uint32_t host_focused, uint32_t *trees, uint64_t *nodes, uint32_t *parents, uint64_t *rows,
-    uint64_t *children, uint8_t *texts, double *floats, uint64_t *table);
-cartgravel_reply cartgravel_update_columns(
-    uint32_t *trees, uint64_t *nodes, uint32_t *parents, uint64_t *rows, uint64_t *children, uint8_t *texts, double *floats, uint64_t *table,
-    uint16_t count, uint16_t tree_count, uint8_t host_focused, const uint8_t *batch, size_t length, uint64_t *changes, size_t room);
-cartgravel_reply cartgravel_host_focus_columns(
-    const uint32_t *trees, const uint64_t *nodes, const uint32_t *parents, const uint64_t *rows, const uint64_t *children,
-    const uint8_t *texts, const double *floats, const uint64_t *table, uint16_t count, uint16_t tree_count, uint8_t was_focused,
-    uint32_t host_focused);
+// The calls: the proved functions themselves, with no code between. No pointer may be null, not even to a batch or slice of no elements, which may
+// point to any byte; each must point to the state or to as many elements as are said, and none may overlap another. A flag is set where it is
+// not 0.
 
-// Takes a reply apart: the state's numbers and, where `report` is not null, the report. Answers the number.
-static inline uint32_t cartgravel_take(cartgravel_reply reply, cartgravel_state *state, cartgravel_report *report) {
-    state->count = reply.count;
-    state->tree_count = reply.tree_count;
-    state->host_focused = reply.host_focused;
-    if (report) *report = reply.report;
-    return reply.number;
-}
-
-// A start: a state begins with a batch for ROOT with tree data. After a refusal it is the blank one: it counts no node and no tree. `report`
-// may be null, `batch` where `length` is 0.
-static inline uint32_t cartgravel_start(
-    cartgravel_state *state, const uint8_t *batch, size_t length, bool host_focused, cartgravel_report *report) {
-    static const uint8_t nothing = 0;
-    const cartgravel_reply reply = cartgravel_start_columns(
-        length ? batch : &nothing, length, host_focused, state->trees, state->nodes, state->parents, state->rows, state->children,
-        state->texts, state->floats, state->table);
-    return cartgravel_take(reply, state, report);
-}
+// A start: a state begins with a batch for ROOT with tree data. It never reads the state's memory, which need not be initialised. After a refusal
+// the state is the blank one, all zeros.
+cartgravel_reply cartgravel_start(cartgravel_state *state, const uint8_t *batch, size_t length, uint32_t host_focused);
 
 // A batch on a state. `changes` takes the four lists, two elements an id (tree number, node number), one list after another: added, updated,
-// removed, relinked. `report` may be null, `batch` where `length` is 0, `changes` where `room` is 0.
-static inline uint32_t cartgravel_update(
-    cartgravel_state *state, const uint8_t *batch, size_t length, uint64_t *changes, size_t room, cartgravel_report *report) {
-    static const uint8_t nothing = 0;
-    uint64_t unused = 0;
-    const cartgravel_reply reply = cartgravel_update_columns(
-        state->trees, state->nodes, state->parents, state->rows, state->children, state->texts, state->floats, state->table, state->count,
-        state->tree_count, state->host_focused, length ? batch : &nothing, length, room ? changes : &unused, room);
-    return cartgravel_take(reply, state, report);
-}
+// removed, relinked; the elements beyond them keep what they held.
+cartgravel_reply cartgravel_update(cartgravel_state *state, const uint8_t *batch, size_t length, uint64_t *changes, size_t room);
 
-// A host focus change: whether the terminal itself has the focus. `report` may be null.
-static inline uint32_t cartgravel_host_focus(cartgravel_state *state, bool host_focused, cartgravel_report *report) {
-    const cartgravel_reply reply = cartgravel_host_focus_columns(
-        state->trees, state->nodes, state->parents, state->rows, state->children, state->texts, state->floats, state->table, state->count,
-        state->tree_count, state->host_focused, host_focused);
-    return cartgravel_take(reply, state, report);
-}
+// A host focus change: whether the terminal itself has the focus.
+cartgravel_reply cartgravel_host_focus(cartgravel_state *state, uint32_t host_focused);
 
 // A number in plain words, or "no such number".
 static inline const char *cartgravel_words(uint32_t number) {

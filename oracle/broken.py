@@ -16,112 +16,92 @@ CHANGES = [
     ('ids sorted by node number first', 'ids',
      '(x.tree.0 < y.tree.0) | ((x.tree.0 == y.tree.0) & (x.node.0 < y.node.0))',
      '(x.node.0 < y.node.0) | ((x.node.0 == y.node.0) & (x.tree.0 < y.tree.0))'),
-    ('64 listed nodes are too many', 'layout', '(nodes <= 64)', '(nodes < 64)'),
-    ('a label of 32 bytes is too long', 'layout', '(u16_at(batch, at + 38) <= 32)', '(u16_at(batch, at + 38) < 32)'),
-    ('a state\'s unused flag bit is not looked at', 'soundness', '\n        & (flags < 64)', ''),
-    ('a state\'s recorded places are not looked at', 'soundness/walk', ' & (l.index == j as u64)', ''),
-    ('the 32nd tree is refused with 8', 'numbers', '(32 <= m)', '(31 <= m)'),
-    ('10 asked before the children are named, so before 9', 'pass',
-     'let next = next_step(listed, named, ends, ready, i, j);',
-     '''if words::grafts_new(batch, i) & (0 < reader::child_count(batch, i)) & (ready[i] == 1) {
+    ('64 listed nodes are too many', 'record_layout', '(nodes <= 64)', '(nodes < 64)'),
+    ('a label of 32 bytes is too long', 'record_layout', '(u16_at(batch, at + 38) <= 32)', '(u16_at(batch, at + 38) < 32)'),
+    ('a state\'s unused flag bit is not looked at', 'state_fields', '\n        & (flags < 64)', ''),
+    ('a state\'s role past the byte is not looked at', 'state_fields', '\n        & (word_at(state, state_array::ROLE, i) < 256)', ''),
+    ('a state\'s recorded places are not looked at', 'state_sound/walk', ' & (l.index == j as u64)', ''),
+    ('the 32nd tree is refused with 8', 'update_rows', '(state_array::TREES <= m)', '(31 <= m)'),
+    ('10 asked before the children are named, so before 9', 'update_pass',
+     '    let k = scope.listed;\n    let mut done = [0u8; 65];',
+     '''    let k = scope.listed;
+    if 0 < k {
+        if update_notes::grafts_new(batch, 0) & (0 < record_reader::child_count(batch, 0)) {
             return 10;
         }
-        let next = next_step(listed, named, ends, ready, i, j);'''),
-    ('12\'s clash with a graft already held judged before 14', 'apply',
-     '    if early != 0 {\n',
-     '''    if early == 14 {
-        let done = carry_out(
-            batch, scope, w, trees, nodes, parents, rows, children, texts, floats, n, m, out_trees, out_nodes, out_parents, out_rows, out_children,
-            out_texts, out_floats, table,
-        );
-        if done.number == 12 {
-            return done;
+    }
+    let mut done = [0u8; 65];'''),
+    ('12\'s clash with a graft already held judged before 14', 'update_apply',
+     '    if early.number != 0 {\n',
+     '''    if early.number == 14 {
+        write(state, batch, scope, notes, next);
+        let late = update_rows::last_rows(next, false);
+        if late.number == 12 {
+            return late;
         }
     }
-    if early != 0 {
+    if early.number != 0 {
 '''),
-    ('a listed node never goes', 'gone', 'goes_if(turn <= parent_turn)', 'goes_if(turn < 1)'),
-    ('a tree goes with its old graft, though another node grafts it', 'gone',
-     'if words::claimed_from(batch, claims, k, rows, slot, n) < k {\n        return STAYS;',
-     'if words::claimed_from(batch, claims, k, rows, slot, n) < k {\n        return GOES;'),
-    ('a tree whose nodes went still exists', 'table', 'table[5 * k + 4] = 0;', 'table[5 * k + 4] = 1;'),
-    ('floats compared by bits', 'geometry', '(x.x0 == y.x0)', '(f64::to_bits(x.x0) == f64::to_bits(y.x0))'),
-    ('new bits written over equal data', 'plan', 'if differs[turn - 1] == 1 {', 'if differs[turn - 1] <= 1 {'),
-    ('a pane\'s root listed without tree data loses its link', 'links',
-     'let cut = root & scope.is_root_tree & (0 < turn);', 'let cut = root & (0 < turn);'),
-    ('a tree moved to another graft keeps its old link', 'links', 'under(listed_id(scope, listed, i), 0)', 'was'),
-    ('256 nodes are too many', 'numbers', 'if 256 < n { 20 } else { 0 }', 'if 255 < n { 20 } else { 0 }'),
-    ('20 counts the removed nodes too', 'apply',
-     '    Applied {\n        number,\n',
-     '''    let removed = reports::count_of(&before, n, 1);
-    let crowded = (number == 0) & (256 < count + removed);
-    Applied {
-        number: if crowded { 20 } else { number },
-'''),
-    ('relinked leaves out a change to no parent', 'links', 'return was.linked != 0;', 'return false;'),
-    ('the lists in descending order', 'reports',
-     '''if has_bit(weight, flags[i]) & has_room(to, changes.len()) {
-            let x = tree::id_at(trees, nodes, i);''',
+    ('a listed node never goes', 'update_gone', 'goes_if(turn <= parent_turn)', 'goes_if(turn < 1)'),
+    ('a tree goes with its old graft, though another node grafts it', 'update_gone',
+     'if update_notes::claimed_from(state, batch, notes, k, slot) < k {\n        return STAYS;',
+     'if update_notes::claimed_from(state, batch, notes, k, slot) < k {\n        return GOES;'),
+    ('a tree whose nodes went still exists', 'update_trees', 'if root_goes(state, batch, scope, notes, k, root) {', 'if root_goes(state, batch, scope, notes, k, root) & (k < 1) {'),
+    ('floats compared by bits', 'update_bodies', 'record_wire::f64_of(x) == record_wire::f64_of(y)', 'x == y'),
+    ('new bits written over equal data', 'update_plan', '(turn - 1) as usize] == 1 {', '(turn - 1) as usize] <= 1 {'),
+    ('a pane\'s root listed without tree data loses its link', 'update_links', 'let cut = root & scope.is_root_tree;', 'let cut = root;'),
+    ('a tree moved to another graft keeps its old link', 'update_links', 'under(listed_id(state, batch, scope, notes, i), 0)', 'was'),
+    ('256 nodes are too many', 'update_rows', 'const MOST_NODES: usize = 256;', 'const MOST_NODES: usize = 255;'),
+    ('relinked leaves out a change to no parent', 'update_reports', 'return was.linked != 0;', 'return false;'),
+    ('the lists in descending order', 'update_reports',
+     '''if has_bit(notes[start + i], weight) {
+            let x = state_array::id_at(state, i);''',
      '''let o = n - 1 - i;
-        if has_bit(weight, flags[o]) & has_room(to, changes.len()) {
-            let x = tree::id_at(trees, nodes, o);'''),
-    ('the focus passes through one graft only', 'focus', 'let mut left = m;', 'let mut left = 1usize;'),
-    ('the focus before is read after the batch', 'calls/parts',
-     'let focus_before = focus_in(trees, nodes, rows, table, n, m, host_focused);',
-     'let focus_before = focus_in(next_trees, next_nodes, next_rows, next_table, count, tree_count, host_focused);'),
-    ('an old focus that was updated is an extra id', 'calls/parts',
-     'extra(moved, focus_before, trees, nodes, n, before, 3)', 'extra(moved, focus_before, trees, nodes, n, before, 1)'),
-    ('a batch sets the host flag', 'calls/in_place', 'host_focused,\n        added: l.added,', 'host_focused: 1,\n        added: l.added,'),
-    ('the added ids are written before 21', 'calls/parts',
-     '        return Lists {\n            fit: false,',
-     '        let partly = reports::write_list(after, count, 1, next_trees, next_nodes, 0, changes);\n        return Lists {\n            fit: false,'),
-    ('21 hands back the blank state', 'calls/in_place', 'return refused(21, count, tree_count, host_focused);', 'return refused(21, 0, 0, 0);'),
+        if has_bit(notes[start + o], weight) {
+            let x = state_array::id_at(state, o);'''),
+    ('the focus passes through one graft only', 'state_focus', 'let mut left = state_array::trees(state);', 'let mut left = 1usize;'),
+    ('the focus before is read after the batch', 'update_reports', 'let before = state_focus::focus(state);', 'let before = state_focus::focus(next);'),
+    ('an old focus that was updated is an extra id', 'update_reports',
+     'if is_marked(next, notes, CHANGED, UPDATED, x) | is_marked(state, notes, GOES, REMOVED, x) {', 'if is_marked(state, notes, GOES, REMOVED, x) {'),
+    ('a batch sets the host flag', 'update_writing', 'next[state_array::HOST] = host;', 'next[state_array::HOST] = 1;'),
+    ('bytes of a label that is cut are left', 'state_array', 'low_bytes(word_at(state, LABEL + k, i), length - from)', 'word_at(state, LABEL + k, i)'),
+    ('the added ids are written before 21', 'update_reports', '    if !fit {\n', '    if !fit {\n        if 1 < changes.len() {\n            changes[0] = 0;\n        }\n'),
+    ('21 hands back the blank state', 'cartgravel', '        return refused(21);', '        clear(state);\n        return refused(21);'),
+    ('a refused start leaves what it made', 'cartgravel', '        clear(state);\n        return refused(refusal.number);', '        return refused(refusal.number);'),
 ]
 
 # Reaches the library's functions, so that they are compiled.
 PROGRAM = '''fn main() {
     let b = [0u8; 3];
     let mut lent = [0u64; 9];
-    let mut trees = [0u32; 320];
-    let mut nodes = [0u64; 320];
-    let mut parents = [0u32; 320];
-    let mut rows = [0u64; 2880];
-    let mut children = [0u64; 512];
-    let mut texts = [0u8; 10880];
-    let mut floats = [0.0f64; 3200];
-    let mut table = [0u64; 160];
-    let a = consumer::cartgravel_start_columns(&b, 1, &mut trees, &mut nodes, &mut parents, &mut rows, &mut children, &mut texts, &mut floats, &mut table);
-    let d = consumer::cartgravel_update_columns(&mut trees, &mut nodes, &mut parents, &mut rows, &mut children, &mut texts, &mut floats, &mut table, 0, 0, 0, &b, &mut lent);
-    let e = consumer::cartgravel_host_focus_columns(&trees, &nodes, &parents, &rows, &children, &texts, &floats, &table, 0, 0, 0, 1);
+    let mut state = [0u64; 9640];
+    let a = cartgravel::cartgravel_start(&mut state, &b, 1);
+    let d = cartgravel::cartgravel_update(&mut state, &b, &mut lent);
+    let e = cartgravel::cartgravel_host_focus(&mut state, 1);
     io::print_decimal(1, (a.number + d.number + e.number) as u64);
 }
 '''
 # In a build without proofs slices and replies are behind pointers.
 BOUNDARY = '''#include "cartgravel.h"
 struct slice { const void *at; size_t length; };
-void unproved_start(cartgravel_reply *, const struct slice *, uint32_t, uint32_t *, uint64_t *, uint32_t *, uint64_t *, uint64_t *, uint8_t *, double *, uint64_t *);
-void unproved_update(cartgravel_reply *, uint32_t *, uint64_t *, uint32_t *, uint64_t *, uint64_t *, uint8_t *, double *, uint64_t *, uint16_t, uint16_t, uint8_t, const struct slice *, const struct slice *);
-void unproved_host_focus(cartgravel_reply *, const uint32_t *, const uint64_t *, const uint32_t *, const uint64_t *, const uint64_t *, const uint8_t *, const double *, const uint64_t *, uint16_t, uint16_t, uint8_t, uint32_t);
-cartgravel_reply cartgravel_start_columns(
-    const uint8_t *batch, size_t length, uint32_t host_focused, uint32_t *trees, uint64_t *nodes, uint32_t *parents, uint64_t *rows, uint64_t *children, uint8_t *texts, double *floats, uint64_t *table) {
+void unproved_start(cartgravel_reply *, cartgravel_state *, const struct slice *, uint32_t);
+void unproved_update(cartgravel_reply *, cartgravel_state *, const struct slice *, const struct slice *);
+void unproved_host_focus(cartgravel_reply *, cartgravel_state *, uint32_t);
+cartgravel_reply cartgravel_start(cartgravel_state *state, const uint8_t *batch, size_t length, uint32_t host_focused) {
     cartgravel_reply reply;
     const struct slice record = {batch, length};
-    unproved_start(&reply, &record, host_focused, trees, nodes, parents, rows, children, texts, floats, table);
+    unproved_start(&reply, state, &record, host_focused);
     return reply;
 }
-cartgravel_reply cartgravel_update_columns(
-    uint32_t *trees, uint64_t *nodes, uint32_t *parents, uint64_t *rows, uint64_t *children, uint8_t *texts, double *floats, uint64_t *table,
-    uint16_t count, uint16_t tree_count, uint8_t host_focused, const uint8_t *batch, size_t length, uint64_t *changes, size_t room) {
+cartgravel_reply cartgravel_update(cartgravel_state *state, const uint8_t *batch, size_t length, uint64_t *changes, size_t room) {
     cartgravel_reply reply;
     const struct slice record = {batch, length}, lent = {changes, room};
-    unproved_update(&reply, trees, nodes, parents, rows, children, texts, floats, table, count, tree_count, host_focused, &record, &lent);
+    unproved_update(&reply, state, &record, &lent);
     return reply;
 }
-cartgravel_reply cartgravel_host_focus_columns(
-    const uint32_t *trees, const uint64_t *nodes, const uint32_t *parents, const uint64_t *rows, const uint64_t *children, const uint8_t *texts, const double *floats, const uint64_t *table,
-    uint16_t count, uint16_t tree_count, uint8_t was_focused, uint32_t host_focused) {
+cartgravel_reply cartgravel_host_focus(cartgravel_state *state, uint32_t host_focused) {
     cartgravel_reply reply;
-    unproved_host_focus(&reply, trees, nodes, parents, rows, children, texts, floats, table, count, tree_count, was_focused, host_focused);
+    unproved_host_focus(&reply, state, host_focused);
     return reply;
 }
 '''
@@ -148,7 +128,7 @@ def copy_sources(folder, change):
     """The crates without contracts, with the change; answers the compiler's words that name them."""
     deps = dict(re.findall(r'^(\w+): *(.*)$', read(f'{REPOSITORY}/crates.txt'), re.M))
     words = []
-    for crate in deps['consumer'].split() + ['consumer']:
+    for crate in deps['cartgravel'].split() + ['cartgravel']:
         source = f'{REPOSITORY}/crates/{crate}/src'
         if os.path.getsize(f'{source}/lib.rt') < 3:
             continue  # definitions alone
@@ -164,7 +144,7 @@ def copy_sources(folder, change):
 
 
 def build(folder, change):
-    """Writes folder/libconsumer.a."""
+    """Writes folder/libcartgravel.a."""
     kit = os.path.dirname(os.path.dirname(subprocess.run(['rt', 'doc'], capture_output=True, text=True, check=True).stdout.strip()))
     on = f'{kit}/on/x86_64'
     for sub in ('program', 'tools/bin', 'saved'):
@@ -182,13 +162,13 @@ def build(folder, change):
         sys.exit(said.stdout + said.stderr)
     clang = f'{on}/toolchain/bin/clang'
     subprocess.run([clang, '-S', '-emit-llvm', '-x', 'ir', f'{folder}/saved/module.bc', '-o', f'{folder}/library.ll', '-O0', '-Xclang', '-disable-llvm-passes'], check=True, stderr=subprocess.DEVNULL)
-    text = re.sub(r'define internal ([^\n]*@"consumer::cartgravel_\w+_columns")', r'define \1', read(f'{folder}/library.ll'))
+    text = re.sub(r'define internal ([^\n]*@"cartgravel::cartgravel_\w+")', r'define \1', read(f'{folder}/library.ll'))
     text = re.sub(r'define ([^\n]*@main\()', r'define internal \1', text)
-    write(f'{folder}/library.ll', re.sub(r'@"consumer::cartgravel_(\w+)_columns"', r'@unproved_\1', text))
+    write(f'{folder}/library.ll', re.sub(r'@"cartgravel::cartgravel_(\w+)"', r'@unproved_\1', text))
     subprocess.run([clang, '--target=x86_64-unknown-linux-gnu', '-march=x86-64', '-c', '-x', 'ir', f'{folder}/library.ll', '-o', f'{folder}/library.o', '-fPIC', '-O3'], check=True)
     write(f'{folder}/boundary.c', BOUNDARY)
     subprocess.run(['cc', '-O2', '-fPIC', '-c', f'{folder}/boundary.c', '-I', f'{REPOSITORY}/include', '-o', f'{folder}/boundary.o'], check=True)
-    subprocess.run([f'{on}/toolchain/bin/llvm-ar', 'rcs', f'{folder}/libconsumer.a', f'{folder}/library.o', f'{folder}/boundary.o'], check=True)
+    subprocess.run([f'{on}/toolchain/bin/llvm-ar', 'rcs', f'{folder}/libcartgravel.a', f'{folder}/library.o', f'{folder}/boundary.o'], check=True)
 
 
 # ## The runs
@@ -210,7 +190,7 @@ def tried(change, archive, environment, options):
     """Builds the library with a change and answers what the two runs noticed."""
     with tempfile.TemporaryDirectory() as folder:
         build(folder, change)
-        shutil.copy(f'{folder}/libconsumer.a', archive)
+        shutil.copy(f'{folder}/libcartgravel.a', archive)
     subprocess.run(['cargo', 'build', '--release', '--offline', '--quiet', '-p', 'driver'], cwd=HERE, env=environment, check=True)
     driver = os.path.join(environment['CARGO_TARGET_DIR'], 'release', 'driver')
     made = noticed(driver, ['--batches', str(options.batches), '--seed', str(options.seed)], options.seconds)

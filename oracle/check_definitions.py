@@ -107,7 +107,7 @@ use Rattle.ids.specs.declared.FullNodeId.{FullNodeId}
 use Rattle.geometry.specs.declared.Rect.{Rect}
 use Rattle.geometry.specs.declared.Affine.{Affine}
 use Rattle.record.specs.Batch.{NodeData, Listed, Batch}
-use Rattle.tree.specs.State.{ParentAndIndex, NodeState, Subtree, TreeEntry, Forest, State}
+use Rattle.state.specs.State.{ParentAndIndex, NodeState, Subtree, TreeEntry, Forest, State}
 use Rattle.update.specs.Reports.{Changes, Lengths}
 use Rattle.update.specs.Calls.{Answer}
 
@@ -229,7 +229,7 @@ def opened(repository):
 
 def body_field(repository):
     """The field that holds a node's data, in `NodeState` and `Listed`."""
-    text = open(os.path.join(repository, 'crates', 'tree', 'specs', 'State.antt')).read()
+    text = open(os.path.join(repository, 'crates', 'state', 'specs', 'State.antt')).read()
     return re.search(r'pub (\S+) : NodeData', text).group(1)
 
 
@@ -238,7 +238,7 @@ HEAD = ['-- Calls and their answers, made by the driver.',
         'use mathlib.Core.List.{List, [], _∷_}',
         'use mathlib.Core.Option.{Option, none, some}',
         'use mathlib.Core.Path.{_≡_, refl}',
-        'use Rattle.tree.specs.State.{State}',
+        'use Rattle.state.specs.State.{State}',
         'use Rattle.update.specs.Calls.{Answer}']
 
 

@@ -8,7 +8,7 @@ have the calls of number 20, and for the rest. Every call that it prints is take
 as a digest; crates/replay/src/frame.rt says how a call is laid out. The expected output is counted from the crate's answers; the program is not
 run. The same seed gives the same files. The script stops if a number from 0 to 21 has fewer than 20 calls.
 """
-import argparse, collections, ctypes, json, os, struct, subprocess, sys
+import argparse, collections, json, os, struct, subprocess, sys
 
 HERE = os.path.dirname(os.path.abspath(__file__))
 REPOSITORY = os.path.dirname(HERE)
@@ -17,11 +17,9 @@ SOURCE = 'ACCESSKIT_CONSUMER_SRC'
 
 # ## Records and states
 
-# The library's memory of a state.
-class State(ctypes.Structure):
-    _fields_ = [('rows', ctypes.c_uint64 * 2880), ('nodes', ctypes.c_uint64 * 320), ('children', ctypes.c_uint64 * 512), ('table', ctypes.c_uint64 * 160),
-                ('floats', ctypes.c_uint64 * 3200), ('trees', ctypes.c_uint32 * 320), ('parents', ctypes.c_uint32 * 320), ('count', ctypes.c_uint16),
-                ('tree_count', ctypes.c_uint16), ('texts', ctypes.c_uint8 * 10880), ('host_focused', ctypes.c_uint8)]
+# The library's memory of a state: state_array/specs/Layout.
+WORDS, TREES, SLOTS = 9640, 32, 320
+TABLE, NODES, CHILDREN = 8, 168, 9128
 
 
 def encode(b):
@@ -41,24 +39,21 @@ def encode(b):
 
 
 def in_memory(s):
-    t, entry = State(), 0
+    t, first = [0] * WORDS, 0
     for i, x in enumerate(s['nodes']):
-        d = x['data']
-        t.trees[i], t.nodes[i] = x['id']
-        if x['link'] is not None:
-            (t.parents[i], parent), place = x['link']
-            t.rows[9 * i:9 * i + 3] = [parent, place, 1]
-        t.rows[9 * i + 3:9 * i + 9] = [*d['graft'], d['flags'], entry, len(d['children']), d['active']]
-        t.children[entry:entry + len(d['children'])] = d['children']
-        entry += len(d['children'])
-        t.texts[34 * i:34 * i + 2] = [d['role'], len(d['label'])]
-        kept = d['label'][:32]
-        t.texts[34 * i + 2:34 * i + 2 + len(kept)] = kept
-        t.floats[10 * i:10 * i + 10] = d['bounds'] + d['transform']
+        d, ((tree, parent), place) = x['data'], x['link'] or ((0, 0), 0)
+        label = [int.from_bytes(bytes(d['label'][8 * k:8 * k + 8]), 'little') for k in range(4)]
+        row = [*x['id'], tree, parent, place, int(x['link'] is not None), *d['graft'], d['flags'], first, len(d['children']), d['active'], d['role'], len(d['label'])]
+        for f, word in enumerate(row + label + d['bounds'] + d['transform']):
+            t[NODES + SLOTS * f + i] = word
+        t[CHILDREN + first:CHILDREN + first + len(d['children'])] = d['children']
+        first += len(d['children'])
     for k, x in enumerate(s['trees']):
-        t.table[5 * k:5 * k + 5] = [*x['id'], *(x['at'] or [0, 0]), int(x['at'] is not None)]
-    t.count, t.tree_count, t.host_focused = len(s['nodes']), len(s['trees']), int(s['host'])
+        for j, word in enumerate([*x['id'], *(x['at'] or [0, 0]), int(x['at'] is not None)]):
+            t[TABLE + TREES * j + k] = word
+    t[:3] = [len(s['nodes']), len(s['trees']), int(s['host'])]
     return t
+
 
 OVERFLOWS = 24
 KINDS = {'start': 0, 'update': 1, 'host': 2}
@@ -70,10 +65,9 @@ WORD = 1 << 64
 
 def digest(t):
     d = 0xcbf29ce484222325
-    for column in (t.rows, t.nodes, t.children, t.table, t.floats, t.trees, t.parents, [t.count, t.tree_count], t.texts, [t.host_focused]):
-        for number in column:
-            d = (d ^ number) * 0x100000001b3 % WORD
-            d ^= d >> 32
+    for word in t:
+        d = (d ^ word) * 0x100000001b3 % WORD
+        d ^= d >> 32
     return d
 
 
@@ -94,7 +88,7 @@ def elements(j):
 def frame(j, left):
     """The bytes of a call, `left` being the state that the call before left."""
     call, filled = j['call'], elements(j)
-    state = b'' if j['before'] in (None, left) else bytes(in_memory(j['before']))
+    state = b'' if j['before'] in (None, left) else struct.pack(f'<{WORDS}Q', *in_memory(j['before']))
     after = digest(in_memory(j['after'])) if j['number'] == 0 else 0
     record = b'' if call['kind'] == 'host' else encode(call['batch'])
     head = struct.pack('<6H', KINDS[call['kind']], int(call.get('host', False)), int(state != b''), j['number'], len(record), len(j['slice']))

@@ -100,16 +100,16 @@ static void print_id(cartgravel_id id) {
 }
 
 // Prints what a call answered and, if it was accepted, what it changed.
-static void print_answer(const char *what, uint32_t number, const cartgravel_report *report, const uint64_t *changes) {
-    printf("%s: %" PRIu32 ", %s\n", what, number, cartgravel_words(number));
-    if (number != CARTGRAVEL_ACCEPTED) return;
-    changes = print_list("added", changes, report->added);
-    changes = print_list("updated", changes, report->updated);
-    changes = print_list("removed", changes, report->removed);
-    print_list("relinked", changes, report->relinked);
+static void print_reply(const char *what, const cartgravel_reply *reply, const uint64_t *changes) {
+    printf("%s: %" PRIu32 ", %s\n", what, reply->number, cartgravel_words(reply->number));
+    if (reply->number != CARTGRAVEL_ACCEPTED) return;
+    changes = print_list("added", changes, reply->lengths.added);
+    changes = print_list("updated", changes, reply->lengths.updated);
+    changes = print_list("removed", changes, reply->lengths.removed);
+    print_list("relinked", changes, reply->lengths.relinked);
     printf("  focus");
-    print_id(report->focus_before);
-    print_id(report->focus_after);
+    print_id(reply->report.focus_before);
+    print_id(reply->report.focus_after);
     printf("\n");
 }
 
@@ -117,19 +117,17 @@ static void print_answer(const char *what, uint32_t number, const cartgravel_rep
 static void send(const char *what, cartgravel_state *state, const batch *b) {
     uint8_t record[CARTGRAVEL_RECORD_BYTES];
     uint64_t changes[CARTGRAVEL_CHANGES];
-    cartgravel_report report;
     const size_t length = encode(record, b);
-    const uint32_t number = cartgravel_update(state, record, length, changes, CARTGRAVEL_CHANGES, &report);
-    print_answer(what, number, &report, changes);
+    const cartgravel_reply reply = cartgravel_update(state, record, length, changes, CARTGRAVEL_CHANGES);
+    print_reply(what, &reply, changes);
 }
 
 // Starts a state and prints the answer.
 static void start(const char *what, cartgravel_state *state, const batch *b) {
     uint8_t record[CARTGRAVEL_RECORD_BYTES];
-    cartgravel_report report;
     const size_t length = encode(record, b);
-    const uint32_t number = cartgravel_start(state, record, length, true, &report);
-    print_answer(what, number, &report, NULL);
+    const cartgravel_reply reply = cartgravel_start(state, record, length, 1);
+    print_reply(what, &reply, NULL);
 }
 
 int main(void) {

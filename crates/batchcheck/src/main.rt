@@ -1,26 +1,18 @@
 // Reads texts of calls and says, call by call, which batch is taken and which is refused, and why: docs/BATCHCHECK.md. What decides that is the
-// library `calls`. Nothing of this program is proved but that it is safe and ends.
-mod cursor;
-mod decimal;
-mod draft;
-mod draw;
-mod faults;
-mod lines;
-mod malformed;
-mod node;
-mod outcome;
+// library `cartgravel`. Nothing of this program is proved but that it is safe and ends.
 mod perform;
-mod print;
-mod roles;
 mod say;
-mod script;
-mod why;
 
+use batchcheck_calls::script;
+use batchcheck_calls::script::Call;
+use batchcheck_record::draft;
+use batchcheck_text::lines;
+use batchcheck_text::lines::Input;
+use batchcheck_text::print;
+use batchcheck_text::print::put;
+use batchcheck_text::roles;
 use libc::STDIN_FILENO;
-use lines::Input;
 use perform::Show;
-use print::put;
-use script::Call;
 
 // What the arguments say so far. An option holds for the files after it.
 struct Options {
@@ -75,7 +67,7 @@ fn with_argument(options: Options, i: usize) -> Options {
     let n = os::arg(i, &mut text);
     let word = &text[..n];
     let mut o = options;
-    if wire::u8_at(word, 0) != b'-' {
+    if record_wire::u8_at(word, 0) != b'-' {
         o.late = false;
         o.files = std::num::wrapping_add_usize(options.files, 1);
         return o;
@@ -149,7 +141,8 @@ fn run(fd: i32, show: Show) {
     let mut roles = roles::known();
     let mut input = lines::of(fd);
     let mut call = script::blank();
-    let mut s = tree::blank();
+    let mut draft = draft::blank();
+    let mut state = state_array::blank();
     let mut turns = u64::MAX;
     while 0 < turns {
         input = lines::next(input, &mut chunk, &mut text);
@@ -158,9 +151,9 @@ fn run(fd: i32, show: Show) {
             return;
         }
         let line = lines::line(&text, input);
-        call = script::with_line(call, line, input.number, input.cut, &mut roles);
+        call = script::with_line(call, &mut draft, line, input.number, input.cut, &mut roles);
         if call.stage == script::DUE {
-            s = perform::perform(s, call, line, show, &roles);
+            perform::perform(&mut state, call, &draft, line, show, &roles);
             call = script::finished(call);
         }
         turns -= 1;

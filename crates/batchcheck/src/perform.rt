@@ -1,12 +1,14 @@
 // Runs the calls through the library, and has each printed.
-use crate::cursor;
-use crate::faults;
-use crate::lines;
 use crate::say;
 use crate::say::Seen;
-use crate::script;
-use crate::script::Call;
-use tree::TreeState;
+use batchcheck_calls::script;
+use batchcheck_calls::script::Call;
+use batchcheck_record::draft;
+use batchcheck_record::draft::Draft;
+use batchcheck_text::cursor;
+use batchcheck_text::faults;
+use batchcheck_text::lines;
+use state_array::State;
 
 // What is printed beside the calls' answers, and how.
 pub(crate) struct Show {
@@ -20,21 +22,22 @@ struct RecordLength {
     good: bool,
 }
 
-// Runs a call that is due on a state; the state that it leaves.
+// Runs a call that is due on a state; its record stands in the draft, unless it is raw.
 pub(crate) fn perform(
-    s: TreeState,
+    state: &mut State,
     p: Call,
+    draft: &Draft,
     line: &[u8],
     show: Show,
     roles: &[u8; 4096],
-) -> TreeState {
+) {
     let mut bytes = [0u8; 12489];
-    let l = loaded(p, line, &mut bytes);
+    let l = loaded(p, draft, line, &mut bytes);
     if !l.good {
         let name = p.name;
         faults::tell(p.line, line, cursor::failed(name, faults::FILE));
         script::skipped(p);
-        return s;
+        return;
     }
     let seen = Seen {
         kind: p.kind,
@@ -43,11 +46,11 @@ pub(crate) fn perform(
         quiet: show.quiet,
         tree: show.tree,
     };
-    answered(seen, s, record(&bytes, l), p.focused, p.room, roles)
+    answer(seen, state, record(&bytes, l), p.focused, p.room, roles);
 }
 
 // Puts the call's record into `bytes`.
-fn loaded(p: Call, line: &[u8], bytes: &mut [u8; 12489]) -> RecordLength {
+fn loaded(p: Call, draft: &Draft, line: &[u8], bytes: &mut [u8; 12489]) -> RecordLength {
     if p.kind == script::HOST {
         return RecordLength {
             length: 0,
@@ -58,9 +61,8 @@ fn loaded(p: Call, line: &[u8], bytes: &mut [u8; 12489]) -> RecordLength {
         let name = p.name;
         return read_raw(cursor::word(line, name), bytes);
     }
-    let d = p.draft;
     RecordLength {
-        length: d.write(bytes),
+        length: draft::write(draft, bytes),
         good: true,
     }
 }
@@ -84,53 +86,74 @@ fn record(bytes: &[u8; 12489], l: RecordLength) -> &[u8] {
     lines::part(bytes, l.length)
 }
 
-// Makes the call and prints it; the state that it leaves.
-fn answered(
+// Makes the call and prints it.
+fn answer<'a>(
     seen: Seen,
-    s: TreeState,
-    record: &[u8],
+    state: &mut State,
+    batch: &'a [u8],
     focused: bool,
     room: usize,
-    roles: &[u8; 4096],
-) -> TreeState {
-    let kind = seen.kind;
+    roles: &'a [u8; 4096],
+) {
     let mut changes = [0u64; 1024];
-    if kind == script::BATCH {
-        return updated(seen, s, record, &mut changes, room, roles);
+    let kind = seen.kind;
+    match kind {
+        script::START => start(seen, state, batch, host_flag(focused), roles),
+        script::BATCH => update(seen, state, batch, &mut changes, room, roles),
+        _ => host_focus(seen, state, host_flag(focused), roles),
     }
-    let a = if kind == script::START {
-        calls::start(record, focused)
-    } else {
-        calls::host_focus(s, focused)
-    };
-    say::tell(seen, s, a, record, &[], roles);
-    a.state
 }
 
-// The same for a batch, with `room` elements lent for the lists.
-fn updated(
+// Whether the host has the focus, as the library takes it.
+fn host_flag(focused: bool) -> u32 {
+    if focused { 1 } else { 0 }
+}
+
+// A start.
+fn start<'a>(
     seen: Seen,
-    s: TreeState,
-    record: &[u8],
+    state: &mut State,
+    batch: &'a [u8],
+    host_focused: u32,
+    roles: &'a [u8; 4096],
+) {
+    let before = *state;
+    let reply = cartgravel::cartgravel_start(state, batch, host_focused);
+    say::tell(seen, &before, state, reply, batch, &[], roles);
+}
+
+// A host focus change.
+fn host_focus(seen: Seen, state: &mut State, host_focused: u32, roles: &[u8; 4096]) {
+    let before = *state;
+    let reply = cartgravel::cartgravel_host_focus(state, host_focused);
+    say::tell(seen, &before, state, reply, &[], &[], roles);
+}
+
+// A batch, with `room` elements lent for the lists.
+fn update<'a>(
+    seen: Seen,
+    state: &mut State,
+    batch: &'a [u8],
     changes: &mut [u64],
     room: usize,
-    roles: &[u8; 4096],
-) -> TreeState {
+    roles: &'a [u8; 4096],
+) {
     if room < changes.len() {
-        return lent(seen, s, record, &mut changes[0..room], roles);
+        lent(seen, state, batch, &mut changes[0..room], roles);
+        return;
     }
-    lent(seen, s, record, changes, roles)
+    lent(seen, state, batch, changes, roles);
 }
 
 // The same with all elements lent.
-fn lent(
+fn lent<'a>(
     seen: Seen,
-    s: TreeState,
-    record: &[u8],
+    state: &mut State,
+    batch: &'a [u8],
     changes: &mut [u64],
-    roles: &[u8; 4096],
-) -> TreeState {
-    let a = calls::update(s, record, changes);
-    say::tell(seen, s, a, record, changes, roles);
-    a.state
+    roles: &'a [u8; 4096],
+) {
+    let before = *state;
+    let reply = cartgravel::cartgravel_update(state, batch, changes);
+    say::tell(seen, &before, state, reply, batch, changes, roles);
 }

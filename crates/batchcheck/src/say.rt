@@ -1,18 +1,22 @@
 // What is said of a call: a block, or one line.
-use crate::draw;
-use crate::print::count;
-use crate::print::heard;
-use crate::print::node;
-use crate::print::number;
-use crate::print::put;
-use crate::print::sizes;
-use crate::print::tree_name;
-use crate::why;
-use calls::Answer;
+ghost use Prim.Native.Nat.{_<_};
+use batchcheck_nodes::draw;
+use batchcheck_nodes::print::heard;
+use batchcheck_nodes::print::node;
+use batchcheck_nodes::print::sizes;
+use batchcheck_nodes::print::tree_name;
+use batchcheck_reasons::why;
+use batchcheck_text::print::count;
+use batchcheck_text::print::number;
+use batchcheck_text::print::put;
+use cartgravel::Lengths;
+use cartgravel::OptionalId;
+use cartgravel::Reply;
 use ids::FullNodeId;
 use ids::NodeId;
 use ids::TreeIndex;
-use tree::TreeState;
+use state_array::State;
+use state_focus::FoundNode;
 
 // A call and how it is told. `kind`: 0 start, 1 batch, 2 host focus change. `line`: where the call begins. `call`: its place in the file, from 1.
 pub(crate) struct Seen {
@@ -23,15 +27,16 @@ pub(crate) struct Seen {
     pub(crate) tree: bool,
 }
 
-// Prints a call's block. `before` is the state before the call, `bytes` the record handed in (empty for a host focus change), `changes` the
-// lent slice afterwards, `roles` 16 bytes a role number, zeros after its name.
-pub(crate) fn tell(
+// Prints a call's block. `before` and `now` are the state before and after the call, `batch` the record handed in (empty for a host focus
+// change), `changes` the lent slice afterwards, `roles` 16 bytes a role number, zeros after its name.
+pub(crate) fn tell<'a>(
     seen: Seen,
-    before: TreeState,
-    a: Answer,
-    bytes: &[u8],
-    changes: &[u64],
-    roles: &[u8; 4096],
+    before: &'a State,
+    now: &'a State,
+    r: Reply,
+    batch: &'a [u8],
+    changes: &'a [u64],
+    roles: &'a [u8; 4096],
 ) {
     put(b"call ");
     number(seen.call);
@@ -39,46 +44,61 @@ pub(crate) fn tell(
     number(seen.line);
     put(b": ");
     if seen.quiet {
-        one_line(seen.kind, a, roles);
+        one_line(seen.kind, now, r, roles);
     } else {
-        block(seen.kind, before, a, bytes, changes, roles);
+        block(seen.kind, before, now, r, batch, changes, roles);
     }
     if seen.tree {
-        draw::draw(a.state, roles);
+        draw::draw(now, roles);
     }
+}
+
+// The number of document 01's table.
+fn row_of(r: Reply) -> u8 {
+    (r.number % 256) as u8
+}
+
+// An id, or none.
+fn found(x: OptionalId) -> FoundNode {
+    if x.present == 0 {
+        return FoundNode::Nothing;
+    }
+    FoundNode::At(FullNodeId {
+        tree: TreeIndex(x.tree),
+        node: NodeId(x.node),
+    })
 }
 
 // ## One line
 
 // The call in one line.
-fn one_line(kind: u8, a: Answer, roles: &[u8; 4096]) {
-    if a.number != 0 {
+fn one_line<'a>(kind: u8, now: &'a State, r: Reply, roles: &'a [u8; 4096]) {
+    if r.number != 0 {
         put(b"refused ");
-        why::row(a.number);
+        why::row(row_of(r));
         put(b"\n");
         return;
     }
     put(b"taken");
     if kind == 0 {
         put(b", ");
-        count(a.state.count as u64, b" node", b" nodes");
+        count(state_array::slots(now) as u64, b" node", b" nodes");
     }
     if kind == 1 {
-        lengths(a);
+        lengths(r.lengths);
     }
     put(b", heard ");
-    let after = a.focus_after;
-    heard(a.state, after, roles);
+    heard(now, found(r.report.focus_after), roles);
     put(b"\n");
 }
 
 // How many nodes each list has.
-fn lengths(a: Answer) {
-    length(a.added, b" added");
-    length(a.updated, b" updated");
-    length(a.removed, b" removed");
-    length(a.relinked, b" relinked");
-    if nothing_changed(a) {
+fn lengths(l: Lengths) {
+    length(l.added, b" added");
+    length(l.updated, b" updated");
+    length(l.removed, b" removed");
+    length(l.relinked, b" relinked");
+    if nothing_changed(l) {
         put(b", nothing changed");
     }
 }
@@ -94,24 +114,25 @@ fn length(n: usize, text: &[u8]) {
 }
 
 // Whether all four lists are empty.
-fn nothing_changed(a: Answer) -> bool {
-    (a.added == 0) & (a.updated == 0) & (a.removed == 0) & (a.relinked == 0)
+fn nothing_changed(l: Lengths) -> bool {
+    (l.added == 0) & (l.updated == 0) & (l.removed == 0) & (l.relinked == 0)
 }
 
 // ## A block
 
 // The call in a block of lines.
-fn block(
+fn block<'a>(
     kind: u8,
-    before: TreeState,
-    a: Answer,
-    bytes: &[u8],
-    changes: &[u64],
-    roles: &[u8; 4096],
+    before: &'a State,
+    now: &'a State,
+    r: Reply,
+    batch: &'a [u8],
+    changes: &'a [u64],
+    roles: &'a [u8; 4096],
 ) {
-    heading(kind, a.number, a.state, bytes);
-    if a.number != 0 {
-        refused(kind, before, a, bytes, changes.len());
+    heading(kind, r.number, now, batch);
+    if r.number != 0 {
+        refused(kind, before, now, row_of(r), batch, changes.len());
         return;
     }
     put(b"  taken: ");
@@ -119,47 +140,44 @@ fn block(
     put(b"\n");
     match kind {
         0 => {}
-        1 => changed(before, a, changes, roles),
-        _ => host(a.state.host_focused),
+        1 => changed(before, now, r.lengths, changes, roles),
+        _ => host(state_array::host(now)),
     }
     put(b"  heard before: ");
-    let focus_before = a.focus_before;
-    heard(before, focus_before, roles);
+    heard(before, found(r.report.focus_before), roles);
     put(b"\n  heard now:    ");
-    let focus_after = a.focus_after;
-    heard(a.state, focus_after, roles);
+    heard(now, found(r.report.focus_after), roles);
     put(b"\n  now ");
-    sizes(a.state);
+    sizes(now);
 }
 
 // What kind of call it is and, unless its bytes are no record, for which tree.
-fn heading(kind: u8, answered: u8, now: TreeState, bytes: &[u8]) {
+fn heading<'a>(kind: u8, answered: u32, now: &'a State, batch: &'a [u8]) {
     match kind {
         0 => put(b"start"),
         1 => put(b"batch"),
         _ => put(b"host focus change"),
     }
     if (kind < 2) & (answered != 2) {
-        for_tree(now, bytes);
+        for_tree(now, batch);
     }
     put(b"\n");
 }
 
 // The tree that a record is for; of a pane also its number in the state that stands.
-fn for_tree(now: TreeState, bytes: &[u8]) {
+fn for_tree<'a>(now: &'a State, batch: &'a [u8]) {
     put(b" for ");
-    let t = reader::tree_id(bytes);
+    let t = record_reader::tree_id(batch);
     tree_name(t);
-    let m = now.tree_count as usize;
-    let k = lookup::find_tree(&now.table, m, t);
-    if (0 < k) & (k < m) {
+    let k = state_lookup::find_tree(now, t);
+    if (0 < k) & (k < state_array::trees(now)) {
         put(b", number ");
         number(k as u64);
     }
 }
 
 // Whether the host has the focus now.
-fn host(host_focused: u8) {
+fn host(host_focused: u64) {
     if host_focused == 0 {
         put(b"  the host does not have the focus now\n");
         return;
@@ -168,54 +186,77 @@ fn host(host_focused: u8) {
 }
 
 // A refused call: its number, the reason, and the state that stands.
-fn refused(kind: u8, before: TreeState, a: Answer, bytes: &[u8], room: usize) {
+fn refused<'a>(kind: u8, before: &'a State, now: &'a State, n: u8, batch: &'a [u8], room: usize) {
     put(b"  refused: ");
-    why::row(a.number);
+    why::row(n);
     put(b"\n  because  ");
-    why::because(kind, before, a.number, bytes, room);
+    if n == 21 {
+        too_short(before, batch, room);
+    } else {
+        why::because(kind, before, n, batch);
+    }
     if kind == 0 {
         put(b"\n  the state is blank: ");
     } else {
         put(b"\n  the state is as it was: ");
     }
-    sizes(a.state);
+    sizes(now);
+}
+
+// 21: how many elements the lists take, found by running the batch again with the most that a program lends.
+fn too_short<'a>(before: &'a State, batch: &'a [u8], room: usize) {
+    let mut again = *before;
+    let mut lists = [0u64; 2048];
+    let r = cartgravel::cartgravel_update(&mut again, batch, &mut lists);
+    let l = r.lengths;
+    put(b"the lists take ");
+    number(
+        length_of(l.added) + length_of(l.updated) + length_of(l.removed) + length_of(l.relinked),
+    );
+    put(b" elements, two a node, and ");
+    count(room as u64, b" was lent", b" were lent");
+}
+
+// How many elements a list of n nodes takes; it has at most 320.
+fn length_of(n: usize) -> u64
+    ensures { λ r. ⌜ r < 131072 ⌝ }
+{
+    2 * (n as u64 % 65536)
 }
 
 // The four lists. A removed node is shown as it was, the others as they are.
-fn changed(before: TreeState, a: Answer, changes: &[u64], roles: &[u8; 4096]) {
-    if nothing_changed(a) {
+fn changed<'a>(
+    before: &'a State,
+    now: &'a State,
+    l: Lengths,
+    changes: &'a [u64],
+    roles: &'a [u8; 4096],
+) {
+    if nothing_changed(l) {
         put(b"  nothing changed\n");
         return;
     }
-    let now = a.state;
-    let from_updated = list(b"  added    ", now, changes, 0, a.added, roles);
-    let from_removed = list(b"  updated  ", now, changes, from_updated, a.updated, roles);
-    let from_relinked = list(
+    let updated_at = list(b"  added    ", now, changes, 0, l.added, roles);
+    let removed_at = list(b"  updated  ", now, changes, updated_at, l.updated, roles);
+    let relinked_at = list(
         b"  removed  ",
         before,
         changes,
-        from_removed,
-        a.removed,
+        removed_at,
+        l.removed,
         roles,
     );
-    list(
-        b"  relinked ",
-        now,
-        changes,
-        from_relinked,
-        a.relinked,
-        roles,
-    );
+    list(b"  relinked ", now, changes, relinked_at, l.relinked, roles);
 }
 
 // A list of n nodes that starts at a place, each on a line of its own; where it ends.
-fn list(
-    word: &[u8],
-    s: TreeState,
-    changes: &[u64],
+fn list<'a>(
+    word: &'a [u8],
+    state: &'a State,
+    changes: &'a [u64],
     from: usize,
     n: usize,
-    roles: &[u8; 4096],
+    roles: &'a [u8; 4096],
 ) -> usize {
     let mut at = from;
     let mut left = n;
@@ -224,7 +265,7 @@ fn list(
             return at;
         }
         put(word);
-        node(s, listed_id(changes, at), roles);
+        node(state, listed_id(changes, at), roles);
         put(b"\n");
         at = std::num::wrapping_add_usize(at, 2);
         left -= 1;
@@ -235,7 +276,12 @@ fn list(
 // The id whose two numbers stand at a place, zeros past the end.
 fn listed_id(changes: &[u64], at: usize) -> FullNodeId {
     FullNodeId {
-        tree: TreeIndex((words::key_at(changes, at) % 4294967296) as u32),
-        node: NodeId(words::key_at(changes, std::num::wrapping_add_usize(at, 1))),
+        tree: TreeIndex((element(changes, at) % 4294967296) as u32),
+        node: NodeId(element(changes, std::num::wrapping_add_usize(at, 1))),
     }
+}
+
+// Element i, 0 past the last.
+fn element(changes: &[u64], i: usize) -> u64 {
+    if i < changes.len() { changes[i] } else { 0 }
 }

@@ -171,26 +171,27 @@ counted-accepted s b slice s′ q = record {
   removed-old = λ x e. both (sym (has-removed (s .forest) b x) ∙ e) .0;
 }
 
-pub counted-update : (s : State) (bytes slice : List ℕ) → update s bytes slice .number ≡ 0 → Counted (s .forest) (update s bytes slice)
+-- what holds of every accepted answer holds of an update's that is accepted
+pub accepted-update : (s : State) (bytes slice : List ℕ) (P : Answer → Type 0)
+    → ((b : Batch) → P (accepted s (record { forest = outcome (s .forest) b; hostFocused = s .hostFocused }) (changesOf (s .forest) b) slice))
+    → update s bytes slice .number ≡ 0 → P (update s bytes slice)
 unfolding updateBatch judged refused first
-counted-update s bytes slice = go (parse bytes) refl
+accepted-update s bytes slice P holds = go (parse bytes) refl
   where
-    refusal : (c : Bool) → _≡_ {A = ℕ} (if not c then 1 else 2) 0 → Counted (s .forest) (updateOf s slice none)
+    refusal : (c : Bool) → _≡_ {A = ℕ} (if not c then 1 else 2) 0 → P (updateOf s slice none)
     refusal true e = absurd (omega arith)
     refusal false e = absurd (omega arith)
 
-    batch-counted : (b : Batch) (n : ℕ) (a : Answer) → Counted (s .forest) a → judged n s slice a .number ≡ 0 → Counted (s .forest) (judged n s slice a)
-    batch-counted b zero a c e = c
-    batch-counted b (suc n) a c e = absurd (omega arith)
+    judging : (n : ℕ) (a : Answer) → P a → judged n s slice a .number ≡ 0 → P (judged n s slice a)
+    judging zero a p e = p
+    judging (suc n) a p e = absurd (omega arith)
 
-    counted : (o : Option Batch) → updateOf s slice o .number ≡ 0 → Counted (s .forest) (updateOf s slice o)
-    counted none e = refusal (sound (s .forest)) e
-    counted (some b) e =
-        batch-counted b (updateNumber s b slice)
-        (accepted s (record { forest = outcome (s .forest) b; hostFocused = s .hostFocused }) (changesOf (s .forest) b) slice)
-        (counted-accepted s b slice (record { forest = outcome (s .forest) b; hostFocused = s .hostFocused }) refl)
-        e
+    by : (o : Option Batch) → updateOf s slice o .number ≡ 0 → P (updateOf s slice o)
+    by none e = refusal (sound (s .forest)) e
+    by (some b) e = judging (updateNumber s b slice) _ (holds b) e
 
-    go : (o : Option Batch) → parse bytes ≡ o → update s bytes slice .number ≡ 0 → Counted (s .forest) (update s bytes slice)
-    go o e =
-        subst (λ (a : Answer). a .number ≡ 0 → Counted (s .forest) a) (sym (update-is s bytes slice o e)) (counted o)
+    go : (o : Option Batch) → parse bytes ≡ o → update s bytes slice .number ≡ 0 → P (update s bytes slice)
+    go o e = subst (λ (a : Answer). a .number ≡ 0 → P a) (sym (update-is s bytes slice o e)) (by o)
+
+pub counted-update : (s : State) (bytes slice : List ℕ) → update s bytes slice .number ≡ 0 → Counted (s .forest) (update s bytes slice)
+counted-update s bytes slice = accepted-update s bytes slice (Counted (s .forest)) (λ b. counted-accepted s b slice _ refl)

@@ -15,13 +15,13 @@ mod draft;
 
 ghost use Prim.Native.Nat.{_<_, _≤_};
 ghost use lib.ListN.{length};
-use calls::Answer;
+use cartgravel::OptionalId;
+use cartgravel::Reply;
 use draft::Draft;
-use focus::FoundNode;
 use ids::TreeId;
 use libc::STDIN_FILENO;
 use libc::STDOUT_FILENO;
-use tree::TreeState;
+use state_array::State;
 
 // A call, as far as its text is read.
 struct Script {
@@ -88,26 +88,28 @@ fn find(text: &[u8], from: usize, byte: u8, other: u8) -> usize
 
 // A line's calls, of which the last one's answer is written.
 fn all_calls(text: &[u8]) {
-    let mut s = first_state();
+    let mut s = [0u64; state_array::WORDS];
+    put_first(&mut s);
     let mut at: usize = 0;
     loop {
         let mut lists = [99u64; 1024];
         let end = find(text, at, b';', b';');
         let p = read(&text[at..end]);
         if text.len() <= end {
-            tell(call(s, p, &mut lists), &lists);
+            let r = call(&mut s, p, &mut lists);
+            tell(r, &s, &lists);
             return;
         }
         at = end + 1;
-        s = call(s, p, &mut lists).state;
+        call(&mut s, p, &mut lists);
     }
 }
 
 // Document 01's S.
-fn first_state() -> TreeState {
+fn put_first(s: &mut State) {
     let mut lists = [0u64; 1024];
     let p = read(b"! =1 1[2 3] 2 3");
-    call(tree::blank(), p, &mut lists).state
+    call(s, p, &mut lists);
 }
 
 // ## Reading a call
@@ -268,7 +270,7 @@ fn zero(sign: u8) -> u64 {
 // ## Making a call
 
 // What a call on a state answers.
-fn call(s: TreeState, p: Script, lists: &mut [u64; 1024]) -> Answer {
+fn call(s: &mut State, p: Script, lists: &mut [u64; 1024]) -> Reply {
     let mut bytes = [0u8; 12352];
     let d = p.draft;
     let n = std::num::wrapping_add_usize(d.write(&mut bytes), p.more);
@@ -277,60 +279,58 @@ fn call(s: TreeState, p: Script, lists: &mut [u64; 1024]) -> Answer {
 
 // The same with the first n bytes for a record.
 fn call_with(
-    s: TreeState,
+    s: &mut State,
     kind: u8,
     bytes: &[u8; 12352],
     n: usize,
     lists: &mut [u64; 1024],
     room: usize,
-) -> Answer {
+) -> Reply {
     match kind {
-        b'!' => start(bytes, n),
-        b'h' => calls::host_focus(s, false),
-        b'H' => calls::host_focus(s, true),
+        b'!' => start(s, bytes, n),
+        b'h' => cartgravel::cartgravel_host_focus(s, 0),
+        b'H' => cartgravel::cartgravel_host_focus(s, 1),
         _ => update(s, bytes, n, lists, room),
     }
 }
 
 // A start with the first n bytes.
-fn start(bytes: &[u8], n: usize) -> Answer {
+fn start(s: &mut State, bytes: &[u8], n: usize) -> Reply {
     if n <= bytes.len() {
-        return calls::start(&bytes[0..n], true);
+        return cartgravel::cartgravel_start(s, &bytes[0..n], 1);
     }
-    calls::start(bytes, true)
+    cartgravel::cartgravel_start(s, bytes, 1)
 }
 
 // A batch with the first n bytes, and `room` elements for the lists.
-fn update(s: TreeState, bytes: &[u8], n: usize, lists: &mut [u64], room: usize) -> Answer {
+fn update(s: &mut State, bytes: &[u8], n: usize, lists: &mut [u64], room: usize) -> Reply {
     if n <= bytes.len() {
         if room <= lists.len() {
-            return calls::update(s, &bytes[0..n], &mut lists[0..room]);
+            return cartgravel::cartgravel_update(s, &bytes[0..n], &mut lists[0..room]);
         }
     }
-    calls::update(s, bytes, lists)
+    cartgravel::cartgravel_update(s, bytes, lists)
 }
 
 // ## Writing an answer
 
-// An answer, with what was lent for its lists.
-fn tell(a: Answer, lists: &[u64; 1024]) {
+// A reply, with the state and what was lent for its lists.
+fn tell(r: Reply, s: &State, lists: &[u64; 1024]) {
     io::write_all(STDOUT_FILENO, b": ");
-    io::print_decimal(STDOUT_FILENO, a.number as u64);
-    if a.number == 0 {
+    io::print_decimal(STDOUT_FILENO, r.number as u64);
+    if r.number == 0 {
         io::write_all(STDOUT_FILENO, b" nodes ");
-        io::print_decimal(STDOUT_FILENO, a.state.count as u64);
+        io::print_decimal(STDOUT_FILENO, state_array::slots(s) as u64);
     }
-    let from_updated = tell_list(b" added", lists, 0, a.added);
-    let from_removed = tell_list(b" updated", lists, from_updated, a.updated);
-    let from_relinked = tell_list(b" removed", lists, from_removed, a.removed);
-    let end = tell_list(b" relinked", lists, from_relinked, a.relinked);
+    let n = r.lengths;
+    let from_updated = tell_list(b" added", lists, 0, n.added);
+    let from_removed = tell_list(b" updated", lists, from_updated, n.updated);
+    let from_relinked = tell_list(b" removed", lists, from_removed, n.removed);
+    let end = tell_list(b" relinked", lists, from_relinked, n.relinked);
     tell_rest(lists, end);
-    let focus_before = a.focus_before;
-    let focus_after = a.focus_after;
-    tell_both(b" focus", focus_before, focus_after);
-    let extra_before = a.extra_before;
-    let extra_after = a.extra_after;
-    tell_both(b" extra", extra_before, extra_after);
+    let x = r.report;
+    tell_both(b" focus", x.focus_before, x.focus_after);
+    tell_both(b" extra", x.extra_before, x.extra_after);
     io::write_all(STDOUT_FILENO, b"\n");
 }
 
@@ -366,8 +366,8 @@ fn tell_rest(lists: &[u64; 1024], from: usize) {
 }
 
 // Two nodes, unless there is none.
-fn tell_both(words: &[u8], before: FoundNode, after: FoundNode) {
-    if !(is_found(before) | is_found(after)) {
+fn tell_both(words: &[u8], before: OptionalId, after: OptionalId) {
+    if (before.present == 0) & (after.present == 0) {
         return;
     }
     io::write_all(STDOUT_FILENO, words);
@@ -375,20 +375,12 @@ fn tell_both(words: &[u8], before: FoundNode, after: FoundNode) {
     tell_found(after);
 }
 
-fn is_found(f: FoundNode) -> bool {
-    if let FoundNode::Nothing = f {
-        false
-    } else {
-        true
-    }
-}
-
-fn tell_found(f: FoundNode) {
-    let FoundNode::At(x) = f else {
+fn tell_found(x: OptionalId) {
+    if x.present == 0 {
         io::write_all(STDOUT_FILENO, b" none");
         return;
-    };
-    tell_id(x.tree.0 as u64, x.node.0);
+    }
+    tell_id(x.tree as u64, x.node);
 }
 
 fn tell_id(tree: u64, node: u64) {

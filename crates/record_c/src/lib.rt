@@ -7,5 +7,5 @@ ghost use Rattle.record.specs.Parse.{wellFormed};
 pub extern "C" fn record_layout(batch: &[u8]) -> bool
     ensures { λ r. ⌜ r ≡ wellFormed (now (batch .entry)) ⌝ }
 {
-    layout::layout(batch)
+    record_layout::layout(batch)
 }

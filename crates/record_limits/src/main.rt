@@ -122,7 +122,7 @@ fn judge(bytes: &[u8; 12800], n: usize) {
 
 fn first(bytes: &[u8], n: usize) {
     if n <= bytes.len() {
-        say(layout::layout(&bytes[..n]));
+        say(record_layout::layout(&bytes[..n]));
     }
 }
 

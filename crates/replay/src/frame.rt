@@ -13,7 +13,7 @@
 // follow, and in these a zero byte and a byte n stand for n zeros, from n = 128 on for 128 * (n - 127).
 ghost use Prim.Native.Nat.{_<_, _≤_};
 use libc::STDIN_FILENO;
-use tree::TreeState;
+use state_array::State;
 
 // Where a frame's state starts, if it has one, and else its record.
 const HEAD: usize = 84;
@@ -24,7 +24,7 @@ pub(crate) fn read(frame: &mut [u8; 98304]) -> usize {
     if io::read_full(STDIN_FILENO, &mut length) < 2 {
         return 0;
     }
-    let n = wire::u16_at(&length, 0) as usize;
+    let n = record_wire::u16_at(&length, 0) as usize;
     let mut coded = io::large_buffer();
     if io::read_full(STDIN_FILENO, &mut coded[0..n]) < n {
         return 0;
@@ -44,7 +44,7 @@ fn decode(coded: &[u8; 65536], n: usize, frame: &mut [u8; 98304]) -> usize {
             return 0;
         }
         frame[at] = coded[i];
-        at += bytes_for(coded[i], wire::u8_at(coded, i + 1));
+        at += bytes_for(coded[i], record_wire::u8_at(coded, i + 1));
         i += width(coded[i]);
     }
     at
@@ -72,7 +72,7 @@ fn width(byte: u8) -> usize
 pub(crate) fn field(frame: &[u8], at: usize) -> usize
     ensures { λ r. ⌜ r < 65536 ⌝ }
 {
-    wire::u16_at(frame, at) as usize
+    record_wire::u16_at(frame, at) as usize
 }
 
 // Whether a frame of n bytes has all its parts and nothing more.
@@ -82,10 +82,10 @@ pub(crate) fn is_whole(frame: &[u8; 98304], n: usize) -> bool {
 
 // Where its record starts.
 fn record_at(frame: &[u8]) -> usize
-    ensures { λ r. ⌜ r < 70200 ⌝ }
+    ensures { λ r. ⌜ r < 80000 ⌝ }
 {
     if field(frame, 4) == 1 {
-        HEAD + tree::STATE_BYTES
+        HEAD + 8 * state_array::WORDS
     } else {
         HEAD
     }
@@ -118,87 +118,34 @@ pub(crate) fn record(frame: &[u8]) -> &[u8] {
     &frame[from..to]
 }
 
-// The state that a call is handed: the frame's, or the one that the call before left. A start has the blank one.
-pub(crate) fn state_before(frame: &[u8], left: TreeState) -> TreeState {
-    if field(frame, 0) == 0 {
-        return tree::blank();
+// The host flag of a start or a host focus change.
+pub(crate) fn host(frame: &[u8]) -> u32 {
+    record_wire::u16_at(frame, 2) as u32
+}
+
+// The digest that the state is to have afterwards; after a refusal the one that it had before.
+pub(crate) fn digest_after(frame: &[u8], before: u64) -> u64 {
+    if field(frame, 6) == 0 {
+        record_wire::u64_at(frame, 20)
+    } else {
+        before
     }
+}
+
+// The state that a call is handed, where the frame has one, in the place of the one that the call before left.
+pub(crate) fn put_state(frame: &[u8], state: &mut State) {
     if field(frame, 4) == 1 {
-        return state_in(frame);
-    }
-    left
-}
-
-// The state whose bytes follow the head.
-fn state_in(frame: &[u8]) -> TreeState {
-    let mut rows = [0u64; 2880];
-    let mut nodes = [0u64; 320];
-    let mut children = [0u64; 512];
-    let mut table = [0u64; 160];
-    let mut floats = [0.0f64; 3200];
-    let mut trees = [0u32; 320];
-    let mut parents = [0u32; 320];
-    let mut texts = [0u8; 10880];
-    fill_words(&mut rows, frame, HEAD);
-    fill_words(&mut nodes, frame, HEAD + 23040);
-    fill_words(&mut children, frame, HEAD + 25600);
-    fill_words(&mut table, frame, HEAD + 29696);
-    fill_floats(&mut floats, frame, HEAD + 30976);
-    fill_halves(&mut trees, frame, HEAD + 56576);
-    fill_halves(&mut parents, frame, HEAD + 57856);
-    fill_bytes(&mut texts, frame, HEAD + 59140);
-    TreeState {
-        rows,
-        nodes,
-        children,
-        table,
-        floats,
-        trees,
-        parents,
-        count: wire::u16_at(frame, HEAD + 59136),
-        tree_count: wire::u16_at(frame, HEAD + 59138),
-        texts,
-        host_focused: wire::u8_at(frame, HEAD + 70020),
+        fill_words(state, frame, HEAD);
     }
 }
 
-// Fills a column with the numbers that start at a place; so with the three below.
+// Fills a column with the numbers that start at a place.
 fn fill_words(column: &mut [u64], frame: &[u8], from: usize) {
     let mut i: usize = 0;
     let mut at = from;
     while i < column.len() {
-        column[i] = wire::u64_at(frame, at);
+        column[i] = record_wire::u64_at(frame, at);
         at = std::num::wrapping_add_usize(at, 8);
-        i += 1;
-    }
-}
-
-fn fill_floats(column: &mut [f64], frame: &[u8], from: usize) {
-    let mut i: usize = 0;
-    let mut at = from;
-    while i < column.len() {
-        column[i] = wire::f64_at(frame, at);
-        at = std::num::wrapping_add_usize(at, 8);
-        i += 1;
-    }
-}
-
-fn fill_halves(column: &mut [u32], frame: &[u8], from: usize) {
-    let mut i: usize = 0;
-    let mut at = from;
-    while i < column.len() {
-        column[i] = wire::u32_at(frame, at);
-        at = std::num::wrapping_add_usize(at, 4);
-        i += 1;
-    }
-}
-
-fn fill_bytes(column: &mut [u8], frame: &[u8], from: usize) {
-    let mut i: usize = 0;
-    let mut at = from;
-    while i < column.len() {
-        column[i] = wire::u8_at(frame, at);
-        at = std::num::wrapping_add_usize(at, 1);
         i += 1;
     }
 }

@@ -6,11 +6,11 @@ mod digest;
 mod frame;
 
 ghost use Prim.Native.Nat.{_≤_};
-use calls::Answer;
-use focus::FoundNode;
+use cartgravel::OptionalId;
+use cartgravel::Reply;
 use libc::STDIN_FILENO;
 use libc::STDOUT_FILENO;
-use tree::TreeState;
+use state_array::State;
 
 // What has been seen of the list.
 struct Tally {
@@ -18,8 +18,6 @@ struct Tally {
     differ: u64,
     // How many calls had each number.
     numbers: [u64; 256],
-    // The state that the last call left.
-    state: TreeState,
 }
 
 // Which parts of an answer differ.
@@ -39,17 +37,17 @@ fn main() {
         tell_end(0);
         return;
     }
-    tell_tally(run(wire::u32_at(&total, 0) as u64));
+    tell_tally(run(record_wire::u32_at(&total, 0) as u64));
 }
 
-// Every call.
+// Every call, each on the state that the last one left.
 fn run(total: u64) -> Tally {
     let mut t = Tally {
         calls: 0,
         differ: 0,
         numbers: [0u64; 256],
-        state: tree::blank(),
     };
+    let mut state = [0u64; state_array::WORDS];
     let mut i: u64 = 0;
     while i < total {
         let mut space = [0u8; 98304];
@@ -59,33 +57,31 @@ fn run(total: u64) -> Tally {
             return t;
         }
         i += 1;
-        t = with_call(t, i, &space);
+        t = with_call(t, i, &space, &mut state);
     }
     t
 }
 
 // With the call of a frame, call i of the list.
-fn with_call(t: Tally, i: u64, f: &[u8; 98304]) -> Tally {
+fn with_call(t: Tally, i: u64, f: &[u8; 98304], state: &mut State) -> Tally {
     let mut lent = unwritten();
-    let left = t.state;
-    let before = frame::state_before(f, left);
-    let a = answer(f, before, &mut lent);
-    let parts = differing(a, before, f, &lent);
+    frame::put_state(f, state);
+    let before = digest::before(f, state);
+    let r = answer(f, state, &mut lent);
+    let parts = differing(r, before, digest::of(state), f, &lent);
     tell_parts(i, parts);
-    counted(t, a, any(parts))
+    counted(t, r, any(parts))
 }
 
-// With an answer.
-fn counted(t: Tally, a: Answer, differs: bool) -> Tally {
+// With a reply.
+fn counted(t: Tally, r: Reply, differs: bool) -> Tally {
     let mut numbers = t.numbers;
-    let k = a.number as usize;
+    let k = (r.number % 256) as usize;
     numbers[k] = std::num::wrapping_add_u64(numbers[k], 1);
-    let state = a.state;
     Tally {
         calls: std::num::wrapping_add_u64(t.calls, 1),
         differ: std::num::wrapping_add_u64(t.differ, one_if(differs)),
         numbers,
-        state,
     }
 }
 
@@ -113,63 +109,50 @@ fn filler(i: usize) -> u64 {
 }
 
 // What the call of a frame answers.
-fn answer(f: &[u8; 98304], s: TreeState, lent: &mut [u64; 1024]) -> Answer {
-    let host = frame::field(f, 2) == 1;
+fn answer(f: &[u8; 98304], state: &mut State, lent: &mut [u64; 1024]) -> Reply {
+    let host = frame::host(f);
     let kind = frame::field(f, 0);
     match kind {
-        0 => calls::start(frame::record(f), host),
-        1 => update(s, frame::record(f), lent, frame::field(f, 10)),
-        _ => calls::host_focus(s, host),
+        0 => cartgravel::cartgravel_start(state, frame::record(f), host),
+        1 => update(state, frame::record(f), lent, frame::field(f, 10)),
+        _ => cartgravel::cartgravel_host_focus(state, host),
     }
 }
 
 // A batch with the first `room` elements for the lists.
-fn update(s: TreeState, batch: &[u8], lent: &mut [u64], room: usize) -> Answer {
+fn update(state: &mut State, batch: &[u8], lent: &mut [u64], room: usize) -> Reply {
     if room <= lent.len() {
-        return calls::update(s, batch, &mut lent[0..room]);
+        return cartgravel::cartgravel_update(state, batch, &mut lent[0..room]);
     }
-    calls::update(s, batch, lent)
+    cartgravel::cartgravel_update(state, batch, lent)
 }
 
 // ## Comparing
 
-// The parts of an answer that are not as the frame says.
-fn differing(a: Answer, before: TreeState, f: &[u8; 98304], lent: &[u64; 1024]) -> Parts {
-    let focus_before = a.focus_before;
-    let focus_after = a.focus_after;
-    let extra_before = a.extra_before;
-    let extra_after = a.extra_after;
-    let state = a.state;
+// The parts of a reply that are not as the frame says, with the digests of the state before and after.
+fn differing(r: Reply, before: u64, after: u64, f: &[u8; 98304], lent: &[u64; 1024]) -> Parts {
+    let n = r.lengths;
+    let x = r.report;
     Parts {
-        number: a.number as usize != frame::field(f, 6),
-        state: !is_state(state, before, f),
-        lengths: (a.added != frame::field(f, 12))
-            | (a.updated != frame::field(f, 14))
-            | (a.removed != frame::field(f, 16))
-            | (a.relinked != frame::field(f, 18)),
-        focus: !(is_node(focus_before, f, 28) & is_node(focus_after, f, 42)),
-        extra: !(is_node(extra_before, f, 56) & is_node(extra_after, f, 70)),
+        number: r.number as usize != frame::field(f, 6),
+        state: after != frame::digest_after(f, before),
+        lengths: (n.added != frame::field(f, 12))
+            | (n.updated != frame::field(f, 14))
+            | (n.removed != frame::field(f, 16))
+            | (n.relinked != frame::field(f, 18)),
+        focus: !(is_node(x.focus_before, f, 28) & is_node(x.focus_after, f, 42)),
+        extra: !(is_node(x.extra_before, f, 56) & is_node(x.extra_after, f, 70)),
         slice: !is_slice(lent, f, frame::lists_at(f), frame::lists_length(f)),
     }
 }
 
-// Whether a state is the one that the frame says; after a refusal, whether it is the one handed in, number by number.
-fn is_state(s: TreeState, before: TreeState, f: &[u8]) -> bool {
-    if frame::field(f, 6) == 0 {
-        return digest::of_meaning(s) == wire::u64_at(f, 20);
-    }
-    digest::of_state(s) == digest::of_state(before)
-}
-
 // Whether a node, or none, is the one at a place of the frame.
-fn is_node(found: FoundNode, f: &[u8], at: usize) -> bool
+fn is_node(x: OptionalId, f: &[u8], at: usize) -> bool
     requires { ⌜ at ≤ 70 ⌝ }
 {
-    let said = wire::u16_at(f, at) == 1;
-    let FoundNode::At(x) = found else {
-        return !said;
-    };
-    said & (x.tree.0 == wire::u32_at(f, at + 2)) & (x.node.0 == wire::u64_at(f, at + 6))
+    (x.present == record_wire::u16_at(f, at) as u32)
+        & (x.tree == record_wire::u32_at(f, at + 2))
+        & (x.node == record_wire::u64_at(f, at + 6))
 }
 
 // Whether the first n elements are those from a place of the frame on, and the others are as they were lent.
@@ -189,7 +172,7 @@ fn is_slice(lent: &[u64], f: &[u8], from: usize, n: usize) -> bool {
 // Element i after a call that filled n: the one at a place of the frame, or the one that was lent.
 fn element(f: &[u8], at: usize, i: usize, n: usize) -> u64 {
     if i < n {
-        wire::u64_at(f, at)
+        record_wire::u64_at(f, at)
     } else {
         filler(i)
     }

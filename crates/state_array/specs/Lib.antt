@@ -1,4 +1,3 @@
 pub mod Layout
-pub mod Frame
 pub mod View
 pub mod Stored

@@ -1,10 +1,10 @@
 -- The one image of an abstract state in memory: counts, the table of trees, the nodes field by field, the child entries run after run.
 -- Places that are not used are 0, flags are 0 or 1, and nothing stands there but what the state says. Assumes nothing.
-use mathlib.Core.Bool.{Bool, true}
+use mathlib.Core.Bool.{true}
 use mathlib.Core.List.{List, [], _∷_, _++_, map}
 use mathlib.Core.Option.{Option, none, some}
 use mathlib.Core.Path.{_≡_}
-use Prim.Native.Nat.{ℕ, _+_, _*_, _≤_, _<_}
+use Prim.Native.Nat.{ℕ, _*_, _≤_, _<_}
 use lib.Dec.{ltb}
 use lib.Ieee.{Float, fits, ofBits, toBits, binary64}
 use lib.ListN.{length, getD}
@@ -16,6 +16,7 @@ use Rattle.ids.specs.declared.NodeId.{NodeId}
 use Rattle.record.specs.Batch.{NodeData, fieldsOk}
 use Rattle.state.specs.State.{ParentAndIndex, NodeState, TreeEntry, State}
 use Rattle.state_array.specs.Layout.{HEAD, TREES, TREE-FIELDS, SLOTS, NODE-FIELDS, ENTRIES}
+use Rattle.state_array.specs.View.{bodyIn}
 use Rattle.state_array.specs.declared.LinkRow.{LinkRow}
 use Rattle.state_array.specs.declared.TreeRow.{TreeRow}
 use Rattle.state_array.specs.declared.Body.{Body}
@@ -75,6 +76,14 @@ bodyOf d = record {
   label = listOf 4 (labelWord (d .label));
   floats = map (toBits binary64) (floatsOf d);
 }
+
+-- the data of slot i of any array of words as an image holds them, where they obey the record's rules
+abbrev pub BodyAt : List ℕ → ℕ → Body → Type 0
+BodyAt s i r = fieldsOk (bodyIn s i) ≡ true → r ≡ bodyOf (bodyIn s i)
+
+-- so its floats
+abbrev pub FloatsAt : List ℕ → ℕ → List ℕ → Type 0
+FloatsAt s i r = fieldsOk (bodyIn s i) ≡ true → r ≡ map (toBits binary64) (floatsOf (bodyIn s i))
 
 -- how many children the nodes before node i have
 abbrev pub childrenBefore : List NodeState → ℕ → ℕ

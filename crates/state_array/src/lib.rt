@@ -1,12 +1,16 @@
 // The state in memory: one array of words, nodes in ascending order of id. Any words are a value; specs/View says what they stand for.
 // It is lent whole, so a function takes one argument for it, and no call copies it.
+ghost use mathlib.Core.Bool.{true};
 ghost use mathlib.Core.Path.{_≡_};
-ghost use Prim.Native.Nat.{_<_, min};
-ghost use lib.ListN.{length, set};
-ghost use Rattle.base.specs.Bytes.{bit};
+ghost use Prim.Native.Nat.{_<_, _%_, _^_, min};
+ghost use lib.Ieee.{toBits, binary64};
+ghost use lib.ListN.{length};
+ghost use Rattle.base.specs.Bytes.{bit, listOf};
+ghost use Rattle.base.specs.Floats.{isFinite};
 ghost use Rattle.state_array.specs.Layout as at;
-ghost use Rattle.state_array.specs.Layout.{hostOf, entry, place, word, child};
-ghost use Rattle.state_array.specs.View.{view, slotsOf, treesOf, emptyState, idIn, linkIn, shapeIn, labelByte, floatIn, boundsIn, transformIn, treeIn};
+ghost use Rattle.state_array.specs.Layout.{hostOf, entry, word, child};
+ghost use Rattle.state_array.specs.View.{view, slotsOf, treesOf, emptyState, idIn, linkIn, shapeIn, labelByte, labelIn, floatIn, boundsIn, transformIn, treeIn};
+ghost use Rattle.state_array.specs.Stored.{labelWord, BodyAt, FloatsAt};
 use geometry::Affine;
 use geometry::Rect;
 use ids::FullNodeId;
@@ -170,14 +174,6 @@ pub fn size(state: &State) -> usize
     words.len()
 }
 
-// Stores field f of slot i.
-pub fn put_word(state: &mut State, f: usize, i: usize, v: u64)
-    requires { ⌜ (f < 28) × (i < 320) ⌝ }
-    ensures { λ _. ⌜ now (state .exit) ≡ set (now (state .entry)) (place f i) v ⌝ }
-{
-    state[NODES + SLOTS * f + i] = v;
-}
-
 // Field j of tree k.
 pub fn entry_at(state: &State, j: usize, k: usize) -> u64
     requires { ⌜ j < 5 ⌝ }
@@ -278,7 +274,7 @@ pub fn float_at(state: &State, i: usize, k: usize) -> f64
     requires { ⌜ k < 10 ⌝ }
     ensures { λ r. ⌜ r ≡ floatIn (now (state .entry)) i k ⌝ }
 {
-    wire::f64_of(word_at(state, FLOATS + k, i))
+    record_wire::f64_of(word_at(state, FLOATS + k, i))
 }
 
 // A node's bounds.
@@ -305,6 +301,83 @@ pub fn transform_at(state: &State, i: usize) -> Affine
         e: float_at(state, i, 8),
         f: float_at(state, i, 9),
     }
+}
+
+// A node's data as an image holds them: where the fields obey the record's rules, nothing but what they say. Bytes past the label's end are 0.
+pub fn body_at(state: &State, i: usize) -> Body
+    ensures { λ r. ⌜ BodyAt (now (state .entry)) i r ⌝ }
+{
+    Body {
+        graft: TreeId {
+            high: word_at(state, GRAFT_HIGH, i),
+            low: word_at(state, GRAFT_LOW, i),
+        },
+        flags: word_at(state, FLAGS, i),
+        child_count: word_at(state, CHILD_COUNT, i),
+        active_descendant: NodeId(word_at(state, ACTIVE, i)),
+        role: word_at(state, ROLE, i),
+        label_length: word_at(state, LABEL_LENGTH, i),
+        label: label_at(state, i),
+        floats: floats_at(state, i),
+    }
+}
+
+// The four words of a node's label, without what stands past its end.
+fn label_at(state: &State, i: usize) -> [u64; 4]
+    ensures { λ r. ⌜ r ≡ listOf 4 (labelWord (labelIn (now (state .entry)) i)) ⌝ }
+{
+    [
+        label_word(state, i, 0),
+        label_word(state, i, 1),
+        label_word(state, i, 2),
+        label_word(state, i, 3),
+    ]
+}
+
+// Word k of it.
+fn label_word(state: &State, i: usize, k: usize) -> u64
+    requires { ⌜ k < 4 ⌝ }
+    ensures { λ r. ⌜ r ≡ labelWord (labelIn (now (state .entry)) i) k ⌝ }
+{
+    let length = word_at(state, LABEL_LENGTH, i);
+    let from = (8 * k) as u64;
+    if length <= from {
+        return 0;
+    }
+    low_bytes(word_at(state, LABEL + k, i), length - from)
+}
+
+// The low n bytes of a word.
+fn low_bytes(w: u64, n: u64) -> u64
+    ensures { λ r. ⌜ r ≡ w % 256 ^ min 8 n ⌝ }
+{
+    if n < 8 { w % (1u64 << (8 * n)) } else { w }
+}
+
+// The ten floats of a node as bit patterns: the bounds, then the transform.
+fn floats_at(state: &State, i: usize) -> [u64; 10]
+    ensures { λ r. ⌜ FloatsAt (now (state .entry)) i r ⌝ }
+{
+    [
+        pattern_at(state, i, 0),
+        pattern_at(state, i, 1),
+        pattern_at(state, i, 2),
+        pattern_at(state, i, 3),
+        pattern_at(state, i, 4),
+        pattern_at(state, i, 5),
+        pattern_at(state, i, 6),
+        pattern_at(state, i, 7),
+        pattern_at(state, i, 8),
+        pattern_at(state, i, 9),
+    ]
+}
+
+// The bit pattern of number k of the ten: that of its value where the number is finite.
+fn pattern_at(state: &State, i: usize, k: usize) -> u64
+    requires { ⌜ k < 10 ⌝ }
+    ensures { λ r. ⌜ (isFinite (floatIn (now (state .entry)) i k) ≡ true → r ≡ toBits binary64 (floatIn (now (state .entry)) i k)) ⌝ }
+{
+    word_at(state, FLOATS + k, i)
 }
 
 // A tree number's row.

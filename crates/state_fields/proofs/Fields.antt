@@ -14,7 +14,7 @@ use Rattle.base.proofs.Floats.{bits-zero}
 use Rattle.ids.specs.Ids.{sameTree}
 use Rattle.geometry.specs.Geometry.{rectTest, affineTest}
 use Rattle.record.specs.Batch.{fieldsOk}
-use Rattle.state_array.specs.Layout.{word, LABEL-LENGTH, FLAGS, ACTIVE, GRAFT-HIGH, GRAFT-LOW}
+use Rattle.state_array.specs.Layout.{word, LABEL-LENGTH, ROLE, FLAGS, ACTIVE, GRAFT-HIGH, GRAFT-LOW}
 use Rattle.state_array.specs.View.{shapeIn, labelByte, labelIn, boundsIn, transformIn, bodyIn, nodeIn, slotsOf, view}
 use Rattle.state_fields.specs.Fields.{zeroFrom, finiteFrom}
 
@@ -22,6 +22,7 @@ use Rattle.state_fields.specs.Fields.{zeroFrom, finiteFrom}
 pub fields-read : (s : List ℕ) (i : ℕ)
     → fieldsOk (bodyIn s i)
     ≡ (leb (word s LABEL-LENGTH i) 32
+    && ltb (word s ROLE i) 256
     && ltb (word s FLAGS i) 64
     && (bit 4 (word s FLAGS i) || eqb (word s ACTIVE i) 0)
     && (bit 8 (word s FLAGS i) || (eqb (word s GRAFT-HIGH i) 0 && eqb (word s GRAFT-LOW i) 0))

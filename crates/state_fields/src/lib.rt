@@ -30,6 +30,7 @@ pub fn fields_ok_at(state: &State, i: usize) -> bool
 {
     let flags = word_at(state, state_array::FLAGS, i);
     (word_at(state, state_array::LABEL_LENGTH, i) <= 32)
+        & (word_at(state, state_array::ROLE, i) < 256)
         & (flags < 64)
         & (has_bit(4, flags) | (word_at(state, state_array::ACTIVE, i) == 0))
         & (has_bit(8, flags)
@@ -63,7 +64,7 @@ fn are_finite(state: &State, i: usize, from: usize, n: usize) -> bool
 {
     let mut k = 0usize;
     while k < n {
-        if !wire::finite_bits(word_at(state, state_array::FLOATS + (from + k), i)) {
+        if !record_wire::finite_bits(word_at(state, state_array::FLOATS + (from + k), i)) {
             return false;
         }
         k += 1;

@@ -6,8 +6,8 @@ ghost use Rattle.state_array.specs.View.{treesOf, view};
 ghost use Rattle.state_focus.specs.Focus.{foundOf};
 use ids::FullNodeId;
 use ids::TreeId;
-use state_lookup::FoundTree;
 use state_array::State;
+use state_lookup::FoundTree;
 
 // A node, if there is one.
 pub enum FoundNode {
@@ -84,5 +84,9 @@ pub fn or_active_descendant(state: &State, x: FullNodeId) -> FullNodeId
         tree,
         node: state_array::active_descendant_at(state, i),
     };
-    if state_lookup::find_in(state, y) < n { y } else { x }
+    if state_lookup::find_in(state, y) < n {
+        y
+    } else {
+        x
+    }
 }

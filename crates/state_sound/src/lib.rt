@@ -9,11 +9,11 @@ ghost use Rattle.state.specs.Sound.{graftIsBare, graftsDiffer, rootFirst, oneId
 ghost use Rattle.state_array.specs.View.{treesOf, view};
 ghost use Rattle.state_lookup.specs.Lookup.{inOrder};
 ghost use Rattle.state_sound.specs.Parts.{bareIn, graftsTree, noneGrafts, Marked, rootedIn, allRooted, soundGrafts};
-use state_focus::FoundNode;
 use ids::FullNodeId;
 use ids::TreeId;
 use ids::TreeIndex;
 use state_array::State;
+use state_focus::FoundNode;
 
 // Whether a state is sound.
 pub fn sound(state: &State) -> bool

@@ -12,9 +12,9 @@ ghost use Rattle.state_sound.specs.Parts.{belowIn, KidSays, MetAt, count
 use ids::FullNodeId;
 use ids::NodeId;
 use ids::TreeIndex;
-use state_lookup::FoundTree;
 use state_array::LinkRow;
 use state_array::State;
+use state_lookup::FoundTree;
 
 // What is met one step below a node at a place.
 enum Kid {

@@ -44,4 +44,3 @@ same-members (x ∷ xs) (y ∷ ys) p q h = go (sameId x y) refl (same-members xs
 
         later : has sameId xs y ≡ true
         later = sym (ap (λ (c : Bool). c || has sameId xs y) (same-id-sym y x ∙ e)) ∙ h y ∙ ap (λ (c : Bool). c || has sameId ys y) (same-id-refl y)
-

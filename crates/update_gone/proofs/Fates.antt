@@ -12,7 +12,7 @@ use Rattle.ids.specs.Ids.{sameTree, sameIndex, sameId}
 use Rattle.ids.specs.declared.TreeIndex.{TreeIndex}
 use Rattle.ids.specs.declared.FullNodeId.{FullNodeId}
 use Rattle.record.specs.Batch.{graft?, Batch}
-use Rattle.reader.specs.Reader.{listedAt}
+use Rattle.record_reader.specs.Reader.{listedAt}
 use Rattle.state_array.specs.declared.LinkRow.{LinkRow}
 use Rattle.state.specs.State.{Forest, graftAt}
 use Rattle.state_array.specs.View.{linkOf}

@@ -11,7 +11,7 @@ use Rattle.base.specs.Tests.{isSome, sameOption}
 use Rattle.base.proofs.Tests.{is-some-if}
 use Rattle.ids.specs.Ids.{sameTree}
 use Rattle.record.specs.Batch.{graft?}
-use Rattle.reader.specs.Reader.{batchIn, listedAt}
+use Rattle.record_reader.specs.Reader.{batchIn, listedAt}
 use Rattle.state.specs.State.{linkAt, graftAt}
 use Rattle.state_array.specs.View.{idIn, linkIn, linkOf, slotsOf}
 use Rattle.update.specs.Words.{here, claim, claimedFrom}

@@ -8,9 +8,9 @@ ghost use Rattle.state_array.specs.View.{view, slotsOf, linkOf};
 ghost use Rattle.update_notes.specs.Says.{Told, READ, GONE, slotAbove, goesWord};
 ghost use Rattle.update_gone.specs.Fates.{fateCode, fateWord, ABOVE-TOLD, ReplacedIs, FateHereIs, FateUnderIs, Fated};
 use ids::FullNodeId;
-use update_notes::Notes;
 use state_array::LinkRow;
 use state_array::State;
+use update_notes::Notes;
 use update_notes::Scope;
 
 // What becomes of an old node: it stays, it goes, or it fares as its parent does.

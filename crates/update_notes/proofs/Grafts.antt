@@ -17,7 +17,7 @@ use Rattle.ids.specs.Ids.{sameTree}
 use Rattle.ids.specs.declared.TreeId.{TreeId}
 use Rattle.ids.specs.declared.FullNodeId.{FullNodeId}
 use Rattle.record.specs.Batch.{NodeData, graft?, Listed, Batch}
-use Rattle.reader.specs.Reader.{batchIn, blank, listedAt}
+use Rattle.record_reader.specs.Reader.{batchIn, blank, listedAt}
 use Rattle.state.specs.State.{NodeState, Forest, graftAt}
 use Rattle.state_array.specs.View.{graftIn, shapeIn, bodyIn, nodeIn, slotsOf}
 use Rattle.update.specs.Words.{here, listed, claim, claimer, claimedFrom, letsGo}

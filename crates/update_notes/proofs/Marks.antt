@@ -20,7 +20,7 @@ use Rattle.ids.specs.declared.NodeId.{NodeId}
 use Rattle.ids.specs.declared.FullNodeId.{FullNodeId}
 use Rattle.record.specs.Batch.{Listed, Batch, listedIds, namedIds}
 use Rattle.record.proofs.Batch.{listed-length, listed-at, listed-position, listed-has}
-use Rattle.reader.specs.Reader.{noNode, blank, listedAt}
+use Rattle.record_reader.specs.Reader.{noNode, blank, listedAt}
 use Rattle.state.specs.State.{ParentAndIndex, Forest}
 use Rattle.state.specs.Sound.{ascending}
 use Rattle.update.specs.Words.{listing, number, here, mine, listed, turn, naming, named}

@@ -5,7 +5,7 @@ use Prim.Native.Nat.{ℕ}
 use Rattle.record.specs.Batch.{Batch}
 use Rattle.record.specs.Parse.{batchOf}
 use Rattle.record.proofs.Parse.{parse-well, BatchFacts, batch-facts}
-use Rattle.reader.specs.Reader.{batchIn, listedAt}
+use Rattle.record_reader.specs.Reader.{batchIn, listedAt}
 use Rattle.update_notes.specs.Setting.{Batched}
 
 module _ (bytes : List ℕ) (b : Batch) (h : Batched bytes b) where

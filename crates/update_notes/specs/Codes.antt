@@ -10,7 +10,7 @@ use Rattle.base.specs.Tests.{_&&_, if_then_else_, position}
 use Rattle.ids.specs.Ids.{sameId}
 use Rattle.ids.specs.declared.FullNodeId.{FullNodeId}
 use Rattle.record.specs.Batch.{NodeData, sameData, Listed, Batch}
-use Rattle.reader.specs.Reader.{listedAt}
+use Rattle.record_reader.specs.Reader.{listedAt}
 use Rattle.state.specs.State.{ParentAndIndex, NodeState, idsOf, Forest, find}
 use Rattle.state_array.specs.Layout.{SLOTS}
 use Rattle.state_array.specs.Stored.{noState}

@@ -12,9 +12,9 @@ use Rattle.ids.specs.Ids.{sameTree, sameNode, sameId}
 use Rattle.ids.specs.declared.TreeId.{TreeId}
 use Rattle.ids.specs.declared.FullNodeId.{FullNodeId}
 use Rattle.record.specs.Batch.{Batch, namedIds}
-use Rattle.reader.specs.Reader.{noNode, listedAt}
-use Rattle.state.specs.State.{ParentAndIndex, Forest}
-use Rattle.state_array.specs.View.{graftIn, slotsOf}
+use Rattle.record_reader.specs.Reader.{noNode, listedAt}
+use Rattle.state.specs.State.{ParentAndIndex, Forest, State}
+use Rattle.state_array.specs.View.{graftIn, slotsOf, view}
 use Rattle.update.specs.Words.{here, mine, listed, turn, claim}
 use Rattle.update.specs.Gone.{gone}
 use Rattle.update.specs.Outcome.{outcome}
@@ -119,6 +119,10 @@ module _ (state bytes : List ℕ) (c : Scope) where
 
   unfoldable pub changedWord : ℕ → ℕ
   changedWord r = changeOf (forest state) (asked bytes c) (idAt (outcome (forest state) (asked bytes c)) r)
+
+-- the state after the batch: its outcome, with the host flag as it was
+abbrev pub outcomeState : List ℕ → List ℕ → Scope → State
+outcomeState state bytes c = record { forest = outcome (forest state) (asked bytes c); hostFocused = view state .hostFocused }
 
 -- ## The table of columns, in the order in which the phases write them, and where they stand in the notes
 

@@ -12,7 +12,7 @@ use Rattle.ids.specs.Ids.{ROOT, sameTree, sameNode}
 use Rattle.ids.specs.declared.FullNodeId.{FullNodeId}
 use Rattle.record.specs.Batch.{fieldsOk, Batch, listedIds, namedIds}
 use Rattle.record.specs.Parse.{wellFormed}
-use Rattle.reader.specs.Reader.{batchIn}
+use Rattle.record_reader.specs.Reader.{batchIn}
 use Rattle.state.specs.State.{ParentAndIndex, Forest, present, linkAt}
 use Rattle.state.specs.Sound as sound
 use Rattle.state_array.specs.View.{view}

@@ -6,7 +6,7 @@ ghost use Prim.Native.Nat.{_+_, _≤_};
 ghost use Rattle.base.specs.Tests.{isSome, sameOption};
 ghost use Rattle.ids.specs.Ids.{sameTree, sameId};
 ghost use Rattle.record.specs.Batch.{graft?};
-ghost use Rattle.reader.specs.Reader.{batchIn, listedAt};
+ghost use Rattle.record_reader.specs.Reader.{batchIn, listedAt};
 ghost use Rattle.update_notes.specs.Setting.{rootIn, refusal};
 ghost use Rattle.update_notes.specs.Says.{graftBelow, ClaimerIs, ClaimedFromIs, PositionIn, HolderIs};
 use ids::FullNodeId;
@@ -85,7 +85,7 @@ pub fn refuse(number: u8) -> Refusal
 pub fn grafts_new(batch: &[u8], i: usize) -> bool
     ensures { λ r. ⌜ r ≡ isSome (graft? (listedAt (batchIn (now (batch .entry))) i .body)) ⌝ }
 {
-    state_array::is_graft(reader::flags(batch, i) as u64)
+    state_array::is_graft(record_reader::flags(batch, i) as u64)
 }
 
 // Whether the node in a slot grafts a tree.
@@ -106,7 +106,7 @@ pub fn same_graft<'a>(state: &'a State, batch: &'a [u8], i: usize, slot: usize) 
         return !old;
     }
     let d = state_array::shape_at(state, slot);
-    old & ids::same_tree(reader::graft(batch, i), d.graft)
+    old & ids::same_tree(record_reader::graft(batch, i), d.graft)
 }
 
 // The first of k listed nodes that claims a tree, or k.
@@ -116,7 +116,7 @@ pub fn claimer_of<'a>(batch: &'a [u8], notes: &'a Notes, k: usize, t: TreeId) ->
 {
     let mut i = 0usize;
     while i < k {
-        if (notes[CLAIMS + i] == 1) & ids::same_tree(reader::graft(batch, i), t) {
+        if (notes[CLAIMS + i] == 1) & ids::same_tree(record_reader::graft(batch, i), t) {
             return i;
         }
         i += 1;

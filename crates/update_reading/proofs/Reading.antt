@@ -20,8 +20,8 @@ use Rattle.ids.specs.declared.NodeId.{NodeId}
 use Rattle.record.specs.Batch.{graft?, Listed, listedIds, namedIds}
 use Rattle.record.specs.Layout.{nodeCount, recordAt}
 use Rattle.record.proofs.Batch.{listed-length, listed-at, named-append}
-use Rattle.reader.specs.Reader.{batchIn, noNode, blank, listedAt, fieldAt, entriesOf}
-use Rattle.reader.proofs.Reader.{children-count, entries-are, first-child-is}
+use Rattle.record_reader.specs.Reader.{batchIn, noNode, blank, listedAt, fieldAt, entriesOf}
+use Rattle.record_reader.proofs.Reader.{children-count, entries-are, first-child-is}
 use Rattle.state.specs.State.{graftAt}
 use Rattle.state_array.specs.View.{slotsOf}
 use Rattle.update.specs.Words.{here, claim}

@@ -10,7 +10,7 @@ use Rattle.base.specs.Search.{First}
 use Rattle.ids.specs.Ids.{sameTree}
 use Rattle.ids.specs.declared.TreeIndex.{TreeIndex}
 use Rattle.record.specs.Batch.{graft?}
-use Rattle.reader.specs.Reader.{batchIn, listedAt}
+use Rattle.record_reader.specs.Reader.{batchIn, listedAt}
 use Rattle.update_notes.specs.Layout.{LISTED-SLOTS}
 use Rattle.update_notes.specs.Columns.{Holds, Below}
 use Rattle.update_notes.specs.Setting.{forest}

@@ -11,8 +11,8 @@ ghost use Rattle.update_reading.specs.Reading.{Room, SlotRoom, slotWord,
 use ids::FullNodeId;
 use ids::NodeId;
 use ids::TreeIndex;
-use update_notes::Notes;
 use state_array::State;
+use update_notes::Notes;
 use update_notes::Scope;
 
 // The phase: the words of a batch over a state, in eight columns.
@@ -38,7 +38,7 @@ fn write_listed<'a>(state: &'a State, batch: &'a [u8], scope: Scope, notes: &mut
     let k = scope.listed;
     let mut i = 0usize;
     while i < k {
-        let x = reader::node_id(batch, i);
+        let x = record_reader::node_id(batch, i);
         notes[update_notes::LISTED + i] = x.0;
         i += 1;
     }
@@ -52,7 +52,7 @@ fn write_named<'a>(state: &'a State, batch: &'a [u8], scope: Scope, notes: &mut 
     let k = scope.named;
     let mut i = 0usize;
     while i < k {
-        let x = reader::child_entry(batch, i);
+        let x = record_reader::child_entry(batch, i);
         notes[update_notes::NAMED + i] = x.0;
         i += 1;
     }
@@ -66,7 +66,7 @@ fn write_ends<'a>(state: &'a State, batch: &'a [u8], scope: Scope, notes: &mut N
     let k = scope.listed;
     let mut i = 0usize;
     while i < k {
-        let end = reader::first_child(batch, i) + reader::child_count(batch, i);
+        let end = record_reader::first_child(batch, i) + record_reader::child_count(batch, i);
         notes[update_notes::ENDS + i] = end as u64;
         i += 1;
     }
@@ -126,7 +126,13 @@ fn write_turns<'a>(state: &'a State, batch: &'a [u8], scope: Scope, notes: &mut 
 {
     let n = state_array::slots(state);
     clear(notes, update_notes::TURNS, n);
-    mark(notes, update_notes::LISTED_SLOTS, scope.listed, update_notes::TURNS, n);
+    mark(
+        notes,
+        update_notes::LISTED_SLOTS,
+        scope.listed,
+        update_notes::TURNS,
+        n,
+    );
 }
 
 fn write_namings<'a>(state: &'a State, batch: &'a [u8], scope: Scope, notes: &mut Notes)
@@ -135,7 +141,13 @@ fn write_namings<'a>(state: &'a State, batch: &'a [u8], scope: Scope, notes: &mu
 {
     let n = state_array::slots(state);
     clear(notes, update_notes::NAMINGS, n);
-    mark(notes, update_notes::NAMED_SLOTS, scope.named, update_notes::NAMINGS, n);
+    mark(
+        notes,
+        update_notes::NAMED_SLOTS,
+        scope.named,
+        update_notes::NAMINGS,
+        n,
+    );
 }
 
 // Zeros in n places.
@@ -176,7 +188,8 @@ fn write_claims<'a>(state: &'a State, batch: &'a [u8], scope: Scope, notes: &mut
     let mut i = 0usize;
     while i < k {
         let slot = notes[update_notes::LISTED_SLOTS + i] as usize;
-        let claims = update_notes::grafts_new(batch, i) & !update_notes::same_graft(state, batch, i, slot);
+        let claims = update_notes::grafts_new(batch, i)
+            & !update_notes::same_graft(state, batch, i, slot);
         notes[update_notes::CLAIMS + i] = flag_of(claims);
         i += 1;
     }

@@ -17,14 +17,24 @@ pub struct Node {
     pub id: u64,
     pub children: Vec<u64>,
     pub label: &'static str,
-    /// The low half of the tree id that it grafts.
-    pub graft: Option<u64>,
+    /// The tree id that it grafts, high and low half.
+    pub graft: Option<(u64, u64)>,
 }
 
 impl Node {
-    /// A leaf that grafts the tree with this low half.
-    pub fn graft(id: u64, tree: u64) -> Self {
-        Self { id, children: vec![], label: LABEL, graft: Some(tree) }
+    /// A leaf.
+    pub fn plain(id: u64) -> Self {
+        Self { id, children: vec![], label: LABEL, graft: None }
+    }
+
+    /// A leaf that grafts this tree.
+    pub fn graft_of(id: u64, tree: (u64, u64)) -> Self {
+        Self { graft: Some(tree), ..Self::plain(id) }
+    }
+
+    /// A leaf that grafts the tree with this low half, the high one being 0.
+    pub fn graft(id: u64, low: u64) -> Self {
+        Self::graft_of(id, (0, low))
     }
 
     /// With these children instead.
@@ -41,7 +51,7 @@ impl Node {
             .bounds(BOUNDS)
             .transform(TRANSFORM);
         match self.graft {
-            Some(low) => node.graft(cartgravel::TreeId { high: 0, low }),
+            Some((high, low)) => node.graft(cartgravel::TreeId { high, low }),
             None => node,
         }
     }
@@ -53,7 +63,7 @@ impl Node {
             role_code: ROLE,
             label: self.label.to_string(),
             children: self.children.iter().copied().map(accesskit::NodeId).collect(),
-            tree_id: self.graft.map(|low| accesskit::TreeId(0, low)),
+            tree_id: self.graft.map(|(high, low)| accesskit::TreeId(high, low)),
             bounds: Some(accesskit::Rect { x0, y0, x1, y1 }),
             transform: Some(accesskit::Affine(TRANSFORM)),
             ..Default::default()
@@ -62,10 +72,10 @@ impl Node {
     }
 }
 
-/// A batch; its tree is said by the low half of the tree id.
+/// A batch; its tree is said by the high and the low half of the tree id.
 #[derive(Clone)]
 pub struct Batch {
-    pub tree: u64,
+    pub tree: (u64, u64),
     pub root: Option<u64>,
     pub focus: u64,
     pub nodes: Vec<Node>,
@@ -74,12 +84,13 @@ pub struct Batch {
 impl Batch {
     /// A batch for ROOT without tree data.
     pub fn of(nodes: Vec<Node>) -> Self {
-        Self { tree: 0, root: None, focus: FOCUS, nodes }
+        Self { tree: (0, 0), root: None, focus: FOCUS, nodes }
     }
 
     /// The record.
     pub fn record(&self) -> Vec<u8> {
-        let batch = cartgravel::Batch::new(cartgravel::TreeId { high: 0, low: self.tree }, self.focus);
+        let (high, low) = self.tree;
+        let batch = cartgravel::Batch::new(cartgravel::TreeId { high, low }, self.focus);
         let batch = batch.nodes(self.nodes.iter().map(Node::listed));
         let batch = self.root.iter().fold(batch, |batch, root| batch.root(*root));
         batch.encode().expect("a record holds every batch here")
@@ -91,7 +102,7 @@ impl Batch {
         accesskit::TreeUpdate {
             nodes: self.nodes.iter().map(Node::built).collect(),
             tree: self.root.map(accesskit::NodeId).map(info),
-            tree_id: accesskit::TreeId(0, self.tree),
+            tree_id: accesskit::TreeId(self.tree.0, self.tree.1),
             focus: accesskit::NodeId(self.focus),
         }
     }
@@ -108,7 +119,7 @@ impl Shape {
     /// Node i of the state.
     pub fn node(self, i: u64) -> Node {
         let children = (i * self.fan + 1..=i * self.fan + self.fan).filter(|c| *c < self.nodes).collect();
-        Node { id: i, children, label: LABEL, graft: None }
+        Node { children, ..Node::plain(i) }
     }
 
     /// These nodes of the state.

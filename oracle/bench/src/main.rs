@@ -6,6 +6,7 @@ mod refusals;
 mod rows;
 mod sides;
 mod tables;
+mod worst;
 
 use inputs::Shape;
 use rows::{Row, batches, host_focus, refused, starts};
@@ -32,5 +33,6 @@ fn main() {
     tables::calls(&rows);
     tables::growth(&rows);
     tables::refusals(&refused());
+    tables::worst(&worst::worst());
     println!("\nStack of a call: {} bytes.", cartgravel::STACK);
 }

@@ -52,8 +52,8 @@ fn on_screen() -> Vec<(Number, Batch)> {
     let none = Batch::of(vec![]);
     vec![
         (Number::ListedTwice, Batch::of(vec![node(1), node(1)])),
-        (Number::TreeNotHeld, Batch { tree: PANE, root: Some(0), ..none.clone() }),
-        (Number::TreeWithoutData, Batch { tree: PANE, ..none.clone() }),
+        (Number::TreeNotHeld, Batch { tree: (0, PANE), root: Some(0), ..none.clone() }),
+        (Number::TreeWithoutData, Batch { tree: (0, PANE), ..none.clone() }),
         (Number::ChildNamedTwice, Batch::of(vec![node(1).with(&[5, 5])])),
         (Number::GraftWithChildren, Batch::of(vec![graft(40).with(&[41])])),
         (Number::GraftOfRoot, Batch::of(vec![Node::graft(40, 0)])),
@@ -79,7 +79,7 @@ fn not_a_record() -> Refusal {
 
 /// A pane while every tree number is taken: one graft held each of the others in turn.
 fn too_many_trees() -> Refusal {
-    let pane = |tree| Batch { tree, focus: 0, ..Shape { nodes: 1, fan: 4 }.start() };
+    let pane = |tree| Batch { tree: (0, tree), focus: 0, ..Shape { nodes: 1, fan: 4 }.start() };
     let held = |tree| Batch::of(vec![Node::graft(47, tree)]);
     let last = PANES + 1;
     let mut refusal = refusal(Number::TooManyTrees, pane(last));

@@ -2,6 +2,7 @@
 use crate::clock::Times;
 use crate::inputs::Shape;
 use crate::rows::Row;
+use crate::worst::Worst;
 use cartgravel::Number;
 
 /// Time per call, row by row; the crate's own call of a start is `Tree::new`.
@@ -44,6 +45,16 @@ pub fn refusals(rows: &[(Number, Row)]) {
     for (number, row) in rows {
         let (state, ours, start) = (state(row.shape), time(&row.ours), row.ours.ratio(&row.start));
         println!("| {}, {} | {state} | {ours} | {start:.2} |", *number as u8, row.call);
+    }
+}
+
+/// The slowest batches that were found, beside one label on 256 nodes.
+pub fn worst(rows: &[Worst]) {
+    println!("\n| the slowest found | µs | one label on 256 nodes, µs | ratio |");
+    println!("|---|---|---|---|");
+    for row in rows {
+        let (ours, label, ratio) = (time(&row.ours), time(&row.label), row.ours.ratio(&row.label));
+        println!("| {} | {ours} | {label} | {ratio:.2} |", row.what);
     }
 }
 

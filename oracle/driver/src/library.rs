@@ -5,8 +5,7 @@ use cartgravel::sys;
 
 /// What the library answered, and the lent slice after the call.
 pub struct Given {
-    pub number: u32,
-    pub report: sys::Report,
+    pub reply: sys::Reply,
     pub memory: Box<sys::State>,
     pub slice: Vec<u64>,
     /// The call wrote before or behind the lent slice.
@@ -18,10 +17,7 @@ const FENCE: [u64; 4] = [0x5eed_f00d_cafe_0001; 4];
 
 /// Runs a call on a state (none: a start).
 pub fn run(on: Option<&sys::State>, call: &Call) -> Given {
-    let mut memory = memory::blank();
-    if let Some(on) = on {
-        memory::bytes_mut(&mut memory).copy_from_slice(memory::bytes(on));
-    }
+    let mut memory = on.map_or_else(memory::littered, |on| Box::new(on.clone()));
     let lent: &[u64] = if let Call::Update(_, slice) = call { slice } else { &[] };
     let mut fenced = [&FENCE[..], lent, &FENCE[..]].concat();
     let changes = &mut fenced[FENCE.len()..][..lent.len()];
@@ -33,5 +29,5 @@ pub fn run(on: Option<&sys::State>, call: &Call) -> Given {
     let behind = fenced.split_off(FENCE.len() + lent.len());
     let slice = fenced.split_off(FENCE.len());
     let strayed = fenced != FENCE || behind != FENCE;
-    Given { number: reply.number, report: reply.report, memory, slice, strayed }
+    Given { reply, memory, slice, strayed }
 }

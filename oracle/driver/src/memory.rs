@@ -1,125 +1,149 @@
 //! The library's memory: how a plain state lies in it, and the plain state that any memory shows, as
-//! tree/specs/View reads it.
+//! state_array/specs/View reads it. The places are those of state_array/specs/Layout.
 use calls::plain::{Data, Id, Link, State, Tid};
-use cartgravel::sys;
+use cartgravel::{STATE_WORDS, sys};
 
-/// Memory with every byte 0: the blank state.
+/// Room for nodes, trees and child entries.
+pub const SLOTS: usize = 320;
+pub const TREES: usize = 32;
+pub const ENTRIES: usize = 512;
+
+/// The head: how many nodes, how many trees, the host flag.
+pub const COUNT: usize = 0;
+pub const TREE_COUNT: usize = 1;
+pub const HOST: usize = 2;
+
+/// The fields of a tree: its id, root, focus and whether it exists.
+pub const TREE_FIELDS: usize = 5;
+/// The fields of a node: its id, its parent and place, and whether it has them; the graft, the flags, the children, the
+/// active descendant, the role; the label's length, four words of label, ten floats.
+pub const NODE_FIELDS: usize = 28;
+pub const NODE: usize = 1;
+pub const PARENT: usize = 2;
+pub const LINKED: usize = 5;
+pub const FIRST_CHILD: usize = 9;
+pub const CHILD_COUNT: usize = 10;
+pub const LABEL_LENGTH: usize = 13;
+pub const LABEL: usize = 14;
+pub const FLOATS: usize = 18;
+
+/// Where field j of tree k stands.
+pub fn entry(j: usize, k: usize) -> usize {
+    8 + TREES * j + k
+}
+
+/// Where field f of the node in slot i stands.
+pub fn place(f: usize, i: usize) -> usize {
+    entry(0, TREE_FIELDS * TREES) + SLOTS * f + i
+}
+
+/// Where child entry j stands.
+pub fn child(j: usize) -> usize {
+    place(NODE_FIELDS, j)
+}
+
+/// Memory with every word 0: the blank state.
 pub fn blank() -> Box<sys::State> {
-    // any bytes are a value of the struct
-    unsafe { Box::new_zeroed().assume_init() }
+    Box::new(sys::State::blank())
 }
 
-/// The memory's bytes, without the padding behind the last field.
-pub fn bytes(m: &sys::State) -> &[u8] {
-    let length = std::mem::offset_of!(sys::State, host_focused) + 1;
-    unsafe { std::slice::from_raw_parts(std::ptr::from_ref(m).cast(), length) }
+/// Memory that a start is handed: it never looks at it.
+pub fn littered() -> Box<sys::State> {
+    Box::new(sys::State { words: [0x5eed_f00d_cafe_0002; STATE_WORDS] })
 }
 
-/// The same, to be changed.
-pub fn bytes_mut(m: &mut sys::State) -> &mut [u8] {
-    let length = bytes(m).len();
-    unsafe { std::slice::from_raw_parts_mut(std::ptr::from_mut(m).cast(), length) }
+/// How many slots hold nodes, and how many trees there are room for and counted.
+pub fn counts(m: &sys::State) -> (usize, usize) {
+    (m.words[COUNT].min(SLOTS as u64) as usize, m.words[TREE_COUNT].min(TREES as u64) as usize)
 }
 
 /// A state as the library writes it: what there is no room for is left out, what is not used is 0.
 pub fn written(s: &State) -> Box<sys::State> {
     let mut m = blank();
-    let mut entry = 0;
-    for (i, (id, (link, d))) in s.nodes.iter().enumerate().take(320) {
-        write_node(&mut m, i, id, link, d, entry);
-        entry += d.children.len();
+    let mut first = 0;
+    for (i, (id, (link, d))) in s.nodes.iter().enumerate().take(SLOTS) {
+        write_node(&mut m, i, id, link, d, first);
+        first += d.children.len();
     }
-    for (k, (id, at)) in s.trees.iter().enumerate().take(32) {
+    for (k, (id, at)) in s.trees.iter().enumerate().take(TREES) {
         let (root, focus) = at.unwrap_or_default();
-        m.table[5 * k..5 * k + 5].copy_from_slice(&[id.0, id.1, root, focus, at.is_some() as u64]);
+        for (j, word) in [id.0, id.1, root, focus, at.is_some() as u64].into_iter().enumerate() {
+            m.words[entry(j, k)] = word;
+        }
     }
-    m.count = s.nodes.len() as u16;
-    m.tree_count = s.trees.len() as u16;
-    m.host_focused = s.host as u8;
+    m.words[COUNT] = s.nodes.len() as u64;
+    m.words[TREE_COUNT] = s.trees.len() as u64;
+    m.words[HOST] = s.host as u64;
     m
 }
 
 /// The node in slot i, its children from an entry on.
-fn write_node(m: &mut sys::State, i: usize, id: &Id, link: &Link, d: &Data, entry: usize) {
-    (m.trees[i], m.nodes[i]) = *id;
-    let (parent, place) = link.unwrap_or_default();
-    m.parents[i] = parent.0;
-    let words = [
-        parent.1,
-        place,
-        link.is_some() as u64,
-        d.graft.0,
-        d.graft.1,
-        d.flags as u64,
-        entry as u64,
-        d.children.len() as u64,
-        d.active,
-    ];
-    m.rows[9 * i..9 * i + 9].copy_from_slice(&words);
-    for (place, c) in m.children.iter_mut().skip(entry).zip(&d.children) {
-        *place = *c;
+fn write_node(m: &mut sys::State, i: usize, id: &Id, link: &Link, d: &Data, first: usize) {
+    let (parent, at) = link.unwrap_or_default();
+    let head = [id.0 as u64, id.1, parent.0 as u64, parent.1, at, link.is_some() as u64, d.graft.0, d.graft.1];
+    let rest =
+        [d.flags as u64, first as u64, d.children.len() as u64, d.active, d.role as u64, d.label.len() as u64];
+    let mut label = [0; 32];
+    label.iter_mut().zip(&d.label).for_each(|(place, b)| *place = *b);
+    let (label, _) = label.as_chunks::<8>();
+    let label = label.iter().map(|bytes| u64::from_le_bytes(*bytes));
+    let floats = d.bounds.iter().chain(&d.transform).copied();
+    for (f, word) in head.into_iter().chain(rest).chain(label).chain(floats).enumerate() {
+        m.words[place(f, i)] = word;
     }
-    m.texts[34 * i] = d.role;
-    m.texts[34 * i + 1] = d.label.len() as u8;
-    for (place, b) in m.texts[34 * i + 2..34 * i + 34].iter_mut().zip(&d.label) {
-        *place = *b;
+    for (j, c) in d.children.iter().enumerate().take(ENTRIES.saturating_sub(first)) {
+        m.words[child(first + j)] = *c;
     }
-    for (place, bits) in m.floats[10 * i..].iter_mut().zip(d.bounds.iter().chain(&d.transform)) {
-        *place = f64::from_bits(*bits);
-    }
-}
-
-/// Whether the slots past the last node are 0 in every column.
-pub fn unused_are_zero(m: &sys::State) -> bool {
-    let count = m.count as usize;
-    let words = m.rows.iter().skip(9 * count).chain(m.nodes.iter().skip(count));
-    let halves = m.trees.iter().skip(count).chain(m.parents.iter().skip(count));
-    words.copied().all(|x| x == 0)
-        && halves.copied().all(|x| x == 0)
-        && m.texts.iter().skip(34 * count).all(|x| *x == 0)
-        && m.floats.iter().skip(10 * count).all(|x| x.to_bits() == 0)
 }
 
 /// The state that a memory shows; none where the ids do not ascend, which is not sound.
 pub fn shown(m: &sys::State) -> Option<State> {
-    let mut s = State { host: m.host_focused != 0, ..State::default() };
-    for i in 0..m.count.min(320) as usize {
-        let id = (m.trees[i], m.nodes[i]);
+    let mut s = State { host: m.words[HOST] != 0, ..State::default() };
+    for i in 0..counts(m).0 {
+        let id = id_shown(m, 0, i);
         if s.nodes.last_key_value().is_some_and(|(last, _)| *last >= id) {
             return None;
         }
         s.nodes.insert(id, (link_shown(m, i), data_shown(m, i)));
     }
-    for k in 0..m.tree_count as usize {
-        let row = m.table.get(5 * k..5 * k + 5).unwrap_or(&[0; 5]);
+    for k in 0..m.words[TREE_COUNT].min(TREES as u64 + 1) as usize {
+        let row = if k < TREES { [0, 1, 2, 3, 4].map(|j| m.words[entry(j, k)]) } else { [0; TREE_FIELDS] };
         s.trees.push(((row[0], row[1]) as Tid, (row[4] != 0).then_some((row[2], row[3]))));
     }
     Some(s)
 }
 
+/// The id whose tree number is field f of slot i; a tree number is cut at the largest.
+fn id_shown(m: &sys::State, f: usize, i: usize) -> Id {
+    (m.words[place(f, i)].min(u32::MAX as u64) as u32, m.words[place(f + 1, i)])
+}
+
 /// The link of the node in slot i.
 fn link_shown(m: &sys::State, i: usize) -> Link {
-    let row = &m.rows[9 * i..9 * i + 3];
-    (row[2] != 0).then_some(((m.parents[i], row[0]), row[1]))
+    (m.words[place(LINKED, i)] != 0).then_some((id_shown(m, PARENT, i), m.words[place(PARENT + 2, i)]))
 }
 
 /// The data of the node in slot i.
 fn data_shown(m: &sys::State, i: usize) -> Data {
-    let row = &m.rows[9 * i..9 * i + 9];
-    let text = &m.texts[34 * i..34 * i + 34];
-    let floats: Vec<u64> = m.floats[10 * i..10 * i + 10].iter().map(|x| x.to_bits()).collect();
-    // no sound state has a child entry past the last, or more children than slots
-    let entry = |j: u64| m.children.get(row[6].saturating_add(j) as usize).copied().unwrap_or(m.nodes[i]);
+    let word = |f: usize| m.words[place(f, i)];
+    let label: Vec<u8> = (LABEL..FLOATS).flat_map(|f| word(f).to_le_bytes()).collect();
+    // a label over 64 bytes is as wrong as one of 64; no sound state has a child entry past the last, or more than slots
+    let byte = |j: u64| label.get(j as usize).copied().unwrap_or(0);
+    let entry = |j: u64| match word(FIRST_CHILD).checked_add(j) {
+        Some(at) if at < ENTRIES as u64 => m.words[child(at as usize)],
+        _ => word(NODE),
+    };
+    // a number past the byte is one that no record has: it is shown as a flag that no record has
+    let odd = word(8) > 63 || word(12) > 255;
     Data {
-        active: row[8],
-        graft: (row[3], row[4]),
-        children: (0..row[7].min(512)).map(entry).collect(),
-        label: (0..text[1] as usize).map(|j| text.get(2 + j).copied().unwrap_or(0)).collect(),
-        role: text[0],
-        // a flag past the byte is one that no record has
-        flags: if row[5] < 64 { row[5] as u8 } else { row[5] as u8 & 63 | 64 },
-        bounds: floats[..4].try_into().unwrap(),
-        transform: floats[4..].try_into().unwrap(),
+        active: word(11),
+        graft: (word(6), word(7)),
+        children: (0..word(CHILD_COUNT).min(ENTRIES as u64)).map(entry).collect(),
+        label: (0..word(LABEL_LENGTH).min(64)).map(byte).collect(),
+        role: word(12) as u8,
+        flags: if odd { word(8) as u8 & 63 | 64 } else { word(8) as u8 },
+        bounds: std::array::from_fn(|k| word(FLOATS + k)),
+        transform: std::array::from_fn(|k| word(FLOATS + 4 + k)),
     }
 }
 
@@ -135,42 +159,61 @@ mod tests {
     }
 
     #[test]
+    fn the_words_end_with_the_child_entries() {
+        assert_eq!(child(ENTRIES), blank().words.len());
+    }
+
+    #[test]
     fn ids_out_of_order_show_no_state() {
         let mut m = written(&cases::states().s.plain);
-        m.nodes.swap(0, 1);
+        m.words.swap(place(NODE, 0), place(NODE, 1));
         assert_eq!(shown(&m), None);
     }
 
     #[test]
     fn a_child_past_the_last_entry_is_the_node_itself() {
         let mut m = written(&cases::states().s.plain);
-        m.rows[6] = 511;
+        m.words[place(FIRST_CHILD, 0)] = 511;
         let s = shown(&m).unwrap();
         assert_eq!(s.nodes[&(0, 1)].1.children, [0, 1]);
         assert!(!s.sound());
     }
 
     #[test]
-    fn rows_past_the_table_are_zeros() {
+    fn trees_past_the_table_are_zeros() {
         let mut m = written(&cases::states().s.plain);
-        m.tree_count = 33;
+        m.words[TREE_COUNT] = 1 << 40;
         let s = shown(&m).unwrap();
-        assert_eq!(s.trees[32], ((0, 0), None));
+        assert_eq!((s.trees.len(), s.trees[32]), (33, ((0, 0), None)));
         assert!(!s.sound());
     }
 
     #[test]
     fn a_label_past_its_room_keeps_its_length() {
         let mut m = written(&cases::states().s.plain);
-        m.texts[1] = 40;
+        m.words[place(LABEL_LENGTH, 0)] = 40;
         assert_eq!(shown(&m).unwrap().nodes[&(0, 1)].1.label.len(), 40);
+    }
+
+    #[test]
+    fn a_tree_number_is_cut_at_the_largest() {
+        let mut m = written(&cases::states().s.plain);
+        m.words[place(0, 2)] = 1 << 32;
+        assert!(shown(&m).unwrap().nodes.contains_key(&(u32::MAX, 3)));
+    }
+
+    #[test]
+    fn a_role_past_the_byte_is_not_sound() {
+        let mut m = written(&cases::states().s.plain);
+        m.words[place(12, 1)] = 256;
+        assert!(!shown(&m).unwrap().sound());
     }
 
     #[test]
     fn any_flag_word_but_zero_is_set() {
         let s = cases::states().s.plain;
         let mut m = written(&s);
-        (m.rows[9 + 2], m.table[4], m.host_focused) = (7, 1 << 40, 200);
+        (m.words[place(LINKED, 1)], m.words[entry(4, 0)], m.words[HOST]) = (7, 1 << 40, 200);
         assert_eq!(shown(&m), Some(s));
     }
 }

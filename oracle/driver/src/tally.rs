@@ -4,7 +4,7 @@ use crate::{memory, text};
 use calls::judge::{Answer, Call, Did, Held, held, judge};
 use calls::plain::{Id, State};
 use calls::shows::{graft_depth, shows};
-use cartgravel::sys::{self, OptionalId, Report};
+use cartgravel::sys::{self, Lengths, OptionalId, Reply, Report};
 use std::collections::BTreeMap;
 
 /// A state on both sides: the crate's own and the library's own.
@@ -66,7 +66,7 @@ impl Tally {
         let memory = on.map(|p| &*p.memory);
         let given = library::run(memory, call);
         let mut parts = differing(memory, call, &answer, &given);
-        if given.number == 0 && answer.number == 0 && given.memory_differs(&answer, call, memory) {
+        if given.reply.number == 0 && answer.number == 0 && given.memory_differs(&answer, call, memory) {
             parts.push("state");
         }
         self.count(on.map(|p| &p.held.plain), call, &answer);
@@ -76,7 +76,7 @@ impl Tally {
         (answer, next)
     }
 
-    /// A call on any memory. Its state is judged as tree/specs/View shows it, and so is an accepted outcome.
+    /// A call on any memory. Its state is judged as state_array/specs/View shows it; an accepted outcome has the one form.
     pub fn call_on_memory(&mut self, memory: &sys::State, call: &Call) {
         let before = memory::shown(memory);
         let sound = before.clone().filter(State::sound);
@@ -87,11 +87,8 @@ impl Tally {
         };
         let given = library::run(Some(memory), call);
         let mut parts = differing(Some(memory), call, &answer, &given);
-        if answer.number == 0 && memory::shown(&given.memory).as_ref() != Some(&answer.state) {
+        if given.reply.number == 0 && answer.number == 0 && given.memory_differs(&answer, call, Some(memory)) {
             parts.push("state");
-        }
-        if answer.number == 0 && call.kind() == 'u' && !memory::unused_are_zero(&given.memory) {
-            parts.push("unused slots");
         }
         *self.shown.entry("a state's memory changed").or_default() += 1;
         let still = "a state's memory changed, and the state is sound";
@@ -214,21 +211,18 @@ fn described(before: Option<&State>, call: &Call) -> String {
 }
 
 impl Given {
-    /// The memory after an accepted call is not the one that the library writes for the answer's state.
+    /// The memory after an accepted call is not the one form of the answer's state; a host focus change alters one word
+    /// of the memory handed in.
     fn memory_differs(&self, answer: &Answer, call: &Call, on: Option<&sys::State>) -> bool {
-        let mut due = match (call, on) {
+        let due = match (call, on) {
             (Call::Host(host), Some(m)) => {
                 let mut due = Box::new(m.clone());
-                due.host_focused = *host as u8;
+                due.words[memory::HOST] = *host as u64;
                 due
             }
             _ => memory::written(&answer.state),
         };
-        // of a tree that does not exist the table shows no root and no focus
-        for k in (0..answer.state.trees.len()).filter(|k| answer.state.trees[*k].1.is_none()) {
-            due.table[5 * k + 2..5 * k + 4].copy_from_slice(&self.memory.table[5 * k + 2..5 * k + 4]);
-        }
-        memory::bytes(&self.memory) != memory::bytes(&due)
+        self.memory != due
     }
 }
 
@@ -240,36 +234,42 @@ fn differing(on: Option<&sys::State>, call: &Call, answer: &Answer, given: &Give
             out.push(part);
         }
     };
-    let (g, d) = (&given.report, due_report(answer));
-    test(given.number != answer.number as u32, "number");
-    let lengths = |r: &Report| [r.added, r.updated, r.removed, r.relinked];
-    test(lengths(g) != lengths(&d), "lengths");
-    test((g.focus_before, g.focus_after) != (d.focus_before, d.focus_after), "focus");
-    test((g.extra_before, g.extra_after) != (d.extra_before, d.extra_after), "extra ids");
+    let (g, d) = (&given.reply, due_reply(answer));
+    let focus = |r: &Report| (r.focus_before, r.focus_after);
+    let extra = |r: &Report| (r.extra_before, r.extra_after);
+    test(g.number != d.number, "number");
+    test(g.lengths != d.lengths, "lengths");
+    test(focus(&g.report) != focus(&d.report), "focus");
+    test(extra(&g.report) != extra(&d.report), "extra ids");
     test(given.slice != answer.slice, "slice");
     test(given.strayed, "memory beside the slice");
     if answer.number != 0 {
         let kept = match (call, on) {
-            (Call::Update(..) | Call::Host(_), Some(m)) => memory::bytes(&given.memory) == memory::bytes(m),
-            _ => memory::bytes(&given.memory).iter().all(|b| *b == 0),
+            (Call::Update(..) | Call::Host(_), Some(m)) => *given.memory == *m,
+            _ => given.memory == memory::blank(),
         };
         test(!kept, "state not handed back");
     }
     out
 }
 
-/// The report that is due.
-fn due_report(a: &Answer) -> Report {
+/// The reply that is due.
+fn due_reply(a: &Answer) -> Reply {
     let id =
         |x: Option<Id>| x.map_or(OptionalId::default(), |(tree, node)| OptionalId { node, tree, present: 1 });
-    Report {
-        added: a.added.len(),
-        updated: a.updated.len(),
-        removed: a.removed.len(),
-        relinked: a.relinked.len(),
-        focus_before: id(a.focus.0),
-        focus_after: id(a.focus.1),
-        extra_before: id(a.extra.0),
-        extra_after: id(a.extra.1),
+    Reply {
+        lengths: Lengths {
+            added: a.added.len(),
+            updated: a.updated.len(),
+            removed: a.removed.len(),
+            relinked: a.relinked.len(),
+        },
+        report: Report {
+            focus_before: id(a.focus.0),
+            focus_after: id(a.focus.1),
+            extra_before: id(a.extra.0),
+            extra_after: id(a.extra.1),
+        },
+        number: a.number.into(),
     }
 }

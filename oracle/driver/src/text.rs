@@ -107,11 +107,11 @@ pub fn due(a: &Answer) -> String {
 /// The answer that the library gave.
 pub fn given(g: &Given) -> String {
     let id = |x: OptionalId| (x.present != 0).then_some((x.tree, x.node));
-    let r = &g.report;
+    let (l, r) = (&g.reply.lengths, &g.reply.report);
     format!(
         "{}, lengths {:?}, focus {:?}, extra {:?}, slice {:?}\n    state {}",
-        g.number,
-        [r.added, r.updated, r.removed, r.relinked],
+        g.reply.number,
+        [l.added, l.updated, l.removed, l.relinked],
         (id(r.focus_before), id(r.focus_after)),
         (id(r.extra_before), id(r.extra_after)),
         cut(&g.slice),

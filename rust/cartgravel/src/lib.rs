@@ -73,10 +73,14 @@ pub const LABEL_BYTES: usize = 32;
 pub const RECORD_BYTES: usize = 12_352;
 /// Elements that hold the four lists of any batch.
 pub const CHANGES: usize = 1_024;
+/// The words of a state.
+pub const STATE_WORDS: usize = 9_640;
 /// The bytes of a state.
-pub const STATE_BYTES: usize = 70_024;
+pub const STATE_BYTES: usize = 8 * STATE_WORDS;
 /// The bytes of stack that a call needs, measured and rounded up to the next 64 KiB.
 pub const STACK: usize = 196_608;
+/// The bytes of stack that [`State::start`] needs, which answers a state by value.
+pub const START_STACK: usize = 720_896;
 
 /// Runs the example of README.md with the others.
 #[cfg(doctest)]

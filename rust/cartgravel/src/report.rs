@@ -21,13 +21,14 @@ pub struct Report<'a> {
 }
 
 impl<'a> Report<'a> {
-    /// The library's report, with the slice that has its lists.
-    pub(crate) fn new(raw: &sys::Report, changes: &'a [u64]) -> Self {
+    /// The library's reply, with the slice that has its lists.
+    pub(crate) fn new(reply: &sys::Reply, changes: &'a [u64]) -> Self {
+        let (lengths, raw) = (&reply.lengths, &reply.report);
         let (ids, _) = changes.as_chunks();
-        let (added, ids) = split(ids, raw.added);
-        let (updated, ids) = split(ids, raw.updated);
-        let (removed, ids) = split(ids, raw.removed);
-        let (relinked, _) = split(ids, raw.relinked);
+        let (added, ids) = split(ids, lengths.added);
+        let (updated, ids) = split(ids, lengths.updated);
+        let (removed, ids) = split(ids, lengths.removed);
+        let (relinked, _) = split(ids, lengths.relinked);
         Self {
             added,
             updated,

@@ -2,17 +2,17 @@
 use crate::number::{Number, accepted};
 use crate::report::Report;
 use crate::{STATE_BYTES, sys};
-use std::array::from_fn;
 use std::fmt;
 
 /// The trees of a terminal's screen, at most [`NODES`](crate::NODES) nodes.
 ///
 /// A state is [`STATE_BYTES`] long and lives where its owner puts it, on the stack, in a `Box` or in a `static`. The
 /// calls change it in place, keep no pointer and allocate nothing; each needs [`STACK`](crate::STACK) bytes of stack,
-/// and [`start`](State::start) the state that it answers besides.
+/// and [`start`](State::start), which answers a state by value, [`START_STACK`](crate::START_STACK).
 ///
-/// After a refusal the state is as it was, byte for byte; only a refused `restart` leaves no node and no tree.
-#[derive(Clone)]
+/// A sound state has one form in memory once a call has been accepted, so two are equal if and only if they show the
+/// same. After a refusal the state is as it was, byte for byte; only a refused `restart` leaves the blank one.
+#[derive(Clone, PartialEq, Eq)]
 pub struct State(sys::State);
 
 impl State {
@@ -36,11 +36,11 @@ impl State {
     ///
     /// # Errors
     ///
-    /// The number of the rule that the batch breaks. The state then counts no node and no tree.
+    /// The number of the rule that the batch breaks. The state is then the blank one.
     pub fn restart(&mut self, batch: &[u8], host_focused: bool) -> Result<Report<'static>, Number> {
         let reply = self.0.start(batch, host_focused);
         accepted(reply.number)?;
-        Ok(Report::new(&reply.report, &[]))
+        Ok(Report::new(&reply, &[]))
     }
 
     /// A batch on this state. `changes` takes the report's lists; [`CHANGES`](crate::CHANGES) elements are enough
@@ -52,7 +52,7 @@ impl State {
     pub fn update<'a>(&mut self, batch: &[u8], changes: &'a mut [u64]) -> Result<Report<'a>, Number> {
         let reply = self.0.update(batch, changes);
         accepted(reply.number)?;
-        Ok(Report::new(&reply.report, changes))
+        Ok(Report::new(&reply, changes))
     }
 
     /// A host focus change: whether the terminal itself has the focus. The report lists nothing.
@@ -63,86 +63,50 @@ impl State {
     pub fn host_focus(&mut self, host_focused: bool) -> Result<Report<'static>, Number> {
         let reply = self.0.host_focus(host_focused);
         accepted(reply.number)?;
-        Ok(Report::new(&reply.report, &[]))
+        Ok(Report::new(&reply, &[]))
     }
 
     /// How many nodes there are.
     pub fn node_count(&self) -> usize {
-        self.0.count.into()
+        self.count(0)
     }
 
     /// How many tree numbers are taken. They are kept for good.
     pub fn tree_count(&self) -> usize {
-        self.0.tree_count.into()
+        self.count(1)
     }
 
     /// Whether the terminal itself has the focus.
     pub fn is_host_focused(&self) -> bool {
-        self.0.host_focused != 0
+        self.0.words[2] != 0
+    }
+
+    /// One of the counts that the words begin with.
+    fn count(&self, at: usize) -> usize {
+        usize::try_from(self.0.words[at]).unwrap_or(usize::MAX)
     }
 
     /// The state of these bytes, as [`to_bytes`](State::to_bytes) gives them. Any bytes are a state; the calls
-    /// refuse one that is not sound with [`Number::StateNotSound`]. The last three bytes say nothing.
+    /// refuse one that is not sound with [`Number::StateNotSound`].
     pub fn from_bytes(bytes: &[u8; STATE_BYTES]) -> Self {
-        let rest = &mut bytes.iter().copied();
-        Self(sys::State {
-            rows: from_fn(|_| u64::from_le_bytes(take(rest))),
-            nodes: from_fn(|_| u64::from_le_bytes(take(rest))),
-            children: from_fn(|_| u64::from_le_bytes(take(rest))),
-            table: from_fn(|_| u64::from_le_bytes(take(rest))),
-            floats: from_fn(|_| f64::from_le_bytes(take(rest))),
-            trees: from_fn(|_| u32::from_le_bytes(take(rest))),
-            parents: from_fn(|_| u32::from_le_bytes(take(rest))),
-            count: u16::from_le_bytes(take(rest)),
-            tree_count: u16::from_le_bytes(take(rest)),
-            texts: take(rest),
-            host_focused: u8::from_le_bytes(take(rest)),
-        })
+        let mut state = Self::blank();
+        let (chunks, _) = bytes.as_chunks();
+        for (word, chunk) in state.0.words.iter_mut().zip(chunks) {
+            *word = u64::from_le_bytes(*chunk);
+        }
+        state
     }
 
-    /// The bytes of this state in memory, the last three of them 0.
+    /// The words of this state, each as eight bytes, the lowest first.
     pub fn to_bytes(&self) -> [u8; STATE_BYTES] {
-        let rest = &mut self.bytes();
-        take(rest)
-    }
-
-    /// Its bytes, field by field.
-    fn bytes(&self) -> impl Iterator<Item = u8> {
-        let s = &self.0;
-        let words = [&s.rows[..], &s.nodes, &s.children, &s.table];
-        let numbers = [&s.trees, &s.parents];
-        let words = words.into_iter().flatten().flat_map(|word| word.to_le_bytes());
-        let floats = s.floats.iter().flat_map(|float| float.to_le_bytes());
-        let numbers = numbers.into_iter().flatten().flat_map(|number| number.to_le_bytes());
-        let counts = [s.count, s.tree_count].into_iter().flat_map(u16::to_le_bytes);
-        words.chain(floats).chain(numbers).chain(counts).chain(s.texts).chain([s.host_focused])
+        let mut bytes = [0; STATE_BYTES];
+        let (chunks, _) = bytes.as_chunks_mut();
+        for (chunk, word) in chunks.iter_mut().zip(&self.0.words) {
+            *chunk = word.to_le_bytes();
+        }
+        bytes
     }
 }
-
-/// The next bytes, and 0 past the last.
-fn take<const N: usize>(bytes: &mut impl Iterator<Item = u8>) -> [u8; N] {
-    from_fn(|_| bytes.next().unwrap_or_default())
-}
-
-/// States are equal if all their fields are, floats by their bits: a 0 is not a -0.
-impl PartialEq for State {
-    fn eq(&self, other: &Self) -> bool {
-        let (s, o) = (&self.0, &other.0);
-        s.count == o.count
-            && s.tree_count == o.tree_count
-            && s.host_focused == o.host_focused
-            && s.rows == o.rows
-            && s.nodes == o.nodes
-            && s.children == o.children
-            && s.table == o.table
-            && s.trees == o.trees
-            && s.parents == o.parents
-            && s.texts == o.texts
-            && s.floats.iter().zip(&o.floats).all(|(x, y)| x.to_bits() == y.to_bits())
-    }
-}
-
-impl Eq for State {}
 
 impl fmt::Debug for State {
     fn fmt(&self, f: &mut fmt::Formatter<'_>) -> fmt::Result {

@@ -5,10 +5,10 @@ use Rattle.batchcheck.proofs.run.Statement.{statement}
 use Rattle.batchcheck.proofs.run.Tie as tie
 
 abbrev Inv-loop : tie.InvT-loop
-Inv-loop fd show chunk₀ text₀ roles₀ input₀ call₀ s₀ turns₀ chunk text roles input call s turns = 0 ≤ turns
+Inv-loop fd show chunk₀ text₀ roles₀ input₀ call₀ draft₀ state₀ turns₀ chunk text roles input call draft state turns = 0 ≤ turns
 
 abbrev μ-loop : tie.MeasureT-loop
-μ-loop fd show chunk₀ text₀ roles₀ input₀ call₀ s₀ turns₀ chunk text roles input call s turns = turns
+μ-loop fd show chunk₀ text₀ roles₀ input₀ call₀ draft₀ state₀ turns₀ chunk text roles input call draft state turns = turns
 
 large-buffer-requires : tie.Need-large-buffer-requires Inv-loop μ-loop
 large-buffer-requires c κs = search needs
@@ -24,6 +24,9 @@ blank-requires c κs = search needs
 
 blank-requires-2 : tie.Need-blank-requires-2 Inv-loop μ-loop
 blank-requires-2 c κs = search needs
+
+blank-requires-3 : tie.Need-blank-requires-3 Inv-loop μ-loop
+blank-requires-3 c κs = search needs
 
 loop-holds : tie.Need-loop-holds Inv-loop μ-loop
 loop-holds c = search needs
@@ -75,6 +78,7 @@ run-spec =
     of-requires
     blank-requires
     blank-requires-2
+    blank-requires-3
     loop-holds
     next-requires
     at-end-requires

@@ -4,18 +4,6 @@ use borrow.Author.Needs.{needs}
 use Rattle.state_array.proofs.bounds_at.Statement.{statement}
 use Rattle.state_array.proofs.bounds_at.Tie as tie
 
-float-at-requires : tie.Need-float-at-requires
-float-at-requires c κs = search needs
-
-float-at-requires-2 : tie.Need-float-at-requires-2
-float-at-requires-2 c κs = search needs
-
-float-at-requires-3 : tie.Need-float-at-requires-3
-float-at-requires-3 c κs = search needs
-
-float-at-requires-4 : tie.Need-float-at-requires-4
-float-at-requires-4 c κs = search needs
-
 returns : tie.Need-returns
 unfolding boundsIn
 returns c = cc
@@ -24,8 +12,8 @@ pub bounds-at-spec : {M : Type 1} → statement M
 bounds-at-spec =
     tie.close
     (tie.spec
-    float-at-requires
-    float-at-requires-2
-    float-at-requires-3
-    float-at-requires-4
+    (λ c κs. search needs)
+    (λ c κs. search needs)
+    (λ c κs. search needs)
+    (λ c κs. search needs)
     returns)

@@ -5,15 +5,6 @@ use borrow.Author.Needs.{needs}
 use Rattle.state_array.proofs.child_at.Statement.{statement}
 use Rattle.state_array.proofs.child_at.Tie as tie
 
-add-result : tie.Need-add-result
-add-result c = search needs
-
-mul-result : tie.Need-mul-result
-mul-result c = search needs
-
-element-copy-out-result : tie.Need-element-copy-out-result
-element-copy-out-result c = search needs
-
 returns : tie.Need-returns
 unfolding child
 returns c = rw (lt-ltb (c .before .before .args .j) 512 (c .before .if1 .taken))
@@ -24,4 +15,4 @@ returns-2 c = rw (le-ltb (c .before .args .j) 512 (c .if1 .left))
 
 pub child-at-spec : {M : Type 1} → statement M
 child-at-spec =
-    tie.close (tie.spec add-result mul-result element-copy-out-result returns returns-2)
+    tie.close (tie.spec (λ c. search needs) (λ c. search needs) (λ c. search needs) returns returns-2)

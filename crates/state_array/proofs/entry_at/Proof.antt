@@ -6,21 +6,6 @@ use borrow.Author.Needs.{needs}
 use Rattle.state_array.proofs.entry_at.Statement.{statement}
 use Rattle.state_array.proofs.entry_at.Tie as tie
 
-mul-result : tie.Need-mul-result
-mul-result c = search needs
-
-add-result : tie.Need-add-result
-add-result c = search needs
-
-add-result-2 : tie.Need-add-result-2
-add-result-2 c = search needs
-
-mul-result-2 : tie.Need-mul-result-2
-mul-result-2 c = search needs
-
-element-copy-out-result : tie.Need-element-copy-out-result
-element-copy-out-result c = search needs
-
 returns : tie.Need-returns
 unfolding entry _&&_
 returns c = let a = c .before .before .args in rw (lt-ltb (a .j) 5 (c .before .before .pre), lt-ltb (a .k) 32 (c .before .if1 .taken))
@@ -33,10 +18,10 @@ pub entry-at-spec : {M : Type 1} → statement M
 entry-at-spec =
     tie.close
     (tie.spec
-    mul-result
-    add-result
-    add-result-2
-    mul-result-2
-    element-copy-out-result
+    (λ c. search needs)
+    (λ c. search needs)
+    (λ c. search needs)
+    (λ c. search needs)
+    (λ c. search needs)
     returns
     returns-2)

@@ -9,21 +9,6 @@ returns : tie.Need-returns
 unfolding labelByte
 returns c = rw (le-ltb (c .before .args .j) 32 (c .if1 .taken))
 
-add-word-at : tie.Need-add-word-at
-add-word-at c = search needs
-
-word-at-requires : tie.Need-word-at-requires
-word-at-requires c κs = search needs
-
-mul-byte : tie.Need-mul-byte
-mul-byte c = search needs
-
-shr-byte : tie.Need-shr-byte
-shr-byte c = search needs
-
-cast-result : tie.Need-cast-result
-cast-result c = search needs
-
 returns-2 : tie.Need-returns-2
 unfolding labelByte
 returns-2 c = rw (lt-ltb (c .before .before .args .j) 32 (c .before .if1 .left), c .word-at .ensures)
@@ -31,4 +16,4 @@ returns-2 c = rw (lt-ltb (c .before .before .args .j) 32 (c .before .if1 .left),
 pub label-byte-spec : {M : Type 1} → statement M
 label-byte-spec =
     tie.close
-    (tie.spec returns add-word-at word-at-requires mul-byte shr-byte cast-result returns-2)
+    (tie.spec returns (λ c. search needs) (λ c κs. search needs) (λ c. search needs) (λ c. search needs) (λ c. search needs) returns-2)

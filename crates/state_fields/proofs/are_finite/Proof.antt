@@ -28,12 +28,6 @@ add-word-at c = omega arith
 add-word-at-2 : tie.Need-add-word-at-2 Inv-loop μ-loop
 add-word-at-2 c = omega arith
 
-word-at-requires : tie.Need-word-at-requires Inv-loop μ-loop
-word-at-requires c κs = search needs
-
-finite-bits-requires : tie.Need-finite-bits-requires Inv-loop μ-loop
-finite-bits-requires c κs = search needs
-
 returns : tie.Need-returns Inv-loop μ-loop
 returns c =
     sym
@@ -65,8 +59,8 @@ are-finite-spec =
     loop-holds
     add-word-at
     add-word-at-2
-    word-at-requires
-    finite-bits-requires
+    (λ c κs. search needs)
+    (λ c κs. search needs)
     returns
     add-k
     loop-less

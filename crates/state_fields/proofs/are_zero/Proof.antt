@@ -27,9 +27,6 @@ add-word-at c = omega arith
 add-word-at-2 : tie.Need-add-word-at-2 Inv-loop μ-loop
 add-word-at-2 c = omega arith
 
-word-at-requires : tie.Need-word-at-requires Inv-loop μ-loop
-word-at-requires c κs = search needs
-
 returns : tie.Need-returns Inv-loop μ-loop
 returns c = sym (all-below-fails _ _ _ (omega arith) (word-zero _ _ (c .before .word-at .ok) (c .before .word-at .ensures) ∙ ne-eqb _ 0 (c .if1 .taken)))
 
@@ -54,7 +51,7 @@ are-zero-spec =
     loop-holds
     add-word-at
     add-word-at-2
-    word-at-requires
+    (λ c κs. search needs)
     returns
     add-k
     loop-less

@@ -20,14 +20,8 @@ Inv-loop state n i₀ i = (n ≡ slotsOf state) × (i ≤ n) × (allBelow i (λ 
 abbrev μ-loop : tie.MeasureT-loop
 μ-loop state n i₀ i = n - i
 
-slots-requires : tie.Need-slots-requires Inv-loop μ-loop
-slots-requires c κs = search needs
-
 loop-holds : tie.Need-loop-holds Inv-loop μ-loop
 loop-holds c = (c .slots .ensures, omega arith, all-below-none _)
-
-fields-ok-at-requires : tie.Need-fields-ok-at-requires Inv-loop μ-loop
-fields-ok-at-requires c κs = search needs
 
 returns : tie.Need-returns Inv-loop μ-loop
 returns c = sym (fields-indexed _ ∙ all-below-fails _ _ _ (omega arith) (call-false (c .before .fields-ok-at .ensures) (c .if1 .taken)))
@@ -52,9 +46,9 @@ fields-are-ok-spec =
     (tie.spec
     Inv-loop
     μ-loop
-    slots-requires
+    (λ c κs. search needs)
     loop-holds
-    fields-ok-at-requires
+    (λ c κs. search needs)
     returns
     add-i
     loop-less

@@ -7,12 +7,6 @@ use borrow.Author.Needs.{needs}
 use Rattle.state_focus.proofs.effective_focus.Statement.{statement}
 use Rattle.state_focus.proofs.effective_focus.Tie as tie
 
-tree-of-requires : tie.Need-tree-of-requires
-tree-of-requires c κs = search needs
-
-enum-known-e : tie.Need-enum-known-e
-enum-known-e c = search needs
-
 enum-told : tie.Need-enum-told
 enum-told c = search needs
 
@@ -21,9 +15,6 @@ unfolding foundOf
 returns c =
     let a = c .before .before .before .args in
     sym (effective-none (now (a .state)) _ (c .before .before .tree-of .ensures) (c .enum-told .given .1))
-
-through-grafts-requires : tie.Need-through-grafts-requires
-through-grafts-requires c κs = search needs
 
 returns-2 : tie.Need-returns-2
 unfolding foundOf
@@ -35,4 +26,4 @@ returns-2 c =
 pub effective-focus-spec : {M : Type 1} → statement M
 effective-focus-spec =
     tie.close
-    (tie.spec tree-of-requires enum-known-e enum-told returns through-grafts-requires returns-2)
+    (tie.spec (λ c κs. search needs) (λ c. search needs) enum-told returns (λ c κs. search needs) returns-2)

@@ -7,18 +7,9 @@ use borrow.Author.Needs.{needs}
 use Rattle.state_focus.proofs.focus.Statement.{statement}
 use Rattle.state_focus.proofs.focus.Tie as tie
 
-host-requires : tie.Need-host-requires
-host-requires c κs = search needs
-
 returns : tie.Need-returns
 unfolding foundOf
 returns c = sym (unfocused (now (c .before .before .args .state)) (sym (c .before .host .ensures) ∙ c .if1 .taken))
-
-effective-focus-requires : tie.Need-effective-focus-requires
-effective-focus-requires c κs = search needs
-
-enum-known-x : tie.Need-enum-known-x
-enum-known-x c = search needs
 
 enum-told : tie.Need-enum-told
 enum-told c = search needs
@@ -28,9 +19,6 @@ unfolding foundOf
 returns-2 c =
     let h = c .before .before .before in
     sym (focus-none (now (h .before .before .args .state)) _ (c .before .before .effective-focus .ensures) (rw (h .before .host .ensures) at (h .if1 .left)) (c .enum-told .given .1))
-
-or-active-descendant-requires : tie.Need-or-active-descendant-requires
-or-active-descendant-requires c κs = search needs
 
 returns-3 : tie.Need-returns-3
 unfolding foundOf
@@ -43,11 +31,11 @@ pub focus-spec : {M : Type 1} → statement M
 focus-spec =
     tie.close
     (tie.spec
-    host-requires
+    (λ c κs. search needs)
     returns
-    effective-focus-requires
-    enum-known-x
+    (λ c κs. search needs)
+    (λ c. search needs)
     enum-told
     returns-2
-    or-active-descendant-requires
+    (λ c κs. search needs)
     returns-3)

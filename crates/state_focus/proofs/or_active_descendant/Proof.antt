@@ -7,30 +7,15 @@ use borrow.Author.Needs.{needs}
 use Rattle.state_focus.proofs.or_active_descendant.Statement.{statement}
 use Rattle.state_focus.proofs.or_active_descendant.Tie as tie
 
-slots-requires : tie.Need-slots-requires
-slots-requires c κs = search needs
-
-find-in-requires : tie.Need-find-in-requires
-find-in-requires c κs = search needs
-
 returns : tie.Need-returns
 returns c =
     let n = c .before .before .slots .ensures in let a = c .before .before .before .args in
     sym (active-absent (now (a .state)) (a .x) _ (c .before .find-in .ensures) (rw n at (c .if1 .taken)))
 
-shape-at-requires : tie.Need-shape-at-requires
-shape-at-requires c κs = search needs
-
 returns-2 : tie.Need-returns-2
 returns-2 c =
     let n = c .before .before .before .before .before .slots .ensures in let a = c .before .before .before .before .before .before .args in
     sym (active-none (now (a .state)) (a .x) _ (c .before .before .before .before .find-in .ensures) (rw n at (c .before .before .before .if1 .left)) _ (c .before .before .shape-at .ensures) (ne-eqb _ _ (c .if2 .taken)))
-
-active-descendant-at-requires : tie.Need-active-descendant-at-requires
-active-descendant-at-requires c κs = search needs
-
-find-in-requires-2 : tie.Need-find-in-requires-2
-find-in-requires-2 c κs = search needs
 
 returns-3 : tie.Need-returns-3
 returns-3 c =
@@ -52,12 +37,12 @@ pub or-active-descendant-spec : {M : Type 1} → statement M
 or-active-descendant-spec =
     tie.close
     (tie.spec
-    slots-requires
-    find-in-requires
+    (λ c κs. search needs)
+    (λ c κs. search needs)
     returns
-    shape-at-requires
+    (λ c κs. search needs)
     returns-2
-    active-descendant-at-requires
-    find-in-requires-2
+    (λ c κs. search needs)
+    (λ c κs. search needs)
     returns-3
     returns-4)

@@ -19,17 +19,8 @@ Inv-loop state n at₀ left₀ at left =
 abbrev μ-loop : tie.MeasureT-loop
 μ-loop state n at₀ left₀ at left = left
 
-slots-requires : tie.Need-slots-requires Inv-loop μ-loop
-slots-requires c κs = search needs
-
-trees-requires : tie.Need-trees-requires Inv-loop μ-loop
-trees-requires c κs = search needs
-
 loop-holds : tie.Need-loop-holds Inv-loop μ-loop
 loop-holds c = (c .before .slots .ensures, rw (c .trees .ensures) refl)
-
-find-in-requires : tie.Need-find-in-requires Inv-loop μ-loop
-find-in-requires c κs = search needs
 
 returns : tie.Need-returns Inv-loop μ-loop
 unfolding foundOf
@@ -39,12 +30,6 @@ returns c =
     let s = now (a .state) in
     sym (through-end s (l .at) (l .left) (graft-absent s (l .at) _ (c .before .find-in .ensures) (rw (l .inv .0) at (c .if1 .taken))))
     ∙ l .inv .1
-
-shape-at-requires : tie.Need-shape-at-requires Inv-loop μ-loop
-shape-at-requires c κs = search needs
-
-is-graft-requires : tie.Need-is-graft-requires Inv-loop μ-loop
-is-graft-requires c κs = search needs
 
 returns-2 : tie.Need-returns-2 Inv-loop μ-loop
 unfolding foundOf
@@ -56,12 +41,6 @@ returns-2 c =
     graft-none s (l .at) _ (c .before .before .before .before .find-in .ensures) (rw (l .inv .0) at (c .before .before .before .if1 .left)) _ (c .before .before .shape-at .ensures)
     (call-false (c .before .is-graft .ensures) (c .if2 .taken)) in
     sym (through-end s (l .at) (l .left) grafts) ∙ l .inv .1
-
-tree-of-requires : tie.Need-tree-of-requires Inv-loop μ-loop
-tree-of-requires c κs = search needs
-
-enum-known-e : tie.Need-enum-known-e Inv-loop μ-loop
-enum-known-e c = search needs
 
 enum-told : tie.Need-enum-told Inv-loop μ-loop
 enum-told c = search needs
@@ -120,16 +99,16 @@ through-grafts-spec =
     (tie.spec
     Inv-loop
     μ-loop
-    slots-requires
-    trees-requires
+    (λ c κs. search needs)
+    (λ c κs. search needs)
     loop-holds
-    find-in-requires
+    (λ c κs. search needs)
     returns
-    shape-at-requires
-    is-graft-requires
+    (λ c κs. search needs)
+    (λ c κs. search needs)
     returns-2
-    tree-of-requires
-    enum-known-e
+    (λ c κs. search needs)
+    (λ c. search needs)
     enum-told
     returns-3
     returns-4

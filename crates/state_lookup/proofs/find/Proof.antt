@@ -4,11 +4,8 @@ use borrow.Author.Needs.{needs}
 use Rattle.state_lookup.proofs.find.Statement.{statement}
 use Rattle.state_lookup.proofs.find.Tie as tie
 
-slot-of-requires : tie.Need-slot-of-requires
-slot-of-requires c κs = search needs
-
 returns : tie.Need-returns
 returns c = slot-of-place _ (c .before .args .id) _ (c .before .pre) (c .slot-of .ensures)
 
 pub find-spec : {M : Type 1} → statement M
-find-spec = tie.close (tie.spec slot-of-requires returns)
+find-spec = tie.close (tie.spec (λ c κs. search needs) returns)

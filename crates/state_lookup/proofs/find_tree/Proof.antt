@@ -17,17 +17,8 @@ Inv-loop state id m k₀ k = (m ≡ treesOf state) × (k ≤ m) × ((i : ℕ) �
 abbrev μ-loop : tie.MeasureT-loop
 μ-loop state id m k₀ k = m - k
 
-trees-requires : tie.Need-trees-requires Inv-loop μ-loop
-trees-requires c κs = search needs
-
 loop-holds : tie.Need-loop-holds Inv-loop μ-loop
 loop-holds c = (c .trees .ensures, omega arith, λ i h. absurd (omega arith))
-
-tree-at-requires : tie.Need-tree-at-requires Inv-loop μ-loop
-tree-at-requires c κs = search needs
-
-same-tree-requires : tie.Need-same-tree-requires Inv-loop μ-loop
-same-tree-requires c κs = search needs
 
 returns : tie.Need-returns Inv-loop μ-loop
 returns c =
@@ -55,10 +46,10 @@ find-tree-spec =
     (tie.spec
     Inv-loop
     μ-loop
-    trees-requires
+    (λ c κs. search needs)
     loop-holds
-    tree-at-requires
-    same-tree-requires
+    (λ c κs. search needs)
+    (λ c κs. search needs)
     returns
     add-k
     loop-less

@@ -21,26 +21,14 @@ Inv-loop state n i₀ i = (n ≡ slotsOf state) × (i ≤ n - 1) × (allBelow i 
 abbrev μ-loop : tie.MeasureT-loop
 μ-loop state n i₀ i = n - i
 
-slots-requires : tie.Need-slots-requires Inv-loop μ-loop
-slots-requires c κs = search needs
-
 loop-holds : tie.Need-loop-holds Inv-loop μ-loop
 loop-holds c = (c .slots .ensures, omega arith, all-below-none _)
 
 add-loop : tie.Need-add-loop Inv-loop μ-loop
 add-loop c = omega arith
 
-id-at-requires : tie.Need-id-at-requires Inv-loop μ-loop
-id-at-requires c κs = search needs
-
 add-id-at : tie.Need-add-id-at Inv-loop μ-loop
 add-id-at c = omega arith
-
-id-at-requires-2 : tie.Need-id-at-requires-2 Inv-loop μ-loop
-id-at-requires-2 c κs = search needs
-
-is-before-requires : tie.Need-is-before-requires Inv-loop μ-loop
-is-before-requires c κs = search needs
 
 returns : tie.Need-returns Inv-loop μ-loop
 unfolding ascend
@@ -75,13 +63,13 @@ ordered-spec =
     (tie.spec
     Inv-loop
     μ-loop
-    slots-requires
+    (λ c κs. search needs)
     loop-holds
     add-loop
-    id-at-requires
+    (λ c κs. search needs)
     add-id-at
-    id-at-requires-2
-    is-before-requires
+    (λ c κs. search needs)
+    (λ c κs. search needs)
     returns
     add-i
     loop-less

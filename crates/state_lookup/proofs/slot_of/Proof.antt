@@ -23,9 +23,6 @@ Inv-loop state id n low₀ high₀ low high =
 abbrev μ-loop : tie.MeasureT-loop
 μ-loop state id n low₀ high₀ low high = high - low
 
-slots-requires : tie.Need-slots-requires Inv-loop μ-loop
-slots-requires c κs = search needs
-
 loop-holds : tie.Need-loop-holds Inv-loop μ-loop
 loop-holds c = (c .slots .ensures, omega arith, omega arith, λ up k h. absurd (omega arith), λ up k h l. absurd (omega arith))
 
@@ -34,12 +31,6 @@ sub-middle c = omega arith
 
 add-middle : tie.Need-add-middle Inv-loop μ-loop
 add-middle c = omega arith
-
-id-at-requires : tie.Need-id-at-requires Inv-loop μ-loop
-id-at-requires c κs = search needs
-
-is-before-requires : tie.Need-is-before-requires Inv-loop μ-loop
-is-before-requires c κs = search needs
 
 add-low : tie.Need-add-low Inv-loop μ-loop
 add-low c = omega arith
@@ -72,9 +63,6 @@ loop-again-2 c =
       λ up. after-middle _ _ up (a .id) _ (ap (λ x. before x (a .id)) (sym (c .before .before .id-at .ensures)) ∙ sym (c .before .is-before .ensures) ∙ c .if1 .left),
     )
 
-stands-requires : tie.Need-stands-requires Inv-loop μ-loop
-stands-requires c κs = search needs
-
 returns : tie.Need-returns Inv-loop μ-loop
 returns c =
     let a = c .before .before .before .before .before .args in
@@ -94,17 +82,17 @@ slot-of-spec =
     (tie.spec
     Inv-loop
     μ-loop
-    slots-requires
+    (λ c κs. search needs)
     loop-holds
     sub-middle
     add-middle
-    id-at-requires
-    is-before-requires
+    (λ c κs. search needs)
+    (λ c κs. search needs)
     add-low
     loop-less
     loop-again
     loop-less-2
     loop-again-2
-    stands-requires
+    (λ c κs. search needs)
     returns
     returns-2)

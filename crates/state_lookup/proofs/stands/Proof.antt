@@ -12,15 +12,9 @@ returns : tie.Need-returns
 unfolding inSlot _&&_
 returns c = rw (le-ltb (c .before .args .i) (c .before .args .n) (c .if1 .taken))
 
-id-at-requires : tie.Need-id-at-requires
-id-at-requires c κs = search needs
-
-same-id-requires : tie.Need-same-id-requires
-same-id-requires c κs = search needs
-
 returns-2 : tie.Need-returns-2
 unfolding inSlot _&&_
 returns-2 c = let a = c .before .before .before .args in rw (lt-ltb (a .i) (a .n) (c .before .before .if1 .left)) (c .same-id .ensures ∙ ap (sameId (a .id)) (c .before .id-at .ensures))
 
 pub stands-spec : {M : Type 1} → statement M
-stands-spec = tie.close (tie.spec returns id-at-requires same-id-requires returns-2)
+stands-spec = tie.close (tie.spec returns (λ c κs. search needs) (λ c κs. search needs) returns-2)

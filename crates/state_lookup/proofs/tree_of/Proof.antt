@@ -8,18 +8,9 @@ use borrow.Author.Needs.{needs}
 use Rattle.state_lookup.proofs.tree_of.Statement.{statement}
 use Rattle.state_lookup.proofs.tree_of.Tie as tie
 
-find-tree-requires : tie.Need-find-tree-requires
-find-tree-requires c κs = search needs
-
-trees-requires : tie.Need-trees-requires
-trees-requires c κs = search needs
-
 returns : tie.Need-returns
 unfolding endsOf
 returns c = sym (tree-absent _ (c .before .before .before .args .id) _ (c .before .before .find-tree .ensures) (omega arith))
-
-tree-at-requires : tie.Need-tree-at-requires
-tree-at-requires c κs = search needs
 
 returns-2 : tie.Need-returns-2
 unfolding endsOf
@@ -27,9 +18,6 @@ returns-2 c =
     sym
     (tree-unborn _ (c .before .before .before .before .before .before .args .id) _ (c .before .before .before .before .before .find-tree .ensures) (omega arith)
     (ap (λ (t : TreeRow). t .exists) (sym (c .before .before .tree-at .ensures)) ∙ c .if2 .taken))
-
-cast-t10 : tie.Need-cast-t10
-cast-t10 c = search needs
 
 returns-3 : tie.Need-returns-3
 unfolding endsOf
@@ -44,10 +32,10 @@ pub tree-of-spec : {M : Type 1} → statement M
 tree-of-spec =
     tie.close
     (tie.spec
-    find-tree-requires
-    trees-requires
+    (λ c κs. search needs)
+    (λ c κs. search needs)
     returns
-    tree-at-requires
+    (λ c κs. search needs)
     returns-2
-    cast-t10
+    (λ c. search needs)
     returns-3)

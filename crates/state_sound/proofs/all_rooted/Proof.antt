@@ -18,9 +18,6 @@ Inv-loop state m k₀ k = (m ≡ treesOf state) × (k ≤ m) × (allRooted state
 abbrev μ-loop : tie.MeasureT-loop
 μ-loop state m k₀ k = m - k
 
-trees-requires : tie.Need-trees-requires Inv-loop μ-loop
-trees-requires c κs = search needs
-
 loop-holds : tie.Need-loop-holds Inv-loop μ-loop
 unfolding allRooted
 loop-holds c = (c .trees .ensures, omega arith, all-below-none _)
@@ -52,7 +49,7 @@ all-rooted-spec =
     (tie.spec
     Inv-loop
     μ-loop
-    trees-requires
+    (λ c κs. search needs)
     loop-holds
     is-rooted-requires
     returns

@@ -6,23 +6,11 @@ use borrow.Author.Needs.{needs}
 use Rattle.state_sound.proofs.focus_is_present.Statement.{statement}
 use Rattle.state_sound.proofs.focus_is_present.Tie as tie
 
-effective-focus-requires : tie.Need-effective-focus-requires
-effective-focus-requires c κs = search needs
-
-enum-known-x : tie.Need-enum-known-x
-enum-known-x c = search needs
-
 enum-told : tie.Need-enum-told
 enum-told c = search needs
 
 returns : tie.Need-returns
 returns c = sym (focus-nowhere (now (c .before .before .before .args .state)) _ (c .before .before .effective-focus .ensures) (c .enum-told .given .1))
-
-find-in-requires : tie.Need-find-in-requires
-find-in-requires c κs = search needs
-
-slots-requires : tie.Need-slots-requires
-slots-requires c κs = search needs
 
 returns-2 : tie.Need-returns-2
 returns-2 c =
@@ -33,10 +21,10 @@ pub focus-is-present-spec : {M : Type 1} → statement M
 focus-is-present-spec =
     tie.close
     (tie.spec
-    effective-focus-requires
-    enum-known-x
+    (λ c κs. search needs)
+    (λ c. search needs)
     enum-told
     returns
-    find-in-requires
-    slots-requires
+    (λ c κs. search needs)
+    (λ c κs. search needs)
     returns-2)

@@ -20,14 +20,8 @@ Inv-loop state n i₀ i = (n ≡ slotsOf state) × (i ≤ n) × (allBelow i (bar
 abbrev μ-loop : tie.MeasureT-loop
 μ-loop state n i₀ i = n - i
 
-slots-requires : tie.Need-slots-requires Inv-loop μ-loop
-slots-requires c κs = search needs
-
 loop-holds : tie.Need-loop-holds Inv-loop μ-loop
 loop-holds c = (c .slots .ensures, omega arith, all-below-none _)
-
-is-bare-requires : tie.Need-is-bare-requires Inv-loop μ-loop
-is-bare-requires c κs = search needs
 
 returns : tie.Need-returns Inv-loop μ-loop
 returns c = sym (all-bare _ ∙ all-below-fails _ _ _ (omega arith) (call-false (c .before .is-bare .ensures) (c .if1 .taken)))
@@ -50,9 +44,9 @@ grafts-are-bare-spec =
     (tie.spec
     Inv-loop
     μ-loop
-    slots-requires
+    (λ c κs. search needs)
     loop-holds
-    is-bare-requires
+    (λ c κs. search needs)
     returns
     add-i
     loop-less

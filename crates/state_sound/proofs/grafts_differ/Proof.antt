@@ -22,20 +22,11 @@ Inv-loop state n seen₀ i₀ seen i = (n ≡ slotsOf state) × (i ≤ n) × (le
 abbrev μ-loop : tie.MeasureT-loop
 μ-loop state n seen₀ i₀ seen i = n - i
 
-slots-requires : tie.Need-slots-requires Inv-loop μ-loop
-slots-requires c κs = search needs
-
 loop-holds : tie.Need-loop-holds Inv-loop μ-loop
 loop-holds c = (c .slots .ensures, omega arith, length-replicate {A = ℕ} 4096 0, all-below-none _, λ i l. absurd (omega arith))
 
-shape-at-requires : tie.Need-shape-at-requires Inv-loop μ-loop
-shape-at-requires c κs = search needs
-
 add-i : tie.Need-add-i Inv-loop μ-loop
 add-i c = omega arith
-
-is-graft-requires : tie.Need-is-graft-requires Inv-loop μ-loop
-is-graft-requires c κs = search needs
 
 loop-less : tie.Need-loop-less Inv-loop μ-loop
 loop-less c = omega arith
@@ -78,11 +69,11 @@ grafts-differ-spec =
     (tie.spec
     Inv-loop
     μ-loop
-    slots-requires
+    (λ c κs. search needs)
     loop-holds
-    shape-at-requires
+    (λ c κs. search needs)
     add-i
-    is-graft-requires
+    (λ c κs. search needs)
     loop-less
     loop-again
     is-new-requires

@@ -20,17 +20,8 @@ Inv-loop state m k₀ k = (m ≡ treesOf state) × (k ≤ m) × (allBelow k (λ 
 abbrev μ-loop : tie.MeasureT-loop
 μ-loop state m k₀ k = m - k
 
-trees-requires : tie.Need-trees-requires Inv-loop μ-loop
-trees-requires c κs = search needs
-
 loop-holds : tie.Need-loop-holds Inv-loop μ-loop
 loop-holds c = (c .trees .ensures, omega arith, all-below-none _)
-
-tree-at-requires : tie.Need-tree-at-requires Inv-loop μ-loop
-tree-at-requires c κs = search needs
-
-find-tree-requires : tie.Need-find-tree-requires Inv-loop μ-loop
-find-tree-requires c κs = search needs
 
 returns : tie.Need-returns Inv-loop μ-loop
 returns c = let s = now (c .before .before .before .before .before .before .args .state) in
@@ -59,10 +50,10 @@ ids-differ-spec =
     (tie.spec
     Inv-loop
     μ-loop
-    trees-requires
+    (λ c κs. search needs)
     loop-holds
-    tree-at-requires
-    find-tree-requires
+    (λ c κs. search needs)
+    (λ c κs. search needs)
     returns
     add-k
     loop-less

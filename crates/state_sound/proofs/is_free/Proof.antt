@@ -20,9 +20,6 @@ loop-holds : tie.Need-loop-holds Inv-loop μ-loop
 unfolding noneGrafts
 loop-holds c = (omega arith, all-below-none _)
 
-is-graft-of-requires : tie.Need-is-graft-of-requires Inv-loop μ-loop
-is-graft-of-requires c κs = search needs
-
 returns : tie.Need-returns Inv-loop μ-loop
 unfolding noneGrafts
 returns c = sym (all-below-fails _ _ _ (omega arith) (ap not (sym (c .before .is-graft-of .ensures) ∙ c .if1 .taken)))
@@ -48,7 +45,7 @@ is-free-spec =
     Inv-loop
     μ-loop
     loop-holds
-    is-graft-of-requires
+    (λ c κs. search needs)
     returns
     add-i
     loop-less

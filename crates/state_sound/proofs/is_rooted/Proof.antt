@@ -7,23 +7,8 @@ use borrow.Author.Needs.{needs}
 use Rattle.state_sound.proofs.is_rooted.Statement.{statement}
 use Rattle.state_sound.proofs.is_rooted.Tie as tie
 
-slots-requires : tie.Need-slots-requires
-slots-requires c κs = search needs
-
-tree-at-requires : tie.Need-tree-at-requires
-tree-at-requires c κs = search needs
-
 returns : tie.Need-returns
 returns c = let a = c .before .before .before .before .args in sym (rooted-unborn (now (a .state)) (a .k) (rw (c .before .before .tree-at .ensures) at (c .if1 .taken)))
-
-cast-number : tie.Need-cast-number
-cast-number c = search needs
-
-slot-of-requires : tie.Need-slot-of-requires
-slot-of-requires c κs = search needs
-
-is-free-requires : tie.Need-is-free-requires
-is-free-requires c κs = search needs
 
 returns-2 : tie.Need-returns-2
 unfolding _&&_
@@ -36,4 +21,4 @@ returns-2 c = let n = c .before .before .before .before .before .before .slots .
 pub is-rooted-spec : {M : Type 1} → statement M
 is-rooted-spec =
     tie.close
-    (tie.spec slots-requires tree-at-requires returns cast-number slot-of-requires is-free-requires returns-2)
+    (tie.spec (λ c κs. search needs) (λ c κs. search needs) returns (λ c. search needs) (λ c κs. search needs) (λ c κs. search needs) returns-2)

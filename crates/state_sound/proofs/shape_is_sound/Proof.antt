@@ -9,9 +9,6 @@ use borrow.Author.Needs.{needs}
 use Rattle.state_sound.proofs.shape_is_sound.Statement.{statement}
 use Rattle.state_sound.proofs.shape_is_sound.Tie as tie
 
-ordered-requires : tie.Need-ordered-requires
-ordered-requires c κs = search needs
-
 returns : tie.Need-returns
 returns c = sym (shape-unordered (now (c .before .before .args .state)) (call-false (c .before .ordered .ensures) (c .if1 .taken)))
 
@@ -29,4 +26,4 @@ returns-2 c =
 
 pub shape-is-sound-spec : {M : Type 1} → statement M
 shape-is-sound-spec =
-    tie.close (tie.spec ordered-requires returns trees-are-sound-requires is-linked-requires returns-2)
+    tie.close (tie.spec (λ c κs. search needs) returns trees-are-sound-requires is-linked-requires returns-2)

@@ -7,26 +7,11 @@ use borrow.Author.Needs.{needs}
 use Rattle.state_sound.proofs.sound.Statement.{statement}
 use Rattle.state_sound.proofs.sound.Tie as tie
 
-slots-requires : tie.Need-slots-requires
-slots-requires c κs = search needs
-
 returns : tie.Need-returns
 returns c = sym (sound-crowded (now (c .before .before .args .state)) (rw (c .before .slots .ensures) at (c .if1 .taken)))
 
-trees-requires : tie.Need-trees-requires
-trees-requires c κs = search needs
-
 returns-2 : tie.Need-returns-2
 returns-2 c = sym (sound-overgrown (now (c .before .before .before .before .args .state)) (rw (c .before .trees .ensures) at (c .if2 .taken)))
-
-shape-is-sound-requires : tie.Need-shape-is-sound-requires
-shape-is-sound-requires c κs = search needs
-
-fields-are-ok-requires : tie.Need-fields-are-ok-requires
-fields-are-ok-requires c κs = search needs
-
-focus-is-present-requires : tie.Need-focus-is-present-requires
-focus-is-present-requires c κs = search needs
 
 returns-3 : tie.Need-returns-3
 unfolding _&&_
@@ -39,11 +24,11 @@ pub sound-spec : {M : Type 1} → statement M
 sound-spec =
     tie.close
     (tie.spec
-    slots-requires
+    (λ c κs. search needs)
     returns
-    trees-requires
+    (λ c κs. search needs)
     returns-2
-    shape-is-sound-requires
-    fields-are-ok-requires
-    focus-is-present-requires
+    (λ c κs. search needs)
+    (λ c κs. search needs)
+    (λ c κs. search needs)
     returns-3)

@@ -21,23 +21,11 @@ Inv-loop state batch notes i at₀ room₀ at room =
 abbrev μ-loop : tie.MeasureT-loop
 μ-loop state batch notes i at₀ room₀ at room = room
 
-slots-requires : tie.Need-slots-requires Inv-loop μ-loop
-slots-requires c κs = search needs
-
 loop-holds : tie.Need-loop-holds Inv-loop μ-loop
 loop-holds c =
     let s = c .before .before in
     let a = s .args in
     (omega (arith, s .pre .1), λ scope fated h. rw (c .slots .ensures) (climb-start (now (a .state)) (now (a .batch)) scope (a .i) h))
-
-add-known : tie.Need-add-known Inv-loop μ-loop
-add-known c = search needs
-
-mul-known : tie.Need-mul-known Inv-loop μ-loop
-mul-known c = search needs
-
-element-copy-out-known : tie.Need-element-copy-out-known Inv-loop μ-loop
-element-copy-out-known c = search needs
 
 returns : tie.Need-returns Inv-loop μ-loop
 returns c =
@@ -47,21 +35,6 @@ returns c =
     let climb = l .inv .1 (a .scope) (s .pre .0) (s .pre .1) in
     memo-known (now (a .state)) (now (a .batch)) (a .scope) (now (a .notes)) (a .i) (s .pre .0) (l .at) (climb .there) (c .if1 .taken)
     ∙ climb-same (now (a .state)) (now (a .batch)) (a .scope) (a .i) (l .room) (l .at) climb
-
-add-at : tie.Need-add-at Inv-loop μ-loop
-add-at c = search needs
-
-mul-at : tie.Need-mul-at Inv-loop μ-loop
-mul-at c = search needs
-
-element-copy-out-at : tie.Need-element-copy-out-at Inv-loop μ-loop
-element-copy-out-at c = search needs
-
-sub-room : tie.Need-sub-room Inv-loop μ-loop
-sub-room c = search needs
-
-loop-less : tie.Need-loop-less Inv-loop μ-loop
-loop-less c = search needs
 
 loop-again : tie.Need-loop-again Inv-loop μ-loop
 loop-again c =
@@ -87,16 +60,16 @@ climbed-spec =
     (tie.spec
     Inv-loop
     μ-loop
-    slots-requires
+    (λ c κs. search needs)
     loop-holds
-    add-known
-    mul-known
-    element-copy-out-known
+    (λ c. search needs)
+    (λ c. search needs)
+    (λ c. search needs)
     returns
-    add-at
-    mul-at
-    element-copy-out-at
-    sub-room
-    loop-less
+    (λ c. search needs)
+    (λ c. search needs)
+    (λ c. search needs)
+    (λ c. search needs)
+    (λ c. search needs)
     loop-again
     returns-2)

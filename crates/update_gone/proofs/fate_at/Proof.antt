@@ -19,36 +19,6 @@ use borrow.Author.Needs.{needs}
 use Rattle.update_gone.proofs.fate_at.Statement.{statement}
 use Rattle.update_gone.proofs.fate_at.Tie as tie
 
-id-at-requires : tie.Need-id-at-requires
-id-at-requires c κs = search needs
-
-link-at-requires : tie.Need-link-at-requires
-link-at-requires c κs = search needs
-
-add-turn : tie.Need-add-turn
-add-turn c = search needs
-
-mul-turn : tie.Need-mul-turn
-mul-turn c = search needs
-
-element-copy-out-turn : tie.Need-element-copy-out-turn
-element-copy-out-turn c = search needs
-
-add-naming : tie.Need-add-naming
-add-naming c = search needs
-
-mul-naming : tie.Need-mul-naming
-mul-naming c = search needs
-
-element-copy-out-naming : tie.Need-element-copy-out-naming
-element-copy-out-naming c = search needs
-
-replaced-requires : tie.Need-replaced-requires
-replaced-requires c κs = search needs
-
-goes-if-requires : tie.Need-goes-if-requires
-goes-if-requires c κs = search needs
-
 returns : tie.Need-returns
 returns c =
     let s = c .before .before .before .before .before .before .before .before .before in
@@ -59,15 +29,6 @@ returns c =
     ∙ ap (λ (t : Bool). fateCode (goesIf t))
     ((rw (link .before .id-at .ensures) at (c .before .replaced .ensures)) (forest (now (a .state))) (asked (now (a .batch)) (a .scope)) (s .pre .0 .given .scoped) (turn-is (now (a .state)) (now (a .batch)) (a .scope) (now (a .notes)) (s .pre .0) (a .i) (s .pre .1)) (naming-is (now (a .state)) (now (a .batch)) (a .scope) (now (a .notes)) (s .pre .0) (a .i) (s .pre .1)))
     ∙ fate-top (forest (now (a .state))) (asked (now (a .batch)) (a .scope)) (idIn (now (a .state)) (a .i)) (linkIn (now (a .state)) (a .i)) (rw (link .link-at .ensures) at (c .before .before .if1 .taken)))
-
-add-slot : tie.Need-add-slot
-add-slot c = search needs
-
-mul-slot : tie.Need-mul-slot
-mul-slot c = search needs
-
-element-copy-out-slot : tie.Need-element-copy-out-slot
-element-copy-out-slot c = search needs
 
 -- the node has a parent
 linked : (c : tie.After-slot) → (let a = c .before .before .before .before .before .before .before .before .before .args in linkIn (now (a .state)) (a .i) .linked ≡ 0 → ⊥)
@@ -88,9 +49,6 @@ mul-parent-turn c = omega (arith, there (c .before .before .before))
 
 element-copy-out-parent-turn : tie.Need-element-copy-out-parent-turn
 element-copy-out-parent-turn c = omega (arith, there (c .before .before .before))
-
-fate-here-requires : tie.Need-fate-here-requires
-fate-here-requires c κs = search needs
 
 returns-2 : tie.Need-returns-2
 returns-2 c =
@@ -141,24 +99,24 @@ pub fate-at-spec : {M : Type 1} → statement M
 fate-at-spec =
     tie.close
     (tie.spec
-    id-at-requires
-    link-at-requires
-    add-turn
-    mul-turn
-    element-copy-out-turn
-    add-naming
-    mul-naming
-    element-copy-out-naming
-    replaced-requires
-    goes-if-requires
+    (λ c κs. search needs)
+    (λ c κs. search needs)
+    (λ c. search needs)
+    (λ c. search needs)
+    (λ c. search needs)
+    (λ c. search needs)
+    (λ c. search needs)
+    (λ c. search needs)
+    (λ c κs. search needs)
+    (λ c κs. search needs)
     returns
-    add-slot
-    mul-slot
-    element-copy-out-slot
+    (λ c. search needs)
+    (λ c. search needs)
+    (λ c. search needs)
     add-parent-turn
     mul-parent-turn
     element-copy-out-parent-turn
-    fate-here-requires
+    (λ c κs. search needs)
     returns-2
     returns-3
     fate-under-requires

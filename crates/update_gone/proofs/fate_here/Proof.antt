@@ -9,12 +9,6 @@ use borrow.Author.Needs.{needs}
 use Rattle.update_gone.proofs.fate_here.Statement.{statement}
 use Rattle.update_gone.proofs.fate_here.Tie as tie
 
-replaced-requires : tie.Need-replaced-requires
-replaced-requires c κs = search needs
-
-goes-if-requires : tie.Need-goes-if-requires
-goes-if-requires c κs = search needs
-
 returns : tie.Need-returns
 returns c =
     let a = c .before .before .before .before .before .args in
@@ -25,17 +19,11 @@ returns-2 c =
     let a = c .before .before .before .before .args in
     λ s b scoped turn naming parent. here-named s b (a .scope) scoped (a .x) (a .p) (c .before .if1 .left) (a .naming) naming (c .if2 .taken)
 
-goes-if-requires-2 : tie.Need-goes-if-requires-2
-goes-if-requires-2 c κs = search needs
-
 returns-3 : tie.Need-returns-3
 returns-3 c =
     let a = c .before .before .before .before .before .before .args in
     λ s b scoped turn naming parent. c .goes-if2 .ensures
     ∙ here-listed s b (a .scope) scoped (a .x) (a .p) (c .before .before .before .if1 .left) (a .naming) naming (c .before .before .if2 .left) (a .parent-turn) parent (a .turn) turn (c .before .if3 .taken)
-
-is-root-requires : tie.Need-is-root-requires
-is-root-requires c κs = search needs
 
 returns-4 : tie.Need-returns-4
 unfolding _&&_
@@ -55,12 +43,12 @@ pub fate-here-spec : {M : Type 1} → statement M
 fate-here-spec =
     tie.close
     (tie.spec
-    replaced-requires
-    goes-if-requires
+    (λ c κs. search needs)
+    (λ c κs. search needs)
     returns
     returns-2
-    goes-if-requires-2
+    (λ c κs. search needs)
     returns-3
-    is-root-requires
+    (λ c κs. search needs)
     returns-4
     returns-5)

@@ -22,15 +22,6 @@ returns c =
     let a = s .args in
     λ x apart. elsewhere-claimed _ _ x _ apart (claimed-is (now (a .state)) (now (a .batch)) (a .scope) (now (a .notes)) (s .pre .0) (a .slot) (s .pre .1) _ (c .before .claimed-from .ensures) ∙ lt-ltb _ _ (c .if1 .taken))
 
-add-turn : tie.Need-add-turn
-add-turn c = search needs
-
-mul-turn : tie.Need-mul-turn
-mul-turn c = search needs
-
-element-copy-out-turn : tie.Need-element-copy-out-turn
-element-copy-out-turn c = search needs
-
 returns-2 : tie.Need-returns-2
 returns-2 c =
     let s = c .before .before .before .before .before in
@@ -38,9 +29,6 @@ returns-2 c =
     λ x apart. elsewhere-unlisted _ _ x _ apart
     (claimed-is (now (a .state)) (now (a .batch)) (a .scope) (now (a .notes)) (s .pre .0) (a .slot) (s .pre .1) _ (c .before .before .before .claimed-from .ensures) ∙ le-ltb _ _ (c .before .before .if1 .left))
     _ (turn-at (now (a .state)) (now (a .batch)) (a .scope) (now (a .notes)) (s .pre .0) (a .slot) (s .pre .1)) (c .if2 .taken)
-
-same-graft-requires : tie.Need-same-graft-requires
-same-graft-requires c κs = search needs
 
 returns-3 : tie.Need-returns-3
 returns-3 c =
@@ -66,10 +54,10 @@ fate-under-spec =
     (tie.spec
     claimed-from-requires
     returns
-    add-turn
-    mul-turn
-    element-copy-out-turn
+    (λ c. search needs)
+    (λ c. search needs)
+    (λ c. search needs)
     returns-2
-    same-graft-requires
+    (λ c κs. search needs)
     returns-3
     returns-4)

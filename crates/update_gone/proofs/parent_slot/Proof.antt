@@ -8,19 +8,10 @@ use borrow.Author.Needs.{needs}
 use Rattle.update_gone.proofs.parent_slot.Statement.{statement}
 use Rattle.update_gone.proofs.parent_slot.Tie as tie
 
-slots-requires : tie.Need-slots-requires
-slots-requires c κs = search needs
-
 returns : tie.Need-returns
 returns c =
     let a = c .before .before .before .args in
     c .before .before .slots .ensures ∙ slot-top (now (a .state)) (a .l) (c .if1 .taken)
-
-id-at-requires : tie.Need-id-at-requires
-id-at-requires c κs = search needs
-
-same-id-requires : tie.Need-same-id-requires
-same-id-requires c κs = search needs
 
 returns-2 : tie.Need-returns-2
 returns-2 c =
@@ -29,9 +20,6 @@ returns-2 c =
     slot-near (now (a .state)) (a .l) (s .before .pre) (a .near) (c .before .before .before .before .before .if1 .left)
     (rw (s .slots .ensures) at (c .before .before .before .if2 .taken))
     (rw (c .before .before .id-at .ensures) at (sym (c .before .same-id .ensures) ∙ c .if3 .taken))
-
-slot-near-requires : tie.Need-slot-near-requires
-slot-near-requires c κs = search needs
 
 returns-3 : tie.Need-returns-3
 returns-3 c =
@@ -42,10 +30,10 @@ pub parent-slot-spec : {M : Type 1} → statement M
 parent-slot-spec =
     tie.close
     (tie.spec
-    slots-requires
+    (λ c κs. search needs)
     returns
-    id-at-requires
-    same-id-requires
+    (λ c κs. search needs)
+    (λ c κs. search needs)
     returns-2
-    slot-near-requires
+    (λ c κs. search needs)
     returns-3)

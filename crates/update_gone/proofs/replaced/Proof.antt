@@ -5,9 +5,6 @@ use borrow.Author.Needs.{needs}
 use Rattle.update_gone.proofs.replaced.Statement.{statement}
 use Rattle.update_gone.proofs.replaced.Tie as tie
 
-is-root-requires : tie.Need-is-root-requires
-is-root-requires c κs = search needs
-
 returns : tie.Need-returns
 unfolding _&&_
 returns c =
@@ -15,4 +12,4 @@ returns c =
     λ s b scoped turn naming. replaced-is s b (a .scope) scoped (a .x) (c .is-root .result) (a .turn) (a .naming) (c .is-root .ensures) turn naming
 
 pub replaced-spec : {M : Type 1} → statement M
-replaced-spec = tie.close (tie.spec is-root-requires returns)
+replaced-spec = tie.close (tie.spec (λ c κs. search needs) returns)

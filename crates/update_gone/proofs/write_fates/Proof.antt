@@ -21,9 +21,6 @@ Inv-loop state batch scope notes₀ n i₀ notes i = (i ≤ n) × (notes ≡ fil
 abbrev μ-loop : tie.MeasureT-loop
 μ-loop state batch scope notes₀ n i₀ notes i = n - i
 
-slots-requires : tie.Need-slots-requires Inv-loop μ-loop
-slots-requires c κs = search needs
-
 loop-holds : tie.Need-loop-holds Inv-loop μ-loop
 loop-holds c = (omega arith, sym (fill-none GOES _ _))
 
@@ -35,21 +32,6 @@ fate-at-requires c κs =
       rw (l .inv .1) (told-fill (now (a .state)) (now (a .batch)) (a .scope) (now (a .notes)) ABOVE-TOLD (s .pre) GOES (l .i) _ (omega arith)),
       omega (arith, c .before .before .before .slots .ensures),
     )
-
-add-notes : tie.Need-add-notes Inv-loop μ-loop
-add-notes c = search needs
-
-mul-notes : tie.Need-mul-notes Inv-loop μ-loop
-mul-notes c = search needs
-
-element-write-notes : tie.Need-element-write-notes Inv-loop μ-loop
-element-write-notes c = search needs
-
-add-i : tie.Need-add-i Inv-loop μ-loop
-add-i c = search needs
-
-loop-less : tie.Need-loop-less Inv-loop μ-loop
-loop-less c = search needs
 
 loop-again : tie.Need-loop-again Inv-loop μ-loop
 loop-again c =
@@ -74,13 +56,13 @@ write-fates-spec =
     (tie.spec
     Inv-loop
     μ-loop
-    slots-requires
+    (λ c κs. search needs)
     loop-holds
     fate-at-requires
-    add-notes
-    mul-notes
-    element-write-notes
-    add-i
-    loop-less
+    (λ c. search needs)
+    (λ c. search needs)
+    (λ c. search needs)
+    (λ c. search needs)
+    (λ c. search needs)
     loop-again
     returns)

@@ -16,32 +16,8 @@ Inv-loop state batch scope notes₀ n i₀ notes i = (i ≤ n) × Fated i state 
 abbrev μ-loop : tie.MeasureT-loop
 μ-loop state batch scope notes₀ n i₀ notes i = n - i
 
-slots-requires : tie.Need-slots-requires Inv-loop μ-loop
-slots-requires c κs = search needs
-
 loop-holds : tie.Need-loop-holds Inv-loop μ-loop
 loop-holds c = (omega arith, c .before .before .pre)
-
-climbed-requires : tie.Need-climbed-requires Inv-loop μ-loop
-climbed-requires c κs = search needs
-
-pass-on-requires : tie.Need-pass-on-requires Inv-loop μ-loop
-pass-on-requires c κs = search needs
-
-add-notes : tie.Need-add-notes Inv-loop μ-loop
-add-notes c = search needs
-
-mul-notes : tie.Need-mul-notes Inv-loop μ-loop
-mul-notes c = search needs
-
-element-write-notes : tie.Need-element-write-notes Inv-loop μ-loop
-element-write-notes c = search needs
-
-add-i : tie.Need-add-i Inv-loop μ-loop
-add-i c = search needs
-
-loop-less : tie.Need-loop-less Inv-loop μ-loop
-loop-less c = search needs
 
 loop-again : tie.Need-loop-again Inv-loop μ-loop
 loop-again c =
@@ -63,14 +39,14 @@ write-goes-spec =
     (tie.spec
     Inv-loop
     μ-loop
-    slots-requires
+    (λ c κs. search needs)
     loop-holds
-    climbed-requires
-    pass-on-requires
-    add-notes
-    mul-notes
-    element-write-notes
-    add-i
-    loop-less
+    (λ c κs. search needs)
+    (λ c κs. search needs)
+    (λ c. search needs)
+    (λ c. search needs)
+    (λ c. search needs)
+    (λ c. search needs)
+    (λ c. search needs)
     loop-again
     returns)

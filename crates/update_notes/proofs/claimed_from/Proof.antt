@@ -6,19 +6,10 @@ use borrow.Author.Needs.{needs}
 use Rattle.update_notes.proofs.claimed_from.Statement.{statement}
 use Rattle.update_notes.proofs.claimed_from.Tie as tie
 
-grafts-old-requires : tie.Need-grafts-old-requires
-grafts-old-requires c κs = search needs
-
 returns : tie.Need-returns
 returns c =
     let a = c .before .before .before .args in
     claimed-none _ (now (a .notes)) (a .k) (now (a .state)) (a .slot) (call-false (c .before .grafts-old .ensures) (c .if1 .taken))
-
-shape-at-requires : tie.Need-shape-at-requires
-shape-at-requires c κs = search needs
-
-claimer-of-requires : tie.Need-claimer-of-requires
-claimer-of-requires c κs = search needs
 
 returns-2 : tie.Need-returns-2
 returns-2 c =
@@ -30,4 +21,4 @@ returns-2 c =
 pub claimed-from-spec : {M : Type 1} → statement M
 claimed-from-spec =
     tie.close
-    (tie.spec grafts-old-requires returns shape-at-requires claimer-of-requires returns-2)
+    (tie.spec (λ c κs. search needs) returns (λ c κs. search needs) (λ c κs. search needs) returns-2)

@@ -11,7 +11,7 @@ use borrow.Author.Needs.{needs}
 use Rattle.base.specs.Tests.{_&&_}
 use Rattle.base.proofs.Search.{first-here, first-end}
 use Rattle.ids.specs.Ids.{sameTree}
-use Rattle.reader.specs.Reader.{batchIn, listedAt}
+use Rattle.record_reader.specs.Reader.{batchIn, listedAt}
 use Rattle.update_notes.specs.Layout.{CLAIMS}
 use Rattle.update_notes.proofs.claimer_of.Statement.{statement}
 use Rattle.update_notes.proofs.claimer_of.Tie as tie
@@ -25,21 +25,6 @@ abbrev μ-loop : tie.MeasureT-loop
 loop-holds : tie.Need-loop-holds Inv-loop μ-loop
 loop-holds c = (omega arith, λ j h. absurd (omega arith))
 
-add-if1 : tie.Need-add-if1 Inv-loop μ-loop
-add-if1 c = search needs
-
-mul-if1 : tie.Need-mul-if1 Inv-loop μ-loop
-mul-if1 c = search needs
-
-element-copy-out-if1 : tie.Need-element-copy-out-if1 Inv-loop μ-loop
-element-copy-out-if1 c = search needs
-
-graft-requires : tie.Need-graft-requires Inv-loop μ-loop
-graft-requires c κs = search needs
-
-same-tree-requires : tie.Need-same-tree-requires Inv-loop μ-loop
-same-tree-requires c κs = search needs
-
 returns : tie.Need-returns Inv-loop μ-loop
 unfolding _&&_
 returns c =
@@ -47,12 +32,6 @@ returns c =
     let a = c .before .before .before .before .before .before .before .args in
     first-here _ _ _ (l .inv .1) (c .before .before .before .before .loop-test .taken)
     (ap (λ m. eqb (getD (now (a .notes)) (CLAIMS + l .i) 0) 1 && m) (sym (c .before .same-tree .ensures ∙ ap (λ g. sameTree g (a .t)) (c .before .before .graft .ensures))) ∙ c .if1 .taken)
-
-add-i : tie.Need-add-i Inv-loop μ-loop
-add-i c = search needs
-
-loop-less : tie.Need-loop-less Inv-loop μ-loop
-loop-less c = search needs
 
 loop-again : tie.Need-loop-again Inv-loop μ-loop
 unfolding _&&_
@@ -74,13 +53,13 @@ claimer-of-spec =
     Inv-loop
     μ-loop
     loop-holds
-    add-if1
-    mul-if1
-    element-copy-out-if1
-    graft-requires
-    same-tree-requires
+    (λ c. search needs)
+    (λ c. search needs)
+    (λ c. search needs)
+    (λ c κs. search needs)
+    (λ c κs. search needs)
     returns
-    add-i
-    loop-less
+    (λ c. search needs)
+    (λ c. search needs)
     loop-again
     returns-2)

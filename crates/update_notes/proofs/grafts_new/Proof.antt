@@ -6,17 +6,8 @@ use borrow.Author.Needs.{needs}
 use Rattle.update_notes.proofs.grafts_new.Statement.{statement}
 use Rattle.update_notes.proofs.grafts_new.Tie as tie
 
-flags-requires : tie.Need-flags-requires
-flags-requires c κs = search needs
-
-cast-is-graft : tie.Need-cast-is-graft
-cast-is-graft c = search needs
-
-is-graft-requires : tie.Need-is-graft-requires
-is-graft-requires c κs = search needs
-
 returns : tie.Need-returns
 returns c = c .is-graft .ensures ∙ ap (bit 8) (c .before .flags .ensures) ∙ graft-flag _
 
 pub grafts-new-spec : {M : Type 1} → statement M
-grafts-new-spec = tie.close (tie.spec flags-requires cast-is-graft is-graft-requires returns)
+grafts-new-spec = tie.close (tie.spec (λ c κs. search needs) (λ c. search needs) (λ c κs. search needs) returns)

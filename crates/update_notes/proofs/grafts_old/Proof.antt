@@ -9,15 +9,6 @@ use borrow.Author.Needs.{needs}
 use Rattle.update_notes.proofs.grafts_old.Statement.{statement}
 use Rattle.update_notes.proofs.grafts_old.Tie as tie
 
-slots-requires : tie.Need-slots-requires
-slots-requires c κs = search needs
-
-shape-at-requires : tie.Need-shape-at-requires
-shape-at-requires c κs = search needs
-
-is-graft-requires : tie.Need-is-graft-requires
-is-graft-requires c κs = search needs
-
 returns : tie.Need-returns
 unfolding _&&_
 returns c =
@@ -25,4 +16,4 @@ returns c =
     ap₂ (λ n t. ltb (a .slot) n && t) (c .before .before .slots .ensures) (c .is-graft .ensures ∙ ap (λ d. bit 8 (d .flags)) (c .before .shape-at .ensures)) ∙ graft-below-some (now (a .state)) (a .slot)
 
 pub grafts-old-spec : {M : Type 1} → statement M
-grafts-old-spec = tie.close (tie.spec slots-requires shape-at-requires is-graft-requires returns)
+grafts-old-spec = tie.close (tie.spec (λ c κs. search needs) (λ c κs. search needs) (λ c κs. search needs) returns)

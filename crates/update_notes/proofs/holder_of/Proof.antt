@@ -21,20 +21,8 @@ Inv-loop state t n i₀ i = (n ≡ slotsOf state) × (i ≤ n) × ((k : ℕ) →
 abbrev μ-loop : tie.MeasureT-loop
 μ-loop state t n i₀ i = n - i
 
-slots-requires : tie.Need-slots-requires Inv-loop μ-loop
-slots-requires c κs = search needs
-
 loop-holds : tie.Need-loop-holds Inv-loop μ-loop
 loop-holds c = (c .slots .ensures, omega arith, λ k h. absurd (omega arith))
-
-shape-at-requires : tie.Need-shape-at-requires Inv-loop μ-loop
-shape-at-requires c κs = search needs
-
-is-graft-requires : tie.Need-is-graft-requires Inv-loop μ-loop
-is-graft-requires c κs = search needs
-
-same-tree-requires : tie.Need-same-tree-requires Inv-loop μ-loop
-same-tree-requires c κs = search needs
 
 returns : tie.Need-returns Inv-loop μ-loop
 unfolding _&&_
@@ -74,11 +62,11 @@ holder-of-spec =
     (tie.spec
     Inv-loop
     μ-loop
-    slots-requires
+    (λ c κs. search needs)
     loop-holds
-    shape-at-requires
-    is-graft-requires
-    same-tree-requires
+    (λ c κs. search needs)
+    (λ c κs. search needs)
+    (λ c κs. search needs)
     returns
     add-i
     loop-less

@@ -24,9 +24,6 @@ loop-holds c = (omega arith, λ k h. absurd (omega arith))
 add-if1 : tie.Need-add-if1 Inv-loop μ-loop
 add-if1 c = omega arith
 
-mul-if1 : tie.Need-mul-if1 Inv-loop μ-loop
-mul-if1 c = search needs
-
 element-copy-out-if1 : tie.Need-element-copy-out-if1 Inv-loop μ-loop
 element-copy-out-if1 c = omega arith
 
@@ -48,4 +45,4 @@ returns-2 c = first-end _ _ _ (c .before .loop .inv .1) (omega arith)
 pub position-in-spec : {M : Type 1} → statement M
 position-in-spec =
     tie.close
-    (tie.spec Inv-loop μ-loop loop-holds add-if1 mul-if1 element-copy-out-if1 returns add-i loop-less loop-again returns-2)
+    (tie.spec Inv-loop μ-loop loop-holds add-if1 (λ c. search needs) element-copy-out-if1 returns add-i loop-less loop-again returns-2)

@@ -10,26 +10,11 @@ use borrow.Author.Needs.{needs}
 use Rattle.update_notes.proofs.same_graft.Statement.{statement}
 use Rattle.update_notes.proofs.same_graft.Tie as tie
 
-grafts-old-requires : tie.Need-grafts-old-requires
-grafts-old-requires c κs = search needs
-
-grafts-new-requires : tie.Need-grafts-new-requires
-grafts-new-requires c κs = search needs
-
 returns : tie.Need-returns
 returns c =
     let a = c .before .before .before .before .args in
     ap not (c .before .before .grafts-old .ensures)
     ∙ same-graft-none _ (now (a .state)) (a .slot) (call-false (c .before .grafts-new .ensures) (c .if1 .taken))
-
-shape-at-requires : tie.Need-shape-at-requires
-shape-at-requires c κs = search needs
-
-graft-requires : tie.Need-graft-requires
-graft-requires c κs = search needs
-
-same-tree-requires : tie.Need-same-tree-requires
-same-tree-requires c κs = search needs
 
 returns-2 : tie.Need-returns-2
 unfolding _&&_
@@ -43,10 +28,10 @@ pub same-graft-spec : {M : Type 1} → statement M
 same-graft-spec =
     tie.close
     (tie.spec
-    grafts-old-requires
-    grafts-new-requires
+    (λ c κs. search needs)
+    (λ c κs. search needs)
     returns
-    shape-at-requires
-    graft-requires
-    same-tree-requires
+    (λ c κs. search needs)
+    (λ c κs. search needs)
+    (λ c κs. search needs)
     returns-2)

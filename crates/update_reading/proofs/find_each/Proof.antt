@@ -24,33 +24,6 @@ abbrev μ-loop : tie.MeasureT-loop
 loop-holds : tie.Need-loop-holds Inv-loop μ-loop
 loop-holds c = (omega arith, c .pre .1 .0, c .pre .1 .1, sym (fill-none (c .args .to) _ (now (c .args .notes))))
 
-add-notes : tie.Need-add-notes Inv-loop μ-loop
-add-notes c = search needs
-
-mul-notes : tie.Need-mul-notes Inv-loop μ-loop
-mul-notes c = search needs
-
-element-copy-out-notes : tie.Need-element-copy-out-notes Inv-loop μ-loop
-element-copy-out-notes c = search needs
-
-find-requires : tie.Need-find-requires Inv-loop μ-loop
-find-requires c κs = search needs
-
-add-notes-2 : tie.Need-add-notes-2 Inv-loop μ-loop
-add-notes-2 c = search needs
-
-mul-notes-2 : tie.Need-mul-notes-2 Inv-loop μ-loop
-mul-notes-2 c = search needs
-
-element-write-notes : tie.Need-element-write-notes Inv-loop μ-loop
-element-write-notes c = search needs
-
-add-j : tie.Need-add-j Inv-loop μ-loop
-add-j c = search needs
-
-loop-less : tie.Need-loop-less Inv-loop μ-loop
-loop-less c = search needs
-
 loop-again : tie.Need-loop-again Inv-loop μ-loop
 unfolding slotWord
 loop-again c =
@@ -72,14 +45,14 @@ find-each-spec =
     Inv-loop
     μ-loop
     loop-holds
-    add-notes
-    mul-notes
-    element-copy-out-notes
-    find-requires
-    add-notes-2
-    mul-notes-2
-    element-write-notes
-    add-j
-    loop-less
+    (λ c. search needs)
+    (λ c. search needs)
+    (λ c. search needs)
+    (λ c κs. search needs)
+    (λ c. search needs)
+    (λ c. search needs)
+    (λ c. search needs)
+    (λ c. search needs)
+    (λ c. search needs)
     loop-again
     returns)

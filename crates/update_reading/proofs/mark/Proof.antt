@@ -24,39 +24,6 @@ loop-holds c =
     let a = c .args in
     (omega arith, c .pre .before, c .pre .room, below-none (a .to) (now (a .notes)), marks-none _ (a .to) (a .n) (now (a .notes)) (c .pre .zeros))
 
-add-i : tie.Need-add-i Inv-loop μ-loop
-add-i c = search needs
-
-mul-i : tie.Need-mul-i Inv-loop μ-loop
-mul-i c = search needs
-
-element-copy-out-i : tie.Need-element-copy-out-i Inv-loop μ-loop
-element-copy-out-i c = search needs
-
-add-j : tie.Need-add-j Inv-loop μ-loop
-add-j c = search needs
-
-add-if2 : tie.Need-add-if2 Inv-loop μ-loop
-add-if2 c = search needs
-
-mul-if2 : tie.Need-mul-if2 Inv-loop μ-loop
-mul-if2 c = search needs
-
-element-copy-out-if2 : tie.Need-element-copy-out-if2 Inv-loop μ-loop
-element-copy-out-if2 c = search needs
-
-add-notes : tie.Need-add-notes Inv-loop μ-loop
-add-notes c = search needs
-
-mul-notes : tie.Need-mul-notes Inv-loop μ-loop
-mul-notes c = search needs
-
-element-write-notes : tie.Need-element-write-notes Inv-loop μ-loop
-element-write-notes c = search needs
-
-loop-less : tie.Need-loop-less Inv-loop μ-loop
-loop-less c = search needs
-
 loop-again : tie.Need-loop-again Inv-loop μ-loop
 loop-again c =
     let l = c .before .before .before .before .before .loop in
@@ -71,9 +38,6 @@ loop-again c =
       (rw (← same) at (marks-stored (λ k. getD (now (a .notes)) (a .from + k) 0) (l .j) (a .to) (a .n) (l .notes) (l .inv .4))) here (c .if2 .taken),
     )
 
-loop-less-2 : tie.Need-loop-less-2 Inv-loop μ-loop
-loop-less-2 c = search needs
-
 loop-again-2 : tie.Need-loop-again-2 Inv-loop μ-loop
 loop-again-2 c =
     let l = c .before .before .before .before .before .loop in
@@ -85,9 +49,6 @@ loop-again-2 c =
       l .inv .3,
       marks-kept (λ k. getD (now (a .notes)) (a .from + k) 0) (l .j) (a .to) (a .n) (l .notes) (l .inv .4) (rw same at (c .if2 .left)),
     )
-
-loop-less-3 : tie.Need-loop-less-3 Inv-loop μ-loop
-loop-less-3 c = search needs
 
 loop-again-3 : tie.Need-loop-again-3 Inv-loop μ-loop
 loop-again-3 c =
@@ -114,20 +75,20 @@ mark-spec =
     Inv-loop
     μ-loop
     loop-holds
-    add-i
-    mul-i
-    element-copy-out-i
-    add-j
-    add-if2
-    mul-if2
-    element-copy-out-if2
-    add-notes
-    mul-notes
-    element-write-notes
-    loop-less
+    (λ c. search needs)
+    (λ c. search needs)
+    (λ c. search needs)
+    (λ c. search needs)
+    (λ c. search needs)
+    (λ c. search needs)
+    (λ c. search needs)
+    (λ c. search needs)
+    (λ c. search needs)
+    (λ c. search needs)
+    (λ c. search needs)
     loop-again
-    loop-less-2
+    (λ c. search needs)
     loop-again-2
-    loop-less-3
+    (λ c. search needs)
     loop-again-3
     returns)

@@ -7,7 +7,7 @@ use lib.ListN.{getD}
 use Rattle.base.specs.Tests.{_&&_, sameOption}
 use Rattle.ids.specs.Ids.{sameTree}
 use Rattle.record.specs.Batch.{graft?}
-use Rattle.reader.specs.Reader.{batchIn, listedAt}
+use Rattle.record_reader.specs.Reader.{batchIn, listedAt}
 use Rattle.update_notes.specs.Layout.{CLAIMS, LISTED-SLOTS}
 use Rattle.base.specs.Regions.{fill}
 use Rattle.base.proofs.Regions.{fill-none, fill-more, fill-kept}
@@ -32,39 +32,6 @@ loop-holds c =
     let s = c .before in
     let a = s .args in
     (omega arith, few-listed (now (a .state)) (now (a .batch)) (a .scope) (s .pre .given), sym (fill-none CLAIMS _ (now (a .notes))))
-
-add-slot : tie.Need-add-slot Inv-loop μ-loop
-add-slot c = search needs
-
-mul-slot : tie.Need-mul-slot Inv-loop μ-loop
-mul-slot c = search needs
-
-element-copy-out-slot : tie.Need-element-copy-out-slot Inv-loop μ-loop
-element-copy-out-slot c = search needs
-
-grafts-new-requires : tie.Need-grafts-new-requires Inv-loop μ-loop
-grafts-new-requires c κs = search needs
-
-same-graft-requires : tie.Need-same-graft-requires Inv-loop μ-loop
-same-graft-requires c κs = search needs
-
-flag-of-requires : tie.Need-flag-of-requires Inv-loop μ-loop
-flag-of-requires c κs = search needs
-
-add-notes : tie.Need-add-notes Inv-loop μ-loop
-add-notes c = search needs
-
-mul-notes : tie.Need-mul-notes Inv-loop μ-loop
-mul-notes c = search needs
-
-element-write-notes : tie.Need-element-write-notes Inv-loop μ-loop
-element-write-notes c = search needs
-
-add-i : tie.Need-add-i Inv-loop μ-loop
-add-i c = search needs
-
-loop-less : tie.Need-loop-less Inv-loop μ-loop
-loop-less c = search needs
 
 loop-again : tie.Need-loop-again Inv-loop μ-loop
 unfolding claimOf _&&_
@@ -92,16 +59,16 @@ write-claims-spec =
     Inv-loop
     μ-loop
     loop-holds
-    add-slot
-    mul-slot
-    element-copy-out-slot
-    grafts-new-requires
-    same-graft-requires
-    flag-of-requires
-    add-notes
-    mul-notes
-    element-write-notes
-    add-i
-    loop-less
+    (λ c. search needs)
+    (λ c. search needs)
+    (λ c. search needs)
+    (λ c κs. search needs)
+    (λ c κs. search needs)
+    (λ c κs. search needs)
+    (λ c. search needs)
+    (λ c. search needs)
+    (λ c. search needs)
+    (λ c. search needs)
+    (λ c. search needs)
     loop-again
     returns)

@@ -4,7 +4,7 @@ use mathlib.Core.Path.{_≡_, sym, ap, ap₂, _∙_}
 use Prim.Native.Nat.{ℕ, _+_, _-_, _≤_, _<_}
 use lib.ListN.{length, getD}
 use Rattle.ids.specs.declared.NodeId.{NodeId}
-use Rattle.reader.specs.Reader.{batchIn, noNode, listedAt, fieldAt, entriesOf}
+use Rattle.record_reader.specs.Reader.{batchIn, noNode, listedAt, fieldAt, entriesOf}
 use Rattle.update_notes.specs.Layout.{ENDS}
 use Rattle.base.specs.Regions.{fill}
 use Rattle.base.proofs.Regions.{fill-none, fill-more}
@@ -27,12 +27,6 @@ loop-holds c =
     let a = s .args in
     (omega arith, few-listed (now (a .state)) (now (a .batch)) (a .scope) (s .pre .given), sym (fill-none ENDS _ (now (a .notes))))
 
-first-child-requires : tie.Need-first-child-requires Inv-loop μ-loop
-first-child-requires c κs = search needs
-
-child-count-requires : tie.Need-child-count-requires Inv-loop μ-loop
-child-count-requires c κs = search needs
-
 add-end : tie.Need-add-end Inv-loop μ-loop
 add-end c =
     let s = now (c .before .before .before .before .before .args .batch) in
@@ -40,21 +34,6 @@ add-end c =
     let first : c .before .first-child .result < 65536 = rw (c .before .first-child .ensures) (field-small s byte _ 32) in
     let count : c .child-count .result < 65536 = rw (c .child-count .ensures) (children-small s byte _) in
     omega arith
-
-add-notes : tie.Need-add-notes Inv-loop μ-loop
-add-notes c = search needs
-
-mul-notes : tie.Need-mul-notes Inv-loop μ-loop
-mul-notes c = search needs
-
-element-write-notes : tie.Need-element-write-notes Inv-loop μ-loop
-element-write-notes c = search needs
-
-add-i : tie.Need-add-i Inv-loop μ-loop
-add-i c = search needs
-
-loop-less : tie.Need-loop-less Inv-loop μ-loop
-loop-less c = search needs
 
 loop-again : tie.Need-loop-again Inv-loop μ-loop
 loop-again c =
@@ -77,13 +56,13 @@ write-ends-spec =
     Inv-loop
     μ-loop
     loop-holds
-    first-child-requires
-    child-count-requires
+    (λ c κs. search needs)
+    (λ c κs. search needs)
     add-end
-    add-notes
-    mul-notes
-    element-write-notes
-    add-i
-    loop-less
+    (λ c. search needs)
+    (λ c. search needs)
+    (λ c. search needs)
+    (λ c. search needs)
+    (λ c. search needs)
     loop-again
     returns)

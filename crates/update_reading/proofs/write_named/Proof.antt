@@ -4,7 +4,7 @@ use mathlib.Core.Path.{_≡_, sym, ap, ap₂, _∙_}
 use Prim.Native.Nat.{ℕ, _+_, _-_, _≤_, _<_}
 use lib.ListN.{length, getD}
 use Rattle.ids.specs.declared.NodeId.{NodeId}
-use Rattle.reader.specs.Reader.{batchIn, noNode, listedAt, fieldAt, entriesOf}
+use Rattle.record_reader.specs.Reader.{batchIn, noNode, listedAt, fieldAt, entriesOf}
 use Rattle.update_notes.specs.Layout.{NAMED}
 use Rattle.base.specs.Regions.{fill}
 use Rattle.base.proofs.Regions.{fill-none, fill-more}
@@ -27,24 +27,6 @@ loop-holds c =
     let a = s .args in
     (omega arith, few-named (now (a .state)) (now (a .batch)) (a .scope) (s .pre .given), sym (fill-none NAMED _ (now (a .notes))))
 
-child-entry-requires : tie.Need-child-entry-requires Inv-loop μ-loop
-child-entry-requires c κs = search needs
-
-add-notes : tie.Need-add-notes Inv-loop μ-loop
-add-notes c = search needs
-
-mul-notes : tie.Need-mul-notes Inv-loop μ-loop
-mul-notes c = search needs
-
-element-write-notes : tie.Need-element-write-notes Inv-loop μ-loop
-element-write-notes c = search needs
-
-add-i : tie.Need-add-i Inv-loop μ-loop
-add-i c = search needs
-
-loop-less : tie.Need-loop-less Inv-loop μ-loop
-loop-less c = search needs
-
 loop-again : tie.Need-loop-again Inv-loop μ-loop
 loop-again c =
     let l = c .before .before .loop in
@@ -66,11 +48,11 @@ write-named-spec =
     Inv-loop
     μ-loop
     loop-holds
-    child-entry-requires
-    add-notes
-    mul-notes
-    element-write-notes
-    add-i
-    loop-less
+    (λ c κs. search needs)
+    (λ c. search needs)
+    (λ c. search needs)
+    (λ c. search needs)
+    (λ c. search needs)
+    (λ c. search needs)
     loop-again
     returns)

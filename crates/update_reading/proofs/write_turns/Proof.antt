@@ -13,12 +13,6 @@ use borrow.Author.Needs.{needs}
 use Rattle.update_reading.proofs.write_turns.Statement.{statement}
 use Rattle.update_reading.proofs.write_turns.Tie as tie
 
-slots-requires : tie.Need-slots-requires
-slots-requires c κs = search needs
-
-clear-requires : tie.Need-clear-requires
-clear-requires c κs = search needs
-
 mark-requires : tie.Need-mark-requires
 mark-requires c κs =
     let s = c .before .before .before .before .before in
@@ -42,4 +36,4 @@ returns c =
     (rw (c .before .before .before .before .slots .ensures) at (c .mark .ensures))
 
 pub write-turns-spec : {M : Type 1} → statement M
-write-turns-spec = tie.close (tie.spec slots-requires clear-requires mark-requires returns)
+write-turns-spec = tie.close (tie.spec (λ c κs. search needs) (λ c κs. search needs) mark-requires returns)

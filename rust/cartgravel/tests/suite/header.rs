@@ -1,6 +1,7 @@
 //! What include/cartgravel.h and this crate both say.
 use cartgravel::{
-    CHANGES, CHILD_ENTRIES, LABEL_BYTES, LISTED_NODES, NODES, Number, RECORD_BYTES, STATE_BYTES, TREES,
+    CHANGES, CHILD_ENTRIES, LABEL_BYTES, LISTED_NODES, NODES, Number, RECORD_BYTES, STACK, STATE_BYTES, STATE_WORDS,
+    TREES,
 };
 
 const HEADER: &str = include_str!("../../../../include/cartgravel.h");
@@ -21,7 +22,9 @@ fn sizes() {
     assert_eq!(value("LABEL_BYTES"), LABEL_BYTES);
     assert_eq!(value("RECORD_BYTES"), RECORD_BYTES);
     assert_eq!(value("CHANGES"), CHANGES);
+    assert_eq!(value("STATE_WORDS"), STATE_WORDS);
     assert_eq!(value("STATE_BYTES"), STATE_BYTES);
+    assert_eq!(value("STACK"), STACK);
 }
 
 /// Each number has the same words, in the order of the numbers; the first is 0's.

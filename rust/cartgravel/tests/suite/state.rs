@@ -1,7 +1,6 @@
 //! The state as a value: its bytes, its focus, where it lives.
 use crate::{batch, plain, s, s_with_t, screen, told, words};
-use cartgravel::{Batch, CHANGES, FullNodeId, Number, STACK, STATE_BYTES, State, TreeId, sys};
-use std::mem::offset_of;
+use cartgravel::{Batch, CHANGES, FullNodeId, Number, START_STACK, STACK, STATE_BYTES, State, TreeId, sys};
 use std::thread;
 
 #[test]
@@ -11,43 +10,44 @@ fn bytes_and_back() {
     assert_ne!(state, s());
 }
 
-/// The bytes are those of the memory that C sees.
+/// The bytes are those of the memory that C sees: the counts and the host flag first, the numbers of the nodes in a row.
 #[test]
-fn bytes_stand_where_the_header_has_them() {
+fn bytes_are_the_words() {
     let bytes = s_with_t().to_bytes();
-    let short = |at: usize| u16::from_le_bytes([bytes[at], bytes[at + 1]]);
+    let words = |at: usize, n: usize| {
+        bytes[8 * at..8 * (at + n)].as_chunks().0.iter().map(|b| u64::from_le_bytes(*b)).collect::<Vec<_>>()
+    };
     assert_eq!(size_of::<sys::State>(), STATE_BYTES);
-    assert_eq!(short(offset_of!(sys::State, count)), 4);
-    assert_eq!(short(offset_of!(sys::State, tree_count)), 2);
-    assert_eq!(bytes[offset_of!(sys::State, nodes)..][..32], [1_u64, 2, 3, 1].map(u64::to_le_bytes).concat());
-    assert_eq!(bytes[offset_of!(sys::State, trees)..][..16], [0_u32, 0, 0, 1].map(u32::to_le_bytes).concat());
-    assert_eq!(bytes[offset_of!(sys::State, host_focused)..], [1, 0, 0, 0]);
+    assert_eq!(words(0, 8), [4, 2, 1, 0, 0, 0, 0, 0]);
+    assert_eq!(words(168, 5), [0, 0, 0, 1, 0]);
+    assert_eq!(words(488, 5), [1, 2, 3, 1, 0]);
 }
 
-/// A state differs from one with a byte of any field changed, a float's sign among them. The three bytes behind the
-/// last field say nothing.
+/// A state differs from one with any byte changed.
 #[test]
-fn equality_is_that_of_the_fields() {
+fn equality_is_that_of_every_byte() {
     let state = s_with_t();
     let bytes = state.to_bytes();
-    let changed = |at: usize| {
+    for at in (0..STATE_BYTES).step_by(61) {
         let mut changed = bytes;
         changed[at] ^= 0x80;
-        State::from_bytes(&changed)
-    };
-    let numbers =
-        [offset_of!(sys::State, rows), offset_of!(sys::State, nodes), offset_of!(sys::State, children)];
-    let tables =
-        [offset_of!(sys::State, table), offset_of!(sys::State, trees), offset_of!(sys::State, parents)];
-    let counts = [offset_of!(sys::State, count), offset_of!(sys::State, tree_count)];
-    let texts = [offset_of!(sys::State, texts), offset_of!(sys::State, host_focused)];
-    let sign = offset_of!(sys::State, floats) + 7;
-    for at in numbers.into_iter().chain(tables).chain(counts).chain(texts).chain([sign]) {
-        assert_ne!(changed(at), state, "byte {at}");
+        assert_ne!(State::from_bytes(&changed), state, "byte {at}");
     }
-    for at in STATE_BYTES - 3..STATE_BYTES {
-        assert_eq!(changed(at), state, "byte {at}");
-    }
+}
+
+/// A label that is gone is gone from memory.
+#[test]
+fn nothing_is_left_of_what_is_gone() {
+    let has = |state: &State, word: &[u8]| state.to_bytes().windows(word.len()).any(|w| w == word);
+    let mut state = s();
+    told(&mut state, &batch().node(plain(3).label("49218810")));
+    assert!(has(&state, b"49218810"));
+    told(&mut state, &batch().node(plain(3).label("49")));
+    assert!(has(&state, b"49") && !has(&state, b"218810"));
+    told(&mut state, &batch().node(plain(1).children([2])));
+    assert!(!has(&state, b"49"));
+    told(&mut state, &batch().node(plain(1).children([2, 3])).node(plain(3)));
+    assert_eq!(state, s());
 }
 
 #[test]
@@ -105,21 +105,44 @@ fn a_start_in_place() {
     assert_eq!((state.node_count(), state.tree_count(), state.is_host_focused()), (0, 0, false));
 }
 
-/// The largest batch on a thread with no more stack than the calls ask for. With less, the process ends here.
-#[test]
-fn the_stack_that_a_call_needs() {
+/// A start and a batch of the most nodes, with full labels.
+fn large() -> [Vec<u8>; 2] {
     let large = |id| plain(id).label([b'a'; 32]).bounds([1.0; 4]).transform([1.0; 6]);
     let family = |nodes: fn(u64) -> u64| {
-        batch().root(1).node(large(1).children(2..=64)).nodes((2..=64).map(nodes).map(large))
+        batch().root(1).node(large(1).children(2..=64)).nodes((2..=64).map(nodes).map(large)).encode().unwrap()
     };
-    let record = family(|id| id).encode().unwrap();
+    [family(|id| id), family(|id| 66 - id)]
+}
+
+/// Runs a call on a thread with this stack. With less than the call needs, the process ends here.
+fn on_a_stack<T: Send + 'static>(size: usize, call: impl FnOnce() -> T + Send + 'static) -> T {
+    thread::Builder::new().stack_size(size).spawn(call).unwrap().join().unwrap()
+}
+
+/// Each call with no more stack than [`STACK`], on a state that lives elsewhere.
+#[test]
+fn the_stack_that_a_call_needs() {
+    let [record, reversed] = large();
     let mut state = Box::new(State::blank());
-    let reversed = family(|id| 66 - id).encode().unwrap();
     let mut changes = vec![0; CHANGES];
-    let call = move || {
-        state.restart(&record, true)?;
-        state.update(&reversed, &mut changes).map(|report| report.updated().len())
-    };
-    let thread = thread::Builder::new().stack_size(STACK).spawn(call).unwrap();
-    assert_eq!(thread.join().unwrap(), Ok(0));
+    let (state, started) = on_a_stack(STACK, move || {
+        let started = state.restart(&record, true).is_ok();
+        (state, started)
+    });
+    let (mut state, updated) = on_a_stack(STACK, {
+        let mut state = state;
+        move || {
+            let updated = state.update(&reversed, &mut changes).map(|report| report.updated().len());
+            (state, updated)
+        }
+    });
+    let changed = on_a_stack(STACK, move || state.host_focus(false).is_ok());
+    assert_eq!((started, updated, changed), (true, Ok(0), true));
+}
+
+/// A start by value, with no more than [`START_STACK`].
+#[test]
+fn the_stack_that_a_start_by_value_needs() {
+    let [record, _] = large();
+    assert_eq!(on_a_stack(START_STACK, move || State::start(&record, true).unwrap().0.node_count()), 64);
 }

@@ -5,10 +5,10 @@ use Rattle.batchcheck.proofs.say.list.Statement.{statement}
 use Rattle.batchcheck.proofs.say.list.Tie as tie
 
 abbrev Inv-loop : tie.InvT-loop
-Inv-loop word s changes from n roles at₀ left₀ t9 at left = 0 ≤ left
+Inv-loop word state changes from n roles at₀ left₀ t9 at left = 0 ≤ left
 
 abbrev μ-loop : tie.MeasureT-loop
-μ-loop word s changes from n roles at₀ left₀ t9 at left = left
+μ-loop word state changes from n roles at₀ left₀ t9 at left = left
 
 loop-holds : tie.Need-loop-holds Inv-loop μ-loop
 loop-holds c = search needs

@@ -5,12 +5,9 @@ use borrow.Author.Needs.{needs}
 use Rattle.state_sound.proofs.walk.agrees.Statement.{statement}
 use Rattle.state_sound.proofs.walk.agrees.Tie as tie
 
-same-id-requires : tie.Need-same-id-requires
-same-id-requires c κs = search needs
-
 returns : tie.Need-returns
 unfolding _&&_
 returns c = let a = c .before .before .before .args in cc (agrees-is (a .l) (a .p) (a .j))
 
 pub agrees-spec : {M : Type 1} → statement M
-agrees-spec = tie.close (tie.spec same-id-requires returns)
+agrees-spec = tie.close (tie.spec (λ c κs. search needs) returns)

@@ -17,14 +17,8 @@ returns c =
     let past : ltb (a .first + a .j) 512 ≡ false = le-ltb (a .first + a .j) 512 (omega arith) in
     rw past
 
-add-child-at : tie.Need-add-child-at
-add-child-at c = search needs
-
-child-at-requires : tie.Need-child-at-requires
-child-at-requires c κs = search needs
-
 returns-2 : tie.Need-returns-2
 returns-2 c = rw (c .child-at .ensures)
 
 pub child-at-spec : {M : Type 1} → statement M
-child-at-spec = tie.close (tie.spec returns add-child-at child-at-requires returns-2)
+child-at-spec = tie.close (tie.spec returns (λ c. search needs) (λ c κs. search needs) returns-2)

@@ -15,9 +15,6 @@ Inv-loop state r n path₀ nexts₀ depth₀ left₀ near₀ path nexts depth le
 abbrev μ-loop : tie.MeasureT-loop
 μ-loop state r n path₀ nexts₀ depth₀ left₀ near₀ path nexts depth left near = 2 * left + depth
 
-slots-requires : tie.Need-slots-requires Inv-loop μ-loop
-slots-requires c κs = search needs
-
 sub-left : tie.Need-sub-left Inv-loop μ-loop
 sub-left c = omega arith
 
@@ -41,9 +38,6 @@ array-read-j c = omega (arith, c .before .loop .inv .room .deep, few (c .before 
 
 kid-at-requires : tie.Need-kid-at-requires Inv-loop μ-loop
 kid-at-requires c κs = let l = c .before .loop in let h = l .inv .room .small (l .depth - 1) (omega arith) in omega (arith, few (l .inv))
-
-enum-known-id : tie.Need-enum-known-id Inv-loop μ-loop
-enum-known-id c = search needs
 
 enum-told : tie.Need-enum-told Inv-loop μ-loop
 enum-told c = search needs
@@ -103,7 +97,7 @@ goes-down-spec =
     (tie.spec
     Inv-loop
     μ-loop
-    slots-requires
+    (λ c κs. search needs)
     sub-left
     loop-holds
     sub-top
@@ -112,7 +106,7 @@ goes-down-spec =
     mul-j
     array-read-j
     kid-at-requires
-    enum-known-id
+    (λ c. search needs)
     enum-told
     loop-less
     loop-again

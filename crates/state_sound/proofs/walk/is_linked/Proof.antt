@@ -6,24 +6,12 @@ use borrow.Author.Needs.{needs}
 use Rattle.state_sound.proofs.walk.is_linked.Statement.{statement}
 use Rattle.state_sound.proofs.walk.is_linked.Tie as tie
 
-slots-requires : tie.Need-slots-requires
-slots-requires c κs = search needs
-
-tree-at-requires : tie.Need-tree-at-requires
-tree-at-requires c κs = search needs
-
-slot-of-requires : tie.Need-slot-of-requires
-slot-of-requires c κs = search needs
-
 returns : tie.Need-returns
 returns c =
     let t = c .before .before .before in
     let s = t .before .before in
     let found = rw (t .tree-at .ensures) at (c .before .slot-of .ensures .first (s .pre)) in
     sym (linked-absent (now (s .args .state)) _ found (rw (t .before .slots .ensures) at (c .if1 .taken)))
-
-link-at-requires : tie.Need-link-at-requires
-link-at-requires c κs = search needs
 
 returns-2 : tie.Need-returns-2
 returns-2 c =
@@ -32,9 +20,6 @@ returns-2 c =
     let s = t .before .before in
     let found = rw (t .tree-at .ensures) at (i .before .slot-of .ensures .first (s .pre)) in
     sym (linked-parented (now (s .args .state)) _ found (rw (t .before .slots .ensures) at (i .if1 .left)) (rw (c .before .before .link-at .ensures) at (c .if2 .taken)))
-
-goes-down-requires : tie.Need-goes-down-requires
-goes-down-requires c κs = search needs
 
 returns-3 : tie.Need-returns-3
 returns-3 c =
@@ -49,11 +34,11 @@ pub is-linked-spec : {M : Type 1} → statement M
 is-linked-spec =
     tie.close
     (tie.spec
-    slots-requires
-    tree-at-requires
-    slot-of-requires
+    (λ c κs. search needs)
+    (λ c κs. search needs)
+    (λ c κs. search needs)
     returns
-    link-at-requires
+    (λ c κs. search needs)
     returns-2
-    goes-down-requires
+    (λ c κs. search needs)
     returns-3)

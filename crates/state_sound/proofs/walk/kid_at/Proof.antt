@@ -7,22 +7,10 @@ use native.Mathlib.Omega.{arith}
 use Rattle.state_sound.proofs.walk.kid_at.Statement.{statement}
 use Rattle.state_sound.proofs.walk.kid_at.Tie as tie
 
-shape-at-requires : tie.Need-shape-at-requires
-shape-at-requires c κs = search needs
-
-is-graft-requires : tie.Need-is-graft-requires
-is-graft-requires c κs = search needs
-
 returns : tie.Need-returns
 returns c = let a = c .before .before .before .before .before .args in
     let d = c .before .before .before .before .shape-at .ensures in
     kid-end (now (a .state)) (a .p) (a .j) (rw d at (call-false (c .before .before .before .is-graft .ensures) (c .before .before .if1 .taken))) (rw d at (c .if2 .taken))
-
-id-at-requires : tie.Need-id-at-requires
-id-at-requires c κs = search needs
-
-child-at-requires : tie.Need-child-at-requires
-child-at-requires c κs = search needs
 
 returns-2 : tie.Need-returns-2
 returns-2 c = let a = c .before .before .before .before .before .before .before .before .args in
@@ -32,12 +20,6 @@ returns-2 c = let a = c .before .before .before .before .before .before .before 
 returns-3 : tie.Need-returns-3
 returns-3 c = let a = c .before .before .before .before .args in
     kid-past (now (a .state)) (a .p) (a .j) (rw (c .before .before .before .shape-at .ensures) at (call-true (c .before .before .is-graft .ensures) (c .before .if1 .left))) (c .if3 .taken)
-
-tree-of-requires : tie.Need-tree-of-requires
-tree-of-requires c κs = search needs
-
-enum-known-e : tie.Need-enum-known-e
-enum-known-e c = search needs
 
 enum-told : tie.Need-enum-told
 enum-told c = search needs
@@ -56,15 +38,15 @@ pub kid-at-spec : {M : Type 1} → statement M
 kid-at-spec =
     tie.close
     (tie.spec
-    shape-at-requires
-    is-graft-requires
+    (λ c κs. search needs)
+    (λ c κs. search needs)
     returns
-    id-at-requires
-    child-at-requires
+    (λ c κs. search needs)
+    (λ c κs. search needs)
     returns-2
     returns-3
-    tree-of-requires
-    enum-known-e
+    (λ c κs. search needs)
+    (λ c. search needs)
     enum-told
     returns-4
     returns-5)

@@ -5,27 +5,12 @@ use borrow.Author.Needs.{needs}
 use Rattle.state_sound.proofs.walk.met_at.Statement.{statement}
 use Rattle.state_sound.proofs.walk.met_at.Tie as tie
 
-slots-requires : tie.Need-slots-requires
-slots-requires c κs = search needs
-
-slot-near-requires : tie.Need-slot-near-requires
-slot-near-requires c κs = search needs
-
 returns : tie.Need-returns
 returns c =
     let s = c .before .before .before in
     let a = s .args in
     let n = c .before .before .slots .ensures in
     rw n (met-absent (now (a .state)) (a .p) (a .j) (a .id) _ (c .before .slot-near .ensures .first (s .pre)) (rw n at (c .if1 .taken)))
-
-link-at-requires : tie.Need-link-at-requires
-link-at-requires c κs = search needs
-
-id-at-requires : tie.Need-id-at-requires
-id-at-requires c κs = search needs
-
-agrees-requires : tie.Need-agrees-requires
-agrees-requires c κs = search needs
 
 returns-2 : tie.Need-returns-2
 returns-2 c =
@@ -48,11 +33,11 @@ pub met-at-spec : {M : Type 1} → statement M
 met-at-spec =
     tie.close
     (tie.spec
-    slots-requires
-    slot-near-requires
+    (λ c κs. search needs)
+    (λ c κs. search needs)
     returns
-    link-at-requires
-    id-at-requires
-    agrees-requires
+    (λ c κs. search needs)
+    (λ c κs. search needs)
+    (λ c κs. search needs)
     returns-2
     returns-3)

@@ -1,0 +1,333 @@
+// The calls that a file's lines say: each is read line by line, and is due once its last line is read without a fault.
+use crate::node;
+use batchcheck_record::draft;
+use batchcheck_record::draft::Draft;
+use batchcheck_text::cursor;
+use batchcheck_text::cursor::Cursor;
+use batchcheck_text::decimal;
+use batchcheck_text::faults;
+use batchcheck_text::print;
+use batchcheck_text::print::put;
+use batchcheck_text::roles;
+
+// Kinds of calls.
+pub const START: u8 = 0;
+
+pub const BATCH: u8 = 1;
+
+pub const HOST: u8 = 2;
+
+// How far a call is read.
+const NONE: u8 = 0;
+
+const OPEN: u8 = 1;
+
+pub const DUE: u8 = 2;
+
+// The call that is read, or the one before, where none is. Its record stands beside it, in a draft.
+pub struct Call {
+    pub kind: u8,
+    pub stage: u8,
+    // Its place among the file's calls, and the line where it begins.
+    pub number: u64,
+    pub line: u64,
+    // Whether the host has the focus, and how many elements are lent for the lists.
+    pub focused: bool,
+    pub room: usize,
+    // Whether the record is the bytes of a file, and the place of the file's name in the line.
+    pub raw: bool,
+    pub name: Cursor,
+    // Whether a line of it was bad.
+    pub bad: bool,
+}
+
+// Before the first call.
+pub fn blank() -> Call {
+    Call {
+        kind: START,
+        stage: NONE,
+        number: 0,
+        line: 0,
+        focused: true,
+        room: 1024,
+        raw: false,
+        name: cursor::first(b""),
+        bad: false,
+    }
+}
+
+// A call of a kind that begins here.
+fn opened(before: Call, kind: u8, line: u64) -> Call {
+    let mut p = blank();
+    p.kind = kind;
+    p.stage = OPEN;
+    p.number = std::num::wrapping_add_u64(before.number, 1);
+    p.line = line;
+    p
+}
+
+// With a line read. `cut` is whether only its first bytes are there.
+pub fn with_line(
+    call: Call,
+    draft: &mut Draft,
+    line: &[u8],
+    number: u64,
+    cut: bool,
+    roles: &mut [u8; 4096],
+) -> Call {
+    let c = cursor::first(line);
+    if cursor::is_done(c) {
+        return call;
+    }
+    if cut {
+        return reported(call, line, number, cursor::failed(c, faults::SHORTER));
+    }
+    if call.stage != OPEN {
+        return outside(call, draft, line, number, c, roles);
+    }
+    if is_opening(line, c) {
+        faults::tell(number, line, cursor::failed(c, faults::END));
+        return outside(skipped(call), draft, line, number, c, roles);
+    }
+    inside(call, draft, line, number, c, roles)
+}
+
+// At the end of the file, of which `number` is one past the last line.
+pub fn at_end(call: Call, number: u64) -> Call {
+    if call.stage != OPEN {
+        return call;
+    }
+    let c = cursor::first(b"");
+    faults::tell(number, b"", cursor::failed(c, faults::FILE_END));
+    skipped(call)
+}
+
+// Whether a line begins a call.
+fn is_opening(line: &[u8], c: Cursor) -> bool {
+    cursor::is(line, c, b"start") | cursor::is(line, c, b"batch") | cursor::is(line, c, b"host")
+}
+
+// ## Lines outside a call
+
+// With a line read while no call is open.
+fn outside(
+    call: Call,
+    draft: &mut Draft,
+    line: &[u8],
+    number: u64,
+    c: Cursor,
+    roles: &mut [u8; 4096],
+) -> Call {
+    let d = cursor::next(line, c);
+    if cursor::is(line, c, b"role") {
+        return reported(call, line, number, declared(line, d, roles));
+    }
+    if !is_opening(line, c) {
+        return reported(call, line, number, cursor::failed(c, faults::OUTSIDE));
+    }
+    draft::clear(draft);
+    if cursor::is(line, c, b"start") {
+        return start(opened(call, START, number), line, number, d);
+    }
+    if cursor::is(line, c, b"batch") {
+        return batch(opened(call, BATCH, number), line, number, d);
+    }
+    host(opened(call, HOST, number), line, number, d)
+}
+
+// Names a role.
+fn declared(line: &[u8], c: Cursor, roles: &mut [u8; 4096]) -> Cursor {
+    let d = decimal::whole(line, c, 255, faults::ROLE_NUMBER);
+    if d.fault != 0 {
+        return d;
+    }
+    let name = cursor::word(line, d);
+    if !roles::is_name(name) | node::is_property(line, d) {
+        return cursor::failed(d, faults::ROLE_NAME);
+    }
+    let other = roles::find(roles, name);
+    if (other < 256) & (other != d.number) {
+        return cursor::failed(d, faults::NAME_TAKEN);
+    }
+    let e = cursor::next(line, d);
+    if cursor::is_done(e) {
+        roles::set(roles, d.number, name);
+    }
+    e
+}
+
+// The rest of a line that begins a start.
+fn start(call: Call, line: &[u8], number: u64, c: Cursor) -> Call {
+    let mut p = call;
+    let mut d = c;
+    if cursor::is(line, c, b"raw") {
+        p = named(p, line, c);
+        d = cursor::next(line, p.name);
+    }
+    if cursor::is(line, d, b"unfocused") {
+        p.focused = false;
+        d = cursor::next(line, d);
+    }
+    begun(p, line, number, d, faults::START_WORD)
+}
+
+// The rest of a line that begins a batch.
+fn batch(call: Call, line: &[u8], number: u64, c: Cursor) -> Call {
+    let mut p = call;
+    let mut d = c;
+    if cursor::is(line, c, b"raw") {
+        p = named(p, line, c);
+        d = cursor::next(line, p.name);
+    }
+    if cursor::is(line, d, b"room") {
+        d = decimal::whole(line, cursor::next(line, d), 1024, faults::ROOM);
+        p.room = d.number as usize;
+    }
+    begun(p, line, number, d, faults::BATCH_WORD)
+}
+
+// With the name of a file of raw bytes.
+fn named(call: Call, line: &[u8], c: Cursor) -> Call {
+    let mut name = cursor::next(line, c);
+    if cursor::is_done(name) {
+        name = cursor::failed(name, faults::FILE);
+    }
+    let mut p = call;
+    p.raw = true;
+    p.name = name;
+    p
+}
+
+// Where nothing more may stand in a line that begins a call.
+fn begun(call: Call, line: &[u8], number: u64, c: Cursor, fault: u8) -> Call {
+    let mut d = c;
+    if !cursor::is_done(c) {
+        d = cursor::failed(c, fault);
+    }
+    let p = reported(call, line, number, d);
+    if p.raw {
+        return closed(p);
+    }
+    p
+}
+
+// The rest of a line of a host focus change.
+fn host(call: Call, line: &[u8], number: u64, c: Cursor) -> Call {
+    let mut p = call;
+    p.focused = cursor::is(line, c, b"on");
+    let mut d = cursor::next(line, c);
+    if !p.focused & !cursor::is(line, c, b"off") {
+        d = cursor::failed(c, faults::SWITCH);
+    }
+    closed(reported(p, line, number, d))
+}
+
+// ## Lines of a call
+
+// With a line read while a call is open.
+fn inside(
+    call: Call,
+    draft: &mut Draft,
+    line: &[u8],
+    number: u64,
+    c: Cursor,
+    roles: &[u8; 4096],
+) -> Call {
+    if cursor::is(line, c, b"end") {
+        return closed(reported(call, line, number, ended(draft, line, c)));
+    }
+    reported(call, line, number, record_line(draft, line, c, roles))
+}
+
+// What a line says of the record, written into the draft; where the line was read to. So with the lines below.
+fn record_line(draft: &mut Draft, line: &[u8], c: Cursor, roles: &[u8; 4096]) -> Cursor {
+    if cursor::is(line, c, b"node") {
+        return node::all_listed(draft, line, cursor::next(line, c), roles);
+    }
+    if cursor::is(line, c, b"root") {
+        return root(draft, line, c);
+    }
+    if cursor::is(line, c, b"focus") {
+        return focus(draft, line, c);
+    }
+    if cursor::is(line, c, b"tree") {
+        return tree(draft, line, c);
+    }
+    cursor::failed(c, faults::INSIDE)
+}
+
+// The tree data.
+fn root(draft: &mut Draft, line: &[u8], c: Cursor) -> Cursor {
+    let d = node::once(draft, line, c, node::ROOT);
+    let n = decimal::whole(line, d, u64::MAX, faults::NODE);
+    draft::set_root(draft, n.number);
+    n
+}
+
+// The focus.
+fn focus(draft: &mut Draft, line: &[u8], c: Cursor) -> Cursor {
+    let d = node::once(draft, line, c, node::FOCUS);
+    let n = decimal::whole(line, d, u64::MAX, faults::NODE);
+    draft::set_focus(draft, n.number);
+    n
+}
+
+// The tree.
+fn tree(draft: &mut Draft, line: &[u8], c: Cursor) -> Cursor {
+    let d = node::once(draft, line, c, node::TREE);
+    let n = decimal::tree(line, d, faults::TREE);
+    draft::set_tree(draft, n.high, n.number);
+    n
+}
+
+// The line that ends a call, which has said its focus.
+fn ended(draft: &Draft, line: &[u8], c: Cursor) -> Cursor {
+    if draft::is_said(draft, node::FOCUS) {
+        return cursor::next(line, c);
+    }
+    cursor::failed(c, faults::FOCUS)
+}
+
+// ## Faults
+
+// With the line's fault told, if it has one; words that are left over are one.
+fn reported(call: Call, line: &[u8], number: u64, c: Cursor) -> Call {
+    let mut d = c;
+    if !cursor::is_done(c) {
+        d = cursor::failed(c, faults::LINE_END);
+    }
+    if d.fault == 0 {
+        return call;
+    }
+    faults::tell(number, line, d);
+    let mut p = call;
+    p.bad = true;
+    p
+}
+
+// A call whose last line is read: due, unless a line was bad.
+fn closed(call: Call) -> Call {
+    if call.bad {
+        return skipped(call);
+    }
+    let mut p = call;
+    p.stage = DUE;
+    p
+}
+
+// A call that is not run.
+pub fn skipped(call: Call) -> Call {
+    put(b"call ");
+    print::number(call.number);
+    put(b", line ");
+    print::number(call.line);
+    put(b": skipped\n");
+    finished(call)
+}
+
+// A call that is run or skipped.
+pub fn finished(call: Call) -> Call {
+    let mut p = call;
+    p.stage = NONE;
+    p
+}

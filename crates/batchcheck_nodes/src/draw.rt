@@ -1,0 +1,195 @@
+// The tree, a node to a line, each two spaces to the right of the node above it. The way goes to the first child, else to the next sibling,
+// else to the next sibling of a node above, and keeps nothing but where it is.
+use crate::print::node;
+use crate::print::tree_name;
+use batchcheck_text::print::put;
+use ids::FullNodeId;
+use ids::NodeId;
+use ids::TreeId;
+use state_array::State;
+use state_focus::FoundNode;
+use state_lookup::FoundTree;
+
+// A node on the way: its slot, 320 past the end, and how deep it is.
+pub struct Place {
+    pub slot: usize,
+    pub depth: usize,
+}
+
+// Draws a state's tree.
+pub fn draw<'a>(state: &'a State, roles: &'a [u8; 4096]) {
+    let mut left = state_array::slots(state);
+    if left < 1 {
+        put(b"  no nodes\n");
+        return;
+    }
+    let mut at = top(state);
+    while 0 < left {
+        if 320 <= at.slot {
+            return;
+        }
+        indent(at.depth);
+        line(state, at.slot, roles);
+        at = next(state, at);
+        left -= 1;
+    }
+}
+
+// Two spaces, and two more a level.
+fn indent(depth: usize) {
+    put(b"  ");
+    let mut left = depth;
+    while 0 < left {
+        put(b"  ");
+        left -= 1;
+    }
+}
+
+// The node in a slot with its marks.
+fn line<'a>(state: &'a State, i: usize, roles: &'a [u8; 4096]) {
+    let x = state_array::id_at(state, i);
+    let d = state_array::shape_at(state, i);
+    node(state, x, roles);
+    if d.flags % 2 == 1 {
+        put(b" hidden");
+    }
+    if state_array::is_graft(d.flags) {
+        put(b" grafts ");
+        tree_name(d.graft);
+    }
+    focus_mark(state, x);
+    put(b"\n");
+}
+
+// Whether the focus is at a node, or what is heard is.
+fn focus_mark(state: &State, x: FullNodeId) {
+    if is_at(state_focus::effective_focus(state), x) {
+        put(b" <- focus");
+        return;
+    }
+    if is_at(state_focus::focus(state), x) {
+        put(b" <- heard");
+    }
+}
+
+// Whether a found node is x.
+fn is_at(found: FoundNode, x: FullNodeId) -> bool {
+    let FoundNode::At(y) = found else {
+        return false;
+    };
+    ids::same_id(x, y)
+}
+
+// ## The way
+
+// ROOT's root.
+pub fn top(state: &State) -> Place {
+    Place {
+        slot: root_slot(state, TreeId { high: 0, low: 0 }),
+        depth: 0,
+    }
+}
+
+// The node after a node.
+pub fn next(state: &State, p: Place) -> Place {
+    let i = p.slot;
+    let depth = p.depth;
+    let slot = below(state, i);
+    if slot < 320 {
+        return Place {
+            slot,
+            depth: std::num::wrapping_add_usize(depth, 1),
+        };
+    }
+    next_beside(state, i, depth)
+}
+
+// The next sibling of a node or of the nearest node above it that has one.
+fn next_beside(state: &State, i: usize, deep: usize) -> Place {
+    let mut at = i;
+    let mut depth = deep;
+    while 0 < depth {
+        let slot = beside(state, at);
+        if slot < 320 {
+            return Place { slot, depth };
+        }
+        at = above(state, at);
+        depth -= 1;
+    }
+    Place {
+        slot: 320,
+        depth: 0,
+    }
+}
+
+// The slot of the node above the one in a slot, 320 where there is none; so with the slots below.
+fn above(state: &State, i: usize) -> usize {
+    let l = state_array::link_at(state, i);
+    if l.linked == 0 {
+        return 320;
+    }
+    present(state, l.parent)
+}
+
+// The first child; a graft's is the root of its tree.
+fn below(state: &State, i: usize) -> usize {
+    let d = state_array::shape_at(state, i);
+    if state_array::is_graft(d.flags) {
+        return root_slot(state, d.graft);
+    }
+    nth_child(state, i, 0)
+}
+
+// The next sibling.
+fn beside(state: &State, i: usize) -> usize {
+    let l = state_array::link_at(state, i);
+    let p = above(state, i);
+    let d = state_array::shape_at(state, p);
+    if state_array::is_graft(d.flags) {
+        return 320;
+    }
+    nth_child(state, p, (l.index % 512) as usize + 1)
+}
+
+// Child j of the node in a slot.
+fn nth_child(state: &State, i: usize, j: usize) -> usize {
+    if child_count(state, i) <= j {
+        return 320;
+    }
+    present(state, child(state, i, j))
+}
+
+// The root of a tree that exists.
+fn root_slot(state: &State, t: TreeId) -> usize {
+    let FoundTree::At(e) = state_lookup::tree_of(state, t) else {
+        return 320;
+    };
+    present(state, e.root)
+}
+
+// A node that is present.
+fn present(state: &State, x: FullNodeId) -> usize {
+    let i = state_lookup::find_in(state, x);
+    if state_array::slots(state) <= i {
+        return 320;
+    }
+    i
+}
+
+// How many children the node in a slot names.
+pub fn child_count(state: &State, i: usize) -> usize {
+    let d = state_array::shape_at(state, i);
+    (d.child_count % 512) as usize
+}
+
+// The id of child j of the node in a slot.
+pub fn child(state: &State, i: usize, j: usize) -> FullNodeId {
+    let x = state_array::id_at(state, i);
+    let d = state_array::shape_at(state, i);
+    let at = std::num::wrapping_add_usize((d.first_child % 512) as usize, j);
+    let tree = x.tree;
+    FullNodeId {
+        tree,
+        node: NodeId(state_array::child_at(state, 0, at)),
+    }
+}

@@ -1,0 +1,46 @@
+-- `batchcheck_reasons::why::entry_of` meets its contract: the child entries are passed one by one. Assumes nothing.
+use Prim.Native.Nat.{_≤_, _-_}
+use borrow.Author.Needs.{needs}
+use Rattle.batchcheck_reasons.proofs.why.entry_of.Statement.{statement}
+use Rattle.batchcheck_reasons.proofs.why.entry_of.Tie as tie
+
+abbrev Inv-loop : tie.InvT-loop
+Inv-loop batch n x j₀ j = 0 ≤ j
+
+abbrev μ-loop : tie.MeasureT-loop
+μ-loop batch n x j₀ j = n - j
+
+loop-holds : tie.Need-loop-holds Inv-loop μ-loop
+loop-holds c = search needs
+
+child-entry-requires : tie.Need-child-entry-requires Inv-loop μ-loop
+child-entry-requires c κs = search needs
+
+returns : tie.Need-returns Inv-loop μ-loop
+returns c = search needs
+
+add-j : tie.Need-add-j Inv-loop μ-loop
+add-j c = search needs
+
+loop-less : tie.Need-loop-less Inv-loop μ-loop
+loop-less c = search needs
+
+loop-again : tie.Need-loop-again Inv-loop μ-loop
+loop-again c = search needs
+
+returns-2 : tie.Need-returns-2 Inv-loop μ-loop
+returns-2 c = search needs
+
+pub entry-of-spec : {M : Type 1} → statement M
+entry-of-spec =
+    tie.close
+    (tie.spec
+    Inv-loop
+    μ-loop
+    loop-holds
+    child-entry-requires
+    returns
+    add-j
+    loop-less
+    loop-again
+    returns-2)

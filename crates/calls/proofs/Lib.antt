@@ -1,9 +1,0 @@
-pub mod Focus
-pub mod Numbers
-pub mod Starts
-pub mod Slices
-pub mod Extras
-pub mod Updates
-pub mod Answered
-pub mod Seeds
-pub mod Hosts

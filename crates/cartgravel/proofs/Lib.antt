@@ -1,0 +1,4 @@
+pub mod Host
+pub mod Answers
+pub mod Updates
+pub mod Starts

@@ -1,0 +1,146 @@
+-- Laws of what the accessors answer. Assumes nothing.
+use mathlib.Core.Bool.{Bool, true, false, true≢false, false≢true}
+use mathlib.Core.List.{List}
+use mathlib.Core.Option.{none, some}
+use mathlib.Core.Path.{_≡_, refl, sym, ap, _∙_}
+use Prim.Native.Nat.{ℕ, _+_, _-_, min, _≤_, _<_}
+use native.Mathlib.Omega.{arith}
+use lib.Dec.{ltb}
+use lib.ListN.{length, getD, take, drop, List·getD-eq-default}
+use borrow.Author.Tests.{ltb-true, ltb-false, lt-ltb, le-ltb}
+use Rattle.base.specs.Tests.{if_then_else_, isSome}
+use Rattle.base.specs.Bytes.{le}
+use Rattle.base.proofs.Tests.{is-some-if}
+use Rattle.base.proofs.Bytes.{length-list-of, list-of-at, part-cut}
+use Rattle.ids.specs.declared.NodeId.{NodeId}
+use Rattle.record.specs.Batch.{Listed, Batch, namedIds}
+use Rattle.record.specs.Layout.{nodeCount, entryCount, hasTreeData, treeRoot, recordAt, entryAt, labelsAt, childCount, labelStart, labelLength}
+use Rattle.record.specs.Parse.{nodeOf, wellFormed, parse}
+use Rattle.record.proofs.Batch.{named-at}
+use Rattle.record.proofs.Parse.{parsed, nodes-length, entries-named, first-child-named}
+use Rattle.record_reader.specs.Reader.{batchIn, noNode, blank, listedAt, fieldAt, entriesOf, rootOrZero}
+
+-- ## The batch
+
+-- bytes that parse say the parsed batch
+pub batch-in : (s : List ℕ) (b : Batch) → parse s ≡ some b → batchIn s ≡ b
+unfolding batchIn
+batch-in s b e = parsed s b e .1
+
+pub node-count-is : (s : List ℕ) → nodeCount s ≡ length (batchIn s .nodes)
+unfolding batchIn
+node-count-is s = sym (nodes-length s)
+
+-- ## The tree root
+
+pub root-there : (s : List ℕ) → hasTreeData s ≡ isSome (batchIn s .root)
+unfolding batchIn
+root-there s = sym (is-some-if (hasTreeData s) _)
+
+module _ (s : List ℕ) where
+  pub root-given : isSome (batchIn s .root) ≡ true → rootOrZero (batchIn s .root) ≡ record { 0 = treeRoot s }
+  unfolding batchIn
+  root-given h = go (hasTreeData s) h
+    where
+      go : (t : Bool) → isSome {A = NodeId} (if t then some (record { 0 = treeRoot s }) else none) ≡ true
+          → rootOrZero (if t then some (record { 0 = treeRoot s }) else none) ≡ record { 0 = treeRoot s }
+      go true e = refl
+      go false e = absurd (false≢true e)
+
+  pub root-missing : isSome (batchIn s .root) ≡ false → rootOrZero (batchIn s .root) ≡ noNode
+  unfolding batchIn
+  root-missing h = go (hasTreeData s) h
+    where
+      go : (t : Bool) → isSome {A = NodeId} (if t then some (record { 0 = treeRoot s }) else none) ≡ false
+          → rootOrZero (if t then some (record { 0 = treeRoot s }) else none) ≡ noNode
+      go true e = absurd (true≢false e)
+      go false e = refl
+
+-- ## Nodes
+
+module _ (s : List ℕ) (i : ℕ) where
+  -- the node listed at a position is the one that its record says
+  pub listed-here : i < nodeCount s → listedAt (batchIn s) i ≡ nodeOf s i
+  unfolding batchIn listedAt
+  listed-here h = list-of-at (nodeCount s) i (nodeOf s) blank h
+
+  pub listed-past : nodeCount s ≤ i → listedAt (batchIn s) i ≡ blank
+  unfolding batchIn listedAt
+  listed-past h = List·getD-eq-default (batchIn s .nodes) blank (rw (length-list-of (nodeCount s) (nodeOf s)) h)
+
+  -- a number of its record, where as many nodes are counted
+  pub field-here : {n : ℕ} (w offset : ℕ) → n ≡ nodeCount s → i < n → fieldAt w s i offset ≡ le w s (recordAt i + offset)
+  unfolding fieldAt
+  field-here w offset e h = rw (← e, lt-ltb i _ h)
+
+  pub field-past : {n : ℕ} (w offset : ℕ) → n ≡ nodeCount s → n ≤ i → fieldAt w s i offset ≡ 0
+  unfolding fieldAt
+  field-past w offset e h = rw (← e, le-ltb i _ h)
+
+  -- the node's field that the number stands for
+  pub field-is : {A : Type 0} (w offset : ℕ) (g : ℕ → A) (f : Listed → A) → g 0 ≡ f blank → g (le w s (recordAt i + offset)) ≡ f (nodeOf s i)
+      → g (fieldAt w s i offset) ≡ f (listedAt (batchIn s) i)
+  unfolding fieldAt
+  field-is w offset g f z e = go (ltb i (nodeCount s)) refl
+    where
+      go : (t : Bool) → ltb i (nodeCount s) ≡ t → g (if t then le w s (recordAt i + offset) else 0) ≡ f (listedAt (batchIn s) i)
+      go true h = e ∙ sym (ap f (listed-here (ltb-true i (nodeCount s) h)))
+      go false h = z ∙ sym (ap f (listed-past (ltb-false i (nodeCount s) h)))
+
+  -- ## Children and labels
+
+  pub children-count : fieldAt 2 s i 34 ≡ length (listedAt (batchIn s) i .body .children)
+  children-count = field-is 2 34 (λ n. n) (λ l. length (l .body .children)) refl (sym (length-list-of (childCount s (recordAt i)) _))
+
+  pub child-here : (k : ℕ) → k < fieldAt 2 s i 34
+      → record { 0 = le 8 s (entryAt s (fieldAt 2 s i 32 + k)) } ≡ getD (listedAt (batchIn s) i .body .children) k noNode
+  child-here k h = go (ltb i (nodeCount s)) refl
+    where
+      go : (t : Bool) → ltb i (nodeCount s) ≡ t
+          → record { 0 = le 8 s (entryAt s (fieldAt 2 s i 32 + k)) } ≡ getD (listedAt (batchIn s) i .body .children) k noNode
+      go true e =
+          let in-batch : i < nodeCount s = ltb-true i (nodeCount s) e in
+          let in-node : k < childCount s (recordAt i) = rw (field-here 2 34 refl in-batch) at h in
+          rw (listed-here in-batch, field-here 2 32 refl in-batch) (sym (list-of-at (childCount s (recordAt i)) k _ noNode in-node))
+      go false e = let none-there : k < 0 = rw (field-past 2 34 refl (ltb-false i (nodeCount s) e)) at h in let no : ⊥ = omega arith in absurd no
+
+  pub child-past : (k : ℕ) → fieldAt 2 s i 34 ≤ k → noNode ≡ getD (listedAt (batchIn s) i .body .children) k noNode
+  child-past k h = sym (List·getD-eq-default (listedAt (batchIn s) i .body .children) noNode (rw (← children-count) h))
+
+  -- a label whose start and end are cut at the end of the bytes
+  pub label-is : (start stop : ℕ) → i < nodeCount s → start ≡ min (labelsAt s + labelStart s (recordAt i)) (length s)
+      → stop ≡ min (start + labelLength s (recordAt i)) (length s) → take (stop - start) (drop start s) ≡ listedAt (batchIn s) i .body .label
+  label-is start stop h s-is e-is =
+      rw (listed-here h) (part-cut s (labelsAt s + labelStart s (recordAt i)) (labelLength s (recordAt i)) start stop s-is e-is)
+
+-- ## Child entries
+
+module _ (s : List ℕ) (j : ℕ) where
+  pub entry-here : j < entryCount s → getD (entriesOf s) j noNode ≡ record { 0 = le 8 s (entryAt s j) }
+  unfolding entriesOf
+  entry-here h = list-of-at (entryCount s) j _ noNode h
+
+  pub entry-past : entryCount s ≤ j → getD (entriesOf s) j noNode ≡ noNode
+  unfolding entriesOf
+  entry-past h = List·getD-eq-default (entriesOf s) noNode (rw (length-list-of (entryCount s) _) h)
+
+-- ## On a record
+
+module _ (s : List ℕ) (h : wellFormed s ≡ true) where
+  -- all child entries are the children that the nodes name
+  pub entries-are : entriesOf s ≡ namedIds (batchIn s .nodes)
+  unfolding batchIn entriesOf
+  entries-are = entries-named s h
+
+  -- the children of a node stand after those that the nodes before it name
+  pub first-child-is : (i : ℕ) → i < length (batchIn s .nodes) → fieldAt 2 s i 32 ≡ length (namedIds (take i (batchIn s .nodes)))
+  unfolding batchIn
+  first-child-is i l =
+      let within : i < nodeCount s = rw (nodes-length s) at l in
+      field-here s i 2 32 refl within ∙ first-child-named s h i within
+
+  -- so entry `first + k` is child k
+  pub entry-is-child : (i k : ℕ) → i < length (batchIn s .nodes) → k < length (listedAt (batchIn s) i .body .children)
+      → getD (entriesOf s) (fieldAt 2 s i 32 + k) noNode ≡ getD (listedAt (batchIn s) i .body .children) k noNode
+  unfolding listedAt
+  entry-is-child i k l m = rw (entries-are, first-child-is i l) (named-at (batchIn s .nodes) i k noNode blank l m)

@@ -1,0 +1,18 @@
+-- `record_reader::header` meets its contract: the calls' equations join the fields. Assumes nothing.
+use borrow.Author.Needs.{needs}
+use Rattle.record_reader.proofs.header.Statement.{statement}
+use Rattle.record_reader.proofs.header.Tie as tie
+
+returns : tie.Need-returns
+returns c = cc
+
+pub header-spec : {M : Type 1} → statement M
+header-spec =
+    tie.close
+    (tie.spec
+    (λ c κs. search needs)
+    (λ c κs. search needs)
+    (λ c κs. search needs)
+    (λ c κs. search needs)
+    (λ c κs. search needs)
+    returns)

@@ -1,0 +1,22 @@
+-- `record_reader::node` meets its contract: the calls' equations join the fields. Assumes nothing.
+use borrow.Author.Needs.{needs}
+use Rattle.record_reader.proofs.node.Statement.{statement}
+use Rattle.record_reader.proofs.node.Tie as tie
+
+returns : tie.Need-returns
+returns c = cc
+
+pub node-spec : {M : Type 1} → statement M
+node-spec =
+    tie.close
+    (tie.spec
+    (λ c κs. search needs)
+    (λ c κs. search needs)
+    (λ c κs. search needs)
+    (λ c κs. search needs)
+    (λ c κs. search needs)
+    (λ c κs. search needs)
+    (λ c κs. search needs)
+    (λ c κs. search needs)
+    (λ c κs. search needs)
+    returns)

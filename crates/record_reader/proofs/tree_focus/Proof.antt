@@ -1,0 +1,12 @@
+-- `record_reader::tree_focus` meets its contract: the number that is read. Assumes nothing.
+use Rattle.record_reader.specs.Reader.{batchIn}
+use borrow.Author.Needs.{needs}
+use Rattle.record_reader.proofs.tree_focus.Statement.{statement}
+use Rattle.record_reader.proofs.tree_focus.Tie as tie
+
+returns : tie.Need-returns
+unfolding batchIn
+returns c = cc
+
+pub tree-focus-spec : {M : Type 1} → statement M
+tree-focus-spec = tie.close (tie.spec (λ c κs. search needs) returns)

@@ -1,3 +1,0 @@
-pub mod Changes
-pub mod Lists
-pub mod Slice

@@ -1,0 +1,161 @@
+-- Laws of the image of a state: where each word of it stands, and that an array that holds its words is the image. Assumes nothing.
+use mathlib.Core.Bool.{Bool}
+use mathlib.Core.List.{List, [], _∷_, _++_}
+use mathlib.Core.Path.{_≡_, refl, sym, ap, _∙_}
+use Prim.Native.Nat.{ℕ, zero, suc, _+_, _*_, _≤_, _<_}
+use native.Mathlib.Nat.{mul-zero, mul-suc, zero-add}
+use native.Mathlib.Omega.{arith}
+use lib.ListN.{length, getD, set, length-append, List·getD-append}
+use lib.Seq.{getD-append-add, ext-getD}
+use Rattle.base.specs.Tests.{if_then_else_}
+use Rattle.base.specs.Bytes.{listOf}
+use Rattle.base.specs.Regions.{Part, part, wordsOf, image}
+use Rattle.base.proofs.Regions.{part-length, part-at, part-rest}
+use Rattle.state.specs.State.{State}
+use Rattle.state_array.specs.Layout.{countOf, treeCountOf, hostOf, entryPlace, entry, place, word, childPlace, child}
+use Rattle.state_array.specs.Stored.{noNode, noTree, nodeWord, treeWord, entriesOf, headWord, parts, stored}
+use Rattle.state_array.proofs.Words.{word-there, entry-there, child-there}
+
+-- ## Tables of one size that stand first
+
+module _ (size used : ℕ) (ps : List Part) where
+  -- place i of table f
+  table-at : (n : ℕ) (w : ℕ → ℕ → ℕ) (f i : ℕ) → f < n → i < size
+      → getD (image (listOf n (λ j. part size used (w j)) ++ ps)) (size * f + i) 0 ≡ getD (wordsOf (part size used (w f))) i 0
+  unfolding listOf image
+  table-at zero w f i h l = absurd (omega arith)
+  table-at (suc n) w zero i h l =
+      let z : size * 0 + i ≡ i = rw (mul-zero size) (zero-add i) in
+      ap (λ k. getD (wordsOf (part size used (w 0)) ++ image (listOf n (λ j. part size used (w (suc j))) ++ ps)) k 0) z
+      ∙ List·getD-append (wordsOf (part size used (w 0))) (image (listOf n (λ j. part size used (w (suc j))) ++ ps)) 0 i (rw (part-length (part size used (w 0))) l)
+  table-at (suc n) w (suc f) i h l =
+      let e : size * suc f + i ≡ length (wordsOf (part size used (w 0))) + (size * f + i) = omega (arith, mul-suc size f, part-length (part size used (w 0))) in
+      ap (λ k. getD (wordsOf (part size used (w 0)) ++ image (listOf n (λ j. part size used (w (suc j))) ++ ps)) k 0) e
+      ∙ getD-append-add (wordsOf (part size used (w 0))) (image (listOf n (λ j. part size used (w (suc j))) ++ ps)) (size * f + i) 0
+      ∙ table-at n (λ j. w (suc j)) f i (omega arith) l
+
+  -- what stands after n tables
+  table-past : (n : ℕ) (w : ℕ → ℕ → ℕ) (k : ℕ) → getD (image (listOf n (λ j. part size used (w j)) ++ ps)) (size * n + k) 0 ≡ getD (image ps) k 0
+  unfolding listOf image
+  table-past zero w k = let z : size * 0 + k ≡ k = rw (mul-zero size) (zero-add k) in ap (λ m. getD (image ps) m 0) z
+  table-past (suc n) w k =
+      let e : size * suc n + k ≡ length (wordsOf (part size used (w 0))) + (size * n + k) = omega (arith, mul-suc size n, part-length (part size used (w 0))) in
+      ap (λ m. getD (wordsOf (part size used (w 0)) ++ image (listOf n (λ j. part size used (w (suc j))) ++ ps)) m 0) e
+      ∙ getD-append-add (wordsOf (part size used (w 0))) (image (listOf n (λ j. part size used (w (suc j))) ++ ps)) (size * n + k) 0
+      ∙ table-past n (λ j. w (suc j)) k
+
+-- ## How long an image is
+
+abbrev pub sizesOf : List Part → ℕ
+sizesOf [] = 0
+sizesOf (p ∷ ps) = p .size + sizesOf ps
+
+pub image-length : (ps : List Part) → length (image ps) ≡ sizesOf ps
+unfolding image
+image-length [] = refl
+image-length (p ∷ ps) = length-append (wordsOf p) (image ps) ∙ rw (part-length p, image-length ps)
+
+module _ (a : State) where
+  pub stored-length : length (stored a) ≡ 9640
+  unfolding stored listOf
+  stored-length = image-length (parts a)
+
+  -- an array of so many words that are the image's is the image
+  pub stored-ext : (t : List ℕ) → length t ≡ 9640 → ((k : ℕ) → k < 9640 → getD t k 0 ≡ getD (stored a) k 0) → t ≡ stored a
+  stored-ext t l h = ext-getD 0 t (stored a) (l ∙ sym stored-length) (λ k b. h k (rw l at b))
+
+  -- ## The four regions
+
+  abbrev entryParts : List Part
+  entryParts = part 512 (length (entriesOf (a .forest .nodes))) (λ j. getD (entriesOf (a .forest .nodes)) j noNode .0) ∷ []
+
+  abbrev nodeParts : List Part
+  nodeParts = listOf 28 (λ f. part 320 (length (a .forest .nodes)) (nodeWord (a .forest .nodes) f)) ++ entryParts
+
+  abbrev treeParts : List Part
+  treeParts = listOf 5 (λ j. part 32 (length (a .forest .trees)) (λ k. treeWord (getD (a .forest .trees) k noTree) j)) ++ nodeParts
+
+  -- the words after the head
+  past-head : (k : ℕ) → getD (stored a) (8 + k) 0 ≡ getD (image treeParts) k 0
+  unfolding stored image
+  past-head k =
+      let e : 8 + k ≡ length (wordsOf (part 8 3 (headWord a))) + k = omega (arith, part-length (part 8 3 (headWord a))) in
+      ap (λ m. getD (wordsOf (part 8 3 (headWord a)) ++ image treeParts) m 0) e ∙ getD-append-add (wordsOf (part 8 3 (headWord a))) (image treeParts) k 0
+
+  -- and after the table of trees
+  past-trees : (k : ℕ) → getD (stored a) (168 + k) 0 ≡ getD (image nodeParts) k 0
+  past-trees k =
+      let e : 168 + k ≡ 8 + (32 * 5 + k) = omega arith in
+      ap (λ m. getD (stored a) m 0) e ∙ past-head (32 * 5 + k)
+      ∙ table-past 32 (length (a .forest .trees)) nodeParts 5 (λ j k. treeWord (getD (a .forest .trees) k noTree) j) k
+
+  pub head-place : (k : ℕ) → k < 8 → getD (stored a) k 0 ≡ getD (wordsOf (part 8 3 (headWord a))) k 0
+  unfolding stored image
+  head-place k h = List·getD-append (wordsOf (part 8 3 (headWord a))) (image treeParts) 0 k (rw (part-length (part 8 3 (headWord a))) h)
+
+  pub tree-place : (j k : ℕ) → j < 5 → k < 32
+      → getD (stored a) (entryPlace j k) 0 ≡ getD (wordsOf (part 32 (length (a .forest .trees)) (λ k. treeWord (getD (a .forest .trees) k noTree) j))) k 0
+  tree-place j k h l =
+      let e : entryPlace j k ≡ 8 + (32 * j + k) = omega arith in
+      ap (λ m. getD (stored a) m 0) e ∙ past-head (32 * j + k)
+      ∙ table-at 32 (length (a .forest .trees)) nodeParts 5 (λ j k. treeWord (getD (a .forest .trees) k noTree) j) j k h l
+
+  pub node-place : (f i : ℕ) → f < 28 → i < 320
+      → getD (stored a) (place f i) 0 ≡ getD (wordsOf (part 320 (length (a .forest .nodes)) (nodeWord (a .forest .nodes) f))) i 0
+  node-place f i h l =
+      let e : place f i ≡ 168 + (320 * f + i) = omega arith in
+      ap (λ m. getD (stored a) m 0) e ∙ past-trees (320 * f + i)
+      ∙ table-at 320 (length (a .forest .nodes)) entryParts 28 (nodeWord (a .forest .nodes)) f i h l
+
+  pub child-place : (j : ℕ) → j < 512
+      → getD (stored a) (childPlace j) 0 ≡ getD (wordsOf (part 512 (length (entriesOf (a .forest .nodes))) (λ j. getD (entriesOf (a .forest .nodes)) j noNode .0))) j 0
+  unfolding image
+  child-place j l =
+      let e : childPlace j ≡ 168 + (320 * 28 + j) = omega arith in
+      ap (λ m. getD (stored a) m 0) e ∙ past-trees (320 * 28 + j)
+      ∙ table-past 320 (length (a .forest .nodes)) entryParts 28 (nodeWord (a .forest .nodes)) j
+      ∙ List·getD-append (wordsOf (part 512 (length (entriesOf (a .forest .nodes))) (λ j. getD (entriesOf (a .forest .nodes)) j noNode .0))) [] 0 j (rw part-length l)
+
+  -- ## What is read
+
+  pub stored-count : countOf (stored a) ≡ length (a .forest .nodes)
+  unfolding headWord
+  stored-count = head-place 0 (omega arith) ∙ part-at (part 8 3 (headWord a)) 0 (omega arith) (omega arith)
+
+  pub stored-trees : treeCountOf (stored a) ≡ length (a .forest .trees)
+  unfolding headWord
+  stored-trees = head-place 1 (omega arith) ∙ part-at (part 8 3 (headWord a)) 1 (omega arith) (omega arith)
+
+  pub stored-host : hostOf (stored a) ≡ (if a .hostFocused then 1 else 0)
+  unfolding headWord
+  stored-host = head-place 2 (omega arith) ∙ part-at (part 8 3 (headWord a)) 2 (omega arith) (omega arith)
+
+  module _ (few : length (a .forest .nodes) ≤ 320) (f i : ℕ) (h : f < 28) where
+    pub stored-word : i < length (a .forest .nodes) → word (stored a) f i ≡ nodeWord (a .forest .nodes) f i
+    stored-word l =
+        word-there (stored a) f i h (omega arith) ∙ node-place f i h (omega arith)
+        ∙ part-at (part 320 (length (a .forest .nodes)) (nodeWord (a .forest .nodes) f)) i (omega arith) l
+
+    -- past the last node
+    pub stored-unused : i < 320 → length (a .forest .nodes) ≤ i → word (stored a) f i ≡ 0
+    stored-unused l past =
+        word-there (stored a) f i h l ∙ node-place f i h l
+        ∙ part-rest (part 320 (length (a .forest .nodes)) (nodeWord (a .forest .nodes) f)) i l past
+
+  module _ (few : length (a .forest .trees) ≤ 32) (j k : ℕ) (h : j < 5) where
+    pub stored-entry : k < length (a .forest .trees) → entry (stored a) j k ≡ treeWord (getD (a .forest .trees) k noTree) j
+    stored-entry l =
+        entry-there (stored a) j k h (omega arith) ∙ tree-place j k h (omega arith)
+        ∙ part-at (part 32 (length (a .forest .trees)) (λ k. treeWord (getD (a .forest .trees) k noTree) j)) k (omega arith) l
+
+  module _ (room : length (entriesOf (a .forest .nodes)) ≤ 512) (own j : ℕ) where
+    pub stored-child : j < length (entriesOf (a .forest .nodes)) → child (stored a) own j ≡ getD (entriesOf (a .forest .nodes)) j noNode .0
+    stored-child l =
+        child-there (stored a) own j (omega arith) ∙ child-place j (omega arith)
+        ∙ part-at (part 512 (length (entriesOf (a .forest .nodes))) (λ j. getD (entriesOf (a .forest .nodes)) j noNode .0)) j (omega arith) l
+
+-- ## The host flag is one word
+
+pub stored-set-host : (a : State) (h : Bool) → set (stored a) 2 (if h then 1 else 0) ≡ stored (record { forest = a .forest; hostFocused = h })
+unfolding stored image wordsOf listOf headWord
+stored-set-host a h = refl

@@ -1,0 +1,43 @@
+-- What applying a batch answers and writes: the outcome shows itself, and the number is that of rows 9 to 20. Assumes nothing.
+use mathlib.Core.List.{List}
+use mathlib.Core.Path.{_≡_, refl, sym, ap, _∙_}
+use Prim.Native.Nat.{ℕ, _<_}
+use lib.ListN.{getD}
+use Rattle.state.specs.State.{State}
+use Rattle.state_array.specs.Stored.{stored}
+use Rattle.state_array.specs.View.{view}
+use Rattle.state_array.proofs.Viewed.{view-stored}
+use Rattle.update_notes.specs.declared.Refusal.{Refusal}
+use Rattle.update_notes.specs.declared.Scope.{Scope}
+use Rattle.update_notes.specs.Setting.{asked, forest, refusal}
+use Rattle.update_notes.specs.Says.{Told, PLANNED}
+use Rattle.update_outcome.proofs.Fits.{outcome-fits, asked-labels}
+use Rattle.update_rows.specs.Rows.{lastNumber, clashes}
+use Rattle.update_rows.proofs.Numbers.{passRows, later-early, later-last}
+use Rattle.update_notes.specs.Says.{outcomeState}
+use Rattle.update_apply.specs.Applied.{Written, Applied}
+
+module _ (state bytes : List ℕ) (c : Scope) (notes next : List ℕ) where
+  -- an outcome that was written
+  pub written-is : Told PLANNED state bytes c notes → ((i : ℕ) → getD bytes i 0 < 256) → next ≡ stored (outcomeState state bytes c) → Written state bytes c notes next
+  written-is told byte words = record {
+    told = told;
+    words = words;
+    shows = ap view words ∙ view-stored (outcomeState state bytes c) (outcome-fits state bytes c (told .given) (asked-labels bytes c byte));
+  }
+
+  -- a batch that rows 9 to 14 refuse
+  pub applied-early : (r : Refusal) → r ≡ refusal (passRows (forest state) (asked bytes c)) → (r .number ≡ 0 → ⊥) → Applied state bytes c notes next r
+  applied-early r e some =
+      let wrong : passRows (forest state) (asked bytes c) ≡ 0 → ⊥ = λ z. some (ap (λ (q : Refusal). q .number) e ∙ z) in
+      record { number = e ∙ ap refusal (sym (later-early (forest state) (asked bytes c) wrong)); written = λ z. absurd (wrong z) }
+
+  -- one that they let pass
+  pub applied-last : (early r : Refusal) → early ≡ refusal (passRows (forest state) (asked bytes c)) → early .number ≡ 0 → Written state bytes c notes next
+      → r ≡ refusal (lastNumber (view next .forest) (clashes state bytes c)) → Applied state bytes c notes next r
+  applied-last early r e none w q =
+      let zero = sym (ap (λ (x : Refusal). x .number) e) ∙ none in
+      record {
+        number = q ∙ ap (λ (a : State). refusal (lastNumber (a .forest) (clashes state bytes c))) (w .shows) ∙ ap refusal (sym (later-last (forest state) (asked bytes c) zero));
+        written = λ _. w;
+      }

@@ -1,0 +1,35 @@
+-- `update_apply::apply` meets its contract: a law for each way out. Assumes nothing.
+use borrow.Author.Needs.{needs}
+use native.Mathlib.Omega.{arith}
+use Rattle.update_pass.specs.Rows.{passNumber}
+use Rattle.update_writing.proofs.Plan.{told-compared}
+use Rattle.update_apply.proofs.Applied.{applied-early, applied-last}
+use Rattle.update_apply.proofs.apply.Statement.{statement}
+use Rattle.update_apply.proofs.apply.Tie as tie
+
+returns : tie.Need-returns
+unfolding passNumber
+returns c = applied-early _ _ _ _ _ _ (c .before .before .pass-rows .ensures) (c .if1 .taken)
+
+updated-and-removed-requires : tie.Need-updated-and-removed-requires
+updated-and-removed-requires c κs = told-compared _ _ _ _ (c .before .write .ensures .told)
+
+returns-2 : tie.Need-returns-2
+unfolding passNumber
+returns-2 c =
+    let w = c .before .before .before .before in
+    let p = w .before .before .before in
+    applied-last _ _ _ _ _ _ _ (p .before .before .pass-rows .ensures) (p .if1 .left) (w .write .ensures)
+    (rw (← c .before .before .updated-and-removed .ensures) (c .last-rows .ensures))
+
+pub apply-spec : {M : Type 1} → statement M
+apply-spec =
+    tie.close
+    (tie.spec
+    (λ c κs. search needs)
+    (λ c κs. search needs)
+    returns
+    (λ c κs. search needs)
+    updated-and-removed-requires
+    (λ c κs. search needs)
+    returns-2)

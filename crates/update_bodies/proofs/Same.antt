@@ -1,0 +1,137 @@
+-- Laws of the comparison by value. Assumes nothing.
+use mathlib.Core.Bool.{Bool, true, false, false≢true}
+use mathlib.Core.List.{List, map}
+use mathlib.Core.Path.{_≡_, refl, sym, ap, _∙_}
+use Prim.Native.Nat.{ℕ, _<_}
+use native.Mathlib.Omega.{arith}
+use lib.Dec.{eqb}
+use lib.Ieee.{toBits, binary64}
+use lib.ListN.{length, getD}
+use borrow.Author.Tests.{eq-eqb, eqb-true}
+use Rattle.base.specs.Tests.{_&&_, sameList}
+use Rattle.base.specs.Bytes.{allBelow, listOf}
+use Rattle.base.proofs.Tests.{both, iff, same-list→≡}
+use Rattle.base.proofs.Bytes.{all-below-at}
+use Rattle.base.proofs.Indexed.{all-below-each}
+use Rattle.base.proofs.Compared.{same-list-each, same-list-fails}
+use Rattle.ids.specs.Ids.{sameTree, sameNode}
+use Rattle.ids.proofs.Ids.{same-node→≡}
+use Rattle.geometry.specs.Geometry.{sameRect, sameAffine}
+use Rattle.record.specs.Batch.{NodeData, sameData}
+use Rattle.record.proofs.Batch.{field-rules}
+use Rattle.state_array.specs.Stored.{floatsOf, bodyOf, DataFits}
+use Rattle.state_array.specs.declared.Body.{Body}
+use Rattle.state_array.proofs.Labels.{float-forth}
+use Rattle.update_bodies.specs.Bodies.{boundsOf, transformOf, sameRun, sameBody}
+use Rattle.update_bodies.proofs.Labels.{label-same}
+
+-- ## Runs
+
+-- two lists of one length, place by place
+pub list-run : {A : Type 0} (same : A → A → Bool) (d : A) (n : ℕ) (f : ℕ → A) (ys : List A) → n ≡ length ys
+    → allBelow n (λ j. same (f j) (getD ys j d)) ≡ sameList same (listOf n f) ys
+list-run same d n f ys e = iff (λ h. same-list-each same d n f ys e (λ j l. all-below-at _ n j h l)) (λ h. all-below-each _ n (λ j l. go j l h (same (f j) (getD ys j d)) refl))
+  where
+    go : (j : ℕ) → j < n → sameList same (listOf n f) ys ≡ true → (t : Bool) → same (f j) (getD ys j d) ≡ t → same (f j) (getD ys j d) ≡ true
+    go j l h true q = q
+    go j l h false q = absurd (false≢true (sym (same-list-fails same d n f ys j l (omega arith) q) ∙ h))
+
+-- ## Images
+
+-- images whose fields were compared one by one
+pub body-compared : (a b : Body) {g n w r t : Bool} → g ≡ sameTree (a .graft) (b .graft) → n ≡ sameNode (a .«active_descendant») (b .«active_descendant»)
+    → w ≡ sameRun (a .label) 0 (b .label) 0 0 4
+    → r ≡ sameRect (boundsOf (a .floats)) (boundsOf (b .floats))
+    → t ≡ sameAffine (transformOf (a .floats)) (transformOf (b .floats))
+    → eqb (a .«child_count») (b .«child_count») && eqb (a .flags) (b .flags) && g
+    && (n && (eqb (a .«label_length») (b .«label_length») && w) && eqb (a .role) (b .role) && r && t)
+    ≡ sameBody a b
+unfolding sameBody
+body-compared a b g n w r t = cc
+
+-- ## Data
+
+-- the floats of an image are the data's
+module _ (d : NodeData) (f : DataFits d) where
+  bounds-back : boundsOf (map (toBits binary64) (floatsOf d)) ≡ d .bounds
+  unfolding boundsOf floatsOf
+  bounds-back =
+      let one = both (f .floats) in
+      let two = both (one .1) in
+      let three = both (two .1) in
+      let four = both (three .1) in
+      let x0 = float-forth (d .bounds .x0) (one .0) in
+      let y0 = float-forth (d .bounds .y0) (two .0) in
+      let x1 = float-forth (d .bounds .x1) (three .0) in
+      let y1 = float-forth (d .bounds .y1) (four .0) in
+      λ z. record { x0 = x0 z; y0 = y0 z; x1 = x1 z; y1 = y1 z }
+
+  transform-back : transformOf (map (toBits binary64) (floatsOf d)) ≡ d .transform
+  unfolding transformOf floatsOf
+  transform-back =
+      let four = both (both (both (both (f .floats) .1) .1) .1) in
+      let five = both (four .1) in
+      let six = both (five .1) in
+      let seven = both (six .1) in
+      let eight = both (seven .1) in
+      let nine = both (eight .1) in
+      let ten = both (nine .1) in
+      let a = float-forth (d .transform .a) (five .0) in
+      let b = float-forth (d .transform .b) (six .0) in
+      let c = float-forth (d .transform .c) (seven .0) in
+      let dd = float-forth (d .transform .d) (eight .0) in
+      let e = float-forth (d .transform .e) (nine .0) in
+      let f = float-forth (d .transform .f) (ten .0) in
+      λ z. record { a = a z; b = b z; c = c z; d = dd z; e = e z; f = f z }
+
+-- what data compares beside the children
+abbrev pub restSame : NodeData → NodeData → Bool → Bool
+restSame d e kids =
+    kids
+    && eqb (d .flags) (e .flags)
+    && sameTree (d .graft) (e .graft)
+    && (sameNode (d .activeDescendant) (e .activeDescendant)
+    && sameList eqb (d .label) (e .label)
+    && eqb (d .role) (e .role)
+    && sameRect (d .bounds) (e .bounds)
+    && sameAffine (d .transform) (e .transform)
+    )
+
+module _ (d e : NodeData) (df : DataFits d) (ef : DataFits e) where
+  -- two images are the same where the data is, the children counted
+  pub same-body : sameBody (bodyOf d) (bodyOf e) ≡ restSame d e (eqb (length (d .children)) (length (e .children)))
+  unfolding sameBody bodyOf
+  same-body =
+      rw (bounds-back d df, bounds-back e ef, transform-back d df, transform-back e ef)
+      (ap (λ t. eqb (length (d .children)) (length (e .children))
+      && eqb (d .flags) (e .flags)
+      && sameTree (d .graft) (e .graft)
+      && (sameNode (d .activeDescendant) (e .activeDescendant) && t && eqb (d .role) (e .role) && sameRect (d .bounds) (e .bounds) && sameAffine (d .transform) (e .transform)))
+      (label-same (d .label) (e .label) (df .bytes) (ef .bytes) (field-rules d (df .fields) .label-limit)))
+
+  -- where the images are the same, the children's lists decide
+  pub data-by-children : sameBody (bodyOf d) (bodyOf e) ≡ true → sameData d e ≡ sameList sameNode (d .children) (e .children)
+  unfolding sameData _&&_
+  data-by-children h = go (sameList sameNode (d .children) (e .children)) (sym same-body ∙ h)
+    where
+      go : (t : Bool) → restSame d e (eqb (length (d .children)) (length (e .children))) ≡ true → restSame d e t ≡ t
+      go true q = ap (restSame d e) (sym (counted q)) ∙ q
+        where
+          counted : restSame d e (eqb (length (d .children)) (length (e .children))) ≡ true → eqb (length (d .children)) (length (e .children)) ≡ true
+          counted p = both (both (both p .0) .0) .0
+      go false q = refl
+
+  -- and as many are compared
+  pub children-counted : sameBody (bodyOf d) (bodyOf e) ≡ true → length (d .children) ≡ length (e .children)
+  children-counted h = eqb-true _ _ (both (both (both (sym same-body ∙ h) .0) .0) .0)
+
+  -- where they are not, the data differs
+  pub data-differs : sameBody (bodyOf d) (bodyOf e) ≡ false → sameData d e ≡ false
+  unfolding sameData _&&_
+  data-differs h = go (sameList sameNode (d .children) (e .children)) refl
+    where
+      go : (t : Bool) → sameList sameNode (d .children) (e .children) ≡ t → restSame d e t ≡ false
+      go true q =
+          let lists : d .children ≡ e .children = same-list→≡ sameNode same-node→≡ (d .children) (e .children) q in
+          ap (restSame d e) (sym (eq-eqb _ _ (ap length lists))) ∙ sym same-body ∙ h
+      go false q = refl

@@ -1,0 +1,14 @@
+-- `update_bodies::label_words` meets its contract. Assumes nothing.
+use Rattle.base.specs.Bytes.{listOf}
+use borrow.Author.Needs.{needs}
+use Rattle.update_bodies.proofs.label_words.Statement.{statement}
+use Rattle.update_bodies.proofs.label_words.Tie as tie
+
+returns : tie.Need-returns
+unfolding listOf
+returns c = cc
+
+pub label-words-spec : {M : Type 1} → statement M
+label-words-spec =
+    tie.close
+    (tie.spec (λ c κs. search needs) (λ c κs. search needs) (λ c κs. search needs) (λ c κs. search needs) returns)

@@ -1,0 +1,190 @@
+-- Laws of the links after of the nodes of the batch's tree. Assumes nothing.
+use mathlib.Core.Bool.{Bool, true, false, not}
+use mathlib.Core.Bool as bool
+use mathlib.Core.List.{List}
+use mathlib.Core.Option.{Option, none, some}
+use mathlib.Core.Path.{_≡_, refl, sym, ap, ap₂, _∙_}
+use Prim.Native.Nat.{ℕ, suc, _+_, _≤_, _<_}
+use native.Mathlib.Omega.{arith}
+use lib.Dec.{eqb, ltb, leb, leb·suc-suc}
+use lib.ListN.{length, getD}
+use borrow.Author.Tests.{eqb-true, eq-eqb, ne-eqb, lt-ltb, le-ltb}
+use Rattle.base.specs.Tests.{_&&_, if_then_else_, sameOption, distinct, position}
+use Rattle.base.specs.Search.{First}
+use Rattle.base.proofs.Tests.{iff}
+use Rattle.ids.specs.Ids.{ROOT, sameTree, sameIndex, sameNode, sameId}
+use Rattle.ids.specs.declared.TreeId.{TreeId}
+use Rattle.ids.specs.declared.TreeIndex.{TreeIndex}
+use Rattle.ids.specs.declared.NodeId.{NodeId}
+use Rattle.ids.specs.declared.FullNodeId.{FullNodeId}
+use Rattle.record.specs.Batch.{graft?, Batch, listedIds, namedIds}
+use Rattle.record_reader.specs.Reader.{noNode, listedAt}
+use Rattle.state.specs.State.{ParentAndIndex, NodeState, Forest, holder}
+use Rattle.state_array.specs.Stored.{noState}
+use Rattle.state_array.specs.View.{idIn, graftIn, bodyIn, nodeIn, slotsOf}
+use Rattle.update.specs.Words.{here, mine, old, listed, turn, naming, isRoot}
+use Rattle.update.specs.Outcome.{underGraft, paneRoot, linkIsCut, linkHere, linkElsewhere, linkAfter}
+use Rattle.update_notes.specs.Layout.{LISTED, NAMED}
+use Rattle.update_notes.specs.declared.Scope.{Scope}
+use Rattle.update_notes.specs.Setting.{rootIn, Scoped, asked, forest}
+use Rattle.update_notes.specs.Codes.{nodeAt, idAt}
+use Rattle.update_notes.specs.Says.{turnMark, namingMark, HolderIs, PositionIn, listedWord, namedWord, Told, COMPARED}
+use Rattle.update_notes.proofs.Positions.{first-unique, first-cong, position-first, has-position, first-given-at}
+use Rattle.update_notes.proofs.Places.{forest-length, forest-node, forest-id}
+use Rattle.update_notes.proofs.Marks.{here-mine, turn-self, naming-none}
+use Rattle.update_links.specs.Links.{namedLink, cutMark, graftLink}
+
+-- ## A cut
+
+-- the test for the root that tree data gives a pane
+abbrev pub paneTest : Scope → Bool → Bool
+paneTest c root = bool._&&_ (bool._&&_ root (c .«with_tree_data»)) (not (c .«is_root_tree»))
+
+-- a node that is listed and not named is cut by its mark; a new one has no link before
+cut-unnamed : (k : ℕ) (p z l u : Bool) (o : Option ParentAndIndex) → (u ≡ false → o ≡ none)
+    → (if p && z && l && true then none else o)
+    ≡ (if bool._&&_ (bool._&&_ p z) (ltb 0 (if u then (if l then suc k else 0) else 0)) then none else o)
+unfolding _&&_
+cut-unnamed k false z l u o new = refl
+cut-unnamed k true false l u o new = refl
+cut-unnamed k true true false true o new = refl
+cut-unnamed k true true false false o new = refl
+cut-unnamed k true true true true o new = rw (lt-ltb 0 (suc k) (omega arith))
+cut-unnamed k true true true false o new = sym (new refl)
+
+-- a listed node is cut at the turn r or later: by its turn k, and by its mark
+cut-sides : (k r : ℕ) (p z l u : Bool)
+    → (p && z && l && (u && leb r k)) ≡ bool._&&_ (bool._&&_ p z) (ltb r (if u then (if l then suc k else 0) else 0))
+unfolding _&&_
+cut-sides k r false z l u = refl
+cut-sides k r true false l u = refl
+cut-sides k r true true false false = sym (le-ltb r 0 (omega arith))
+cut-sides k r true true false true = sym (le-ltb r 0 (omega arith))
+cut-sides k r true true true false = sym (le-ltb r 0 (omega arith))
+cut-sides k r true true true true = sym (leb·suc-suc r k)
+
+module _ {s : Forest} {b : Batch} {c : Scope} (scoped : Scoped s b c) (x : FullNodeId) {root : Bool} (root-is : root ≡ sameOption sameId (rootIn c) (some x)) where
+  -- the root test of the scope is the batch's
+  is-root : root ≡ isRoot s b x
+  unfolding isRoot
+  is-root = root-is ∙ ap (λ (o : Option FullNodeId). sameOption sameId o (some x)) (scoped .root)
+
+  -- and so is the test for a pane's root
+  pane-is : paneTest c root ≡ paneRoot s b x
+  unfolding paneRoot _&&_
+  pane-is = rw (is-root, scoped .tree-data, scoped .root-tree)
+
+  module _ (o : Option ParentAndIndex) where
+    -- the root that tree data gives a pane: under the graft holder
+    pub link-here-pane : paneTest c root ≡ true → graftLink s (b .tree) ≡ linkHere s b x o
+    unfolding linkHere graftLink
+    link-here-pane e = rw (← pane-is, e)
+
+    module _ (e : paneTest c root ≡ false) {mark : ℕ} (q : mark ≡ cutMark s b x) where
+      -- a node that is not named: where it stood, if it is not cut
+      pub link-here-unnamed : (old s b x ≡ false → o ≡ none) → namingMark s b x ≡ 0 → {t : Bool}
+          → bool._&&_ (bool._&&_ root (c .«is_root_tree»)) (ltb 0 mark) ≡ t
+          → (if t then none else o) ≡ linkHere s b x o
+      unfolding linkHere linkIsCut cutMark turnMark
+      link-here-unnamed new f is =
+          rw (
+            ← is,
+            ← pane-is,
+            e,
+            naming-none s b x f,
+            q,
+            is-root,
+            scoped .root-tree,
+          )
+          (sym (cut-unnamed (turn s b x) (isRoot s b x) (sameTree (b .tree) ROOT) (listed s b x) (old s b x) o new))
+
+      -- a node that is named: under that name, if it is not cut after that
+      pub link-here-named : distinct sameNode (listedIds (b .nodes)) ≡ true → (r j : ℕ) → r < length (b .nodes)
+          → naming s b x ≡ some (namedLink s b r j) → {t : Bool}
+          → bool._&&_ (bool._&&_ root (c .«is_root_tree»)) (ltb r mark) ≡ t
+          → (if t then none else some (namedLink s b r j)) ≡ linkHere s b x o
+      unfolding linkHere linkIsCut cutMark turnMark namedLink
+      link-here-named once r j h f is =
+          rw (
+            ← is,
+            ← pane-is,
+            e,
+            f,
+            turn-self s b once r h,
+            q,
+            is-root,
+            scoped .root-tree,
+            cut-sides (turn s b x) r (isRoot s b x) (sameTree (b .tree) ROOT) (listed s b x) (old s b x),
+          )
+
+-- ## The graft holder
+
+module _ (state : List ℕ) (t : TreeId) {slot : ℕ} (held : HolderIs state t slot) where
+  -- the first slot that grafts a tree has its holder
+  holder-is : holder (forest state .nodes) t ≡ (if ltb slot (slotsOf state) then some (idAt (forest state) slot) else none)
+  unfolding holder nodeIn bodyIn graft? graftIn
+  holder-is =
+      let s = forest state in
+      let test : (i : ℕ) → i < slotsOf state → sameOption sameTree (graftIn state i) (some t) ≡ sameOption sameTree (graft? (nodeAt s i .body)) (some t) =
+      λ i l. ap (λ (k : NodeState). sameOption sameTree (graft? (k .body)) (some t)) (sym (forest-node state i l)) in
+      first-given-at (λ k. sameOption sameTree (graft? (k .body)) (some t)) (λ k. k .id) noState (s .nodes) slot
+      (rw (forest-length state) (first-cong _ _ (slotsOf state) slot test held))
+      ∙ rw (forest-length state)
+
+  -- no node grafts the tree
+  pub graft-link-none : slotsOf state ≤ slot → none ≡ graftLink (forest state) t
+  unfolding graftLink
+  graft-link-none h = rw (holder-is, graftLink, le-ltb slot (slotsOf state) h)
+
+  -- the first that does
+  pub graft-link-some : slot < slotsOf state → underGraft (idIn state slot) ≡ graftLink (forest state) t
+  unfolding graftLink
+  graft-link-some h = rw (holder-is, graftLink, lt-ltb slot (slotsOf state) h, forest-id state slot h)
+
+-- ## Of the batch's tree or of another
+
+module _ {s : Forest} {b : Batch} {c : Scope} (scoped : Scoped s b c) (x : FullNodeId) (o : Option ParentAndIndex) where
+  -- a node of the batch's tree
+  pub link-after-here : x .tree .0 ≡ c .tree .0 → linkHere s b x o ≡ linkAfter s b x o
+  unfolding linkAfter mine sameIndex
+  link-after-here e = rw (← scoped .tree, eq-eqb (x .tree .0) (c .tree .0) e)
+
+  -- a node of another
+  pub link-after-elsewhere : (x .tree .0 ≡ c .tree .0 → ⊥) → linkElsewhere s b x o ≡ linkAfter s b x o
+  unfolding linkAfter mine sameIndex
+  link-after-elsewhere h = rw (← scoped .tree, ne-eqb (x .tree .0) (c .tree .0) h)
+
+-- ## Listed nodes
+
+-- the naming of a number, from a search among the named children
+naming-mark-here : (s : Forest) (b : Batch) (n : NodeId) (k r : ℕ) → k ≡ length (namedIds (b .nodes))
+    → First (λ i. eqb (getD (namedIds (b .nodes)) i noNode .0) (n .0)) k r
+    → (if ltb r k then suc r else 0) ≡ namingMark s b (here s b n)
+unfolding namingMark here sameNode _&&_
+naming-mark-here s b n k r count first = rw (here-mine s b n, has-position sameNode n ids, same, count)
+  where
+    ids : List NodeId
+    ids = namedIds (b .nodes)
+
+    turned : (y : ℕ) → eqb y (n .0) ≡ eqb (n .0) y
+    turned y = iff (λ e. eq-eqb (n .0) y (sym (eqb-true y (n .0) e))) (λ e. eq-eqb y (n .0) (sym (eqb-true (n .0) y e)))
+
+    same : position sameNode ids n ≡ r
+    same = first-unique _ (length ids) _ r (position-first sameNode n noNode ids) (rw count at (first-cong _ _ k r (λ i _. turned (getD ids i noNode .0)) first))
+
+module _ {state bytes : List ℕ} {c : Scope} {notes : List ℕ} (told : Told COMPARED state bytes c notes) where
+  -- the id of listed node i
+  pub listed-is : {i : ℕ} → i < c .listed
+      → _≡_ {A = FullNodeId} (record { tree = c .tree; node = record { 0 = getD notes (LISTED + i) 0 } })
+      (here (forest state) (asked bytes c) (listedAt (asked bytes c) i .id))
+  unfolding here listedWord
+  listed-is {i} h =
+      ap₂ (λ (t : TreeIndex) (n : ℕ). record { tree = t; node = record { 0 = n } }) (told .given .scoped .tree) (told .written 0 (omega arith) i h)
+
+  -- the naming of a number
+  pub naming-is : (n : NodeId) (r : ℕ) → PositionIn notes NAMED (c .named) (n .0) r
+      → (if ltb r (c .named) then suc r else 0) ≡ namingMark (forest state) (asked bytes c) (here (forest state) (asked bytes c) n)
+  unfolding namedWord
+  naming-is n r first =
+      naming-mark-here (forest state) (asked bytes c) n (c .named) r (told .given .scoped .named)
+      (first-cong _ _ (c .named) r (λ i l. ap (λ w. eqb w (n .0)) (told .written 1 (omega arith) i l)) first)

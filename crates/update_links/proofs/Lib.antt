@@ -1,0 +1,4 @@
+pub mod Elsewhere
+pub mod Ends
+pub mod Here
+pub mod Slots

@@ -1,0 +1,318 @@
+-- The outcome fits in memory: its data is of bytes and of 64-bit floats, and its tree numbers are of 32 bits. Assumes nothing.
+use mathlib.Core.Bool.{Bool, true, false}
+use mathlib.Core.List.{List, [], _∷_, map, List·Memᴰ, List·Memᴰ·head, List·Memᴰ·tail}
+use mathlib.Core.Option.{Option, none, some}
+use mathlib.Core.Path.{_≡_, refl, sym, ap, _∙_}
+use Prim.Native.Nat.{ℕ, zero, suc, _-_, _≤_, _<_, _%_}
+use native.Mathlib.Omega.{arith}
+use lib.Dec.{eqb, ltb}
+use lib.Ieee.{fits, ofBits, binary64}
+use lib.Ieee.Bits.{ofBits-fits, is-true}
+use lib.ListN.{length, getD, take, drop, length-map}
+use borrow.Author.Tests.{lt-ltb, ltb-true}
+use Rattle.base.specs.Tests.{if_then_else_, all, has, position, firstGiven, sameOption}
+use Rattle.base.specs.Bytes.{listOf}
+use Rattle.base.proofs.Tests.{both, joined, all-member}
+use Rattle.base.proofs.Bytes.{all-list-of}
+use Rattle.ids.specs.Ids.{ROOT, sameTree, sameNode, sameIndex}
+use Rattle.ids.specs.declared.TreeId.{TreeId}
+use Rattle.ids.specs.declared.NodeId.{NodeId}
+use Rattle.ids.specs.declared.FullNodeId.{FullNodeId}
+use Rattle.record.specs.Batch.{NodeData, graft?, fieldsOk, Listed, Batch}
+use Rattle.record.specs.Parse.{nodeOf}
+use Rattle.record.specs.Layout.{nodeCount, recordAt, labelLength, labelStart, labelAt}
+use Rattle.record_reader.specs.Reader.{blank, batchIn, listedAt}
+use Rattle.state.specs.State.{ParentAndIndex, Forest, graftAt, holder}
+use Rattle.state_array.specs.Layout.{word, LABEL-LENGTH}
+use Rattle.state_array.specs.View.{idIn, linkIn, linkOf, labelByte, labelIn, boundsIn, transformIn, bodyIn, nodeIn, slotsOf, view}
+use Rattle.state_array.specs.Stored.{noState, floatsOf, NodeFits, Fits}
+use Rattle.update.specs.Words.{number, here, mine, naming, claim, claimer, claimedFrom}
+use Rattle.update.specs.Outcome.{underGraft, paneRoot, linkIsCut, linkHere, linkElsewhere, linkAfter, outcome}
+use Rattle.update.proofs.Outcome.{all-outcome}
+use Rattle.update_notes.specs.declared.Scope.{Scope}
+use Rattle.update_notes.specs.Setting.{asked, forest, Given}
+use Rattle.update_notes.specs.Codes.{nodeAt, idAt, codeId, codeLink, codeOf}
+use Rattle.update_notes.proofs.Positions.{position-first}
+use Rattle.update_notes.proofs.Setting.{batched-facts}
+use Rattle.update_notes.proofs.Told.{batched}
+use Rattle.update_outcome.proofs.Codes.{code-id}
+use Rattle.update_outcome.proofs.Nodes.{code-link}
+use Rattle.update_outcome.proofs.Room.{entries-few, nodes-few, trees-few}
+
+-- ## Lists
+
+module _ {A : Type 0} (p : A → Bool) where
+  -- a test that all pass, by index
+  pub all-at : (xs : List A) (d : A) → all p xs ≡ true → (i : ℕ) → i < length xs → p (getD xs i d) ≡ true
+  all-at [] d e i l = absurd (omega arith)
+  all-at (x ∷ xs) d e zero l = both e .0
+  all-at (x ∷ xs) d e (suc i) l = all-at xs d (both e .1) i (omega arith)
+
+  pub all-index : (xs : List A) (d : A) → ((i : ℕ) → i < length xs → p (getD xs i d) ≡ true) → all p xs ≡ true
+  all-index [] d h = refl
+  all-index (x ∷ xs) d h = joined (h 0 (omega arith)) (all-index xs d (λ i l. h (suc i) (omega arith)))
+
+  -- and past the end too
+  all-or : (xs : List A) (d : A) → all p xs ≡ true → p d ≡ true → (i : ℕ) → p (getD xs i d) ≡ true
+  all-or [] d e f i = f
+  all-or (x ∷ xs) d e f zero = both e .0
+  all-or (x ∷ xs) d e f (suc i) = all-or xs d (both e .1) f i
+
+  all-take : (n : ℕ) (xs : List A) → all p xs ≡ true → all p (take n xs) ≡ true
+  all-take zero xs e = refl
+  all-take (suc n) [] e = refl
+  all-take (suc n) (x ∷ xs) e = joined (both e .0) (all-take n xs (both e .1))
+
+  all-drop : (n : ℕ) (xs : List A) → all p xs ≡ true → all p (drop n xs) ≡ true
+  all-drop zero xs e = e
+  all-drop (suc n) [] e = refl
+  all-drop (suc n) (x ∷ xs) e = all-drop n xs (both e .1)
+
+  -- a test of what may be there
+  abbrev orNone : Option A → Bool
+  orNone none = true
+  orNone (some x) = p x
+
+  or-none-if : (t : Bool) (x : A) → p x ≡ true → orNone (if t then some x else none) ≡ true
+  or-none-if true x e = e
+  or-none-if false x e = refl
+
+-- what the first that gives something gives
+or-none-given : {A B : Type 0} (p : B → Bool) (f : A → Option B) (xs : List A) → ((x : A) → List·Memᴰ x xs → orNone p (f x) ≡ true)
+    → orNone p (firstGiven f xs) ≡ true
+or-none-given p f [] h = refl
+or-none-given {A} {B} p f (x ∷ xs) h = go (f x) (h x (List·Memᴰ·head refl)) (or-none-given p f xs (λ y m. h y (List·Memᴰ·tail m)))
+  where
+    go : (o : Option B) → orNone p o ≡ true → orNone p (firstGiven f xs) ≡ true
+        → orNone p (elim o as (λ _. Option B) [ none ↦ firstGiven f xs | some y ↦ some y ]) ≡ true
+    go none e r = r
+    go (some y) e r = e
+
+-- ## Data
+
+-- a label of bytes
+abbrev pub bytesFit : NodeData → Bool
+bytesFit d = all (λ x. ltb x 256) (d .label)
+
+-- floats of 64 bits
+abbrev pub floatsFit : NodeData → Bool
+floatsFit d = all (fits binary64) (floatsOf d)
+
+float-fit : (w : ℕ) → fits binary64 (ofBits binary64 w) ≡ true
+float-fit w = is-true (fits binary64 (ofBits binary64 w)) (ofBits-fits binary64 w)
+
+-- ten that are read from words
+ten-fit : (a b c d e f g h i j : ℕ)
+    → all (fits binary64)
+    (ofBits binary64 a ∷ ofBits binary64 b ∷ ofBits binary64 c ∷ ofBits binary64 d ∷ ofBits binary64 e ∷ ofBits binary64 f ∷ ofBits binary64 g
+    ∷ ofBits binary64 h ∷ ofBits binary64 i ∷ ofBits binary64 j ∷ []) ≡ true
+ten-fit a b c d e f g h i j =
+    joined (float-fit a) (joined (float-fit b) (joined (float-fit c) (joined (float-fit d) (joined (float-fit e)
+    (joined (float-fit f) (joined (float-fit g) (joined (float-fit h) (joined (float-fit i) (joined (float-fit j) refl)))))))))
+
+low-byte : (w : ℕ) → ltb (w % 256) 256 ≡ true
+low-byte w = lt-ltb (w % 256) 256 (omega arith)
+
+-- of a state's nodes
+view-floats : (state : List ℕ) → all (λ n. floatsFit (n .body)) (forest state .nodes) ≡ true
+unfolding view nodeIn bodyIn boundsIn transformIn floatsOf
+view-floats state = all-list-of (λ n. floatsFit (n .body)) (slotsOf state) (nodeIn state) (λ i l. ten-fit _ _ _ _ _ _ _ _ _ _)
+
+view-bytes : (state : List ℕ) → all (λ n. bytesFit (n .body)) (forest state .nodes) ≡ true
+unfolding view nodeIn bodyIn labelIn labelByte
+view-bytes state = all-list-of (λ n. bytesFit (n .body)) (slotsOf state) (nodeIn state) (λ i l. label i)
+  where
+    byte : (t : Bool) (w : ℕ) → ltb (if t then w % 256 else 0) 256 ≡ true
+    byte true w = low-byte w
+    byte false w = lt-ltb 0 256 (omega arith)
+
+    label : (i : ℕ) → all (λ x. ltb x 256) (listOf (word state LABEL-LENGTH i) (labelByte state i)) ≡ true
+    label i = all-list-of (λ x. ltb x 256) (word state LABEL-LENGTH i) (labelByte state i) (λ j l. byte (ltb j 32) _)
+
+-- of a record's nodes
+asked-floats : (bytes : List ℕ) (c : Scope) → all (λ l. floatsFit (l .body)) (asked bytes c .nodes) ≡ true
+unfolding asked batchIn floatsOf
+asked-floats bytes c = all-list-of (λ l. floatsFit (l .body)) (nodeCount bytes) (nodeOf bytes) (λ i l. ten-fit _ _ _ _ _ _ _ _ _ _)
+
+-- a record of bytes has labels of bytes
+asked-bytes : (bytes : List ℕ) (c : Scope) → ((i : ℕ) → getD bytes i 0 < 256) → all (λ l. bytesFit (l .body)) (asked bytes c .nodes) ≡ true
+unfolding asked batchIn
+asked-bytes bytes c h =
+    let whole = all-index (λ x. ltb x 256) bytes 0 (λ i l. lt-ltb (getD bytes i 0) 256 (h i)) in
+    all-list-of (λ l. bytesFit (l .body)) (nodeCount bytes) (nodeOf bytes)
+    (λ i l.
+    all-take (λ x. ltb x 256) (labelLength bytes (recordAt i)) (drop (labelAt bytes (labelStart bytes (recordAt i))) bytes)
+    (all-drop (λ x. ltb x 256) (labelAt bytes (labelStart bytes (recordAt i))) bytes whole))
+
+-- by index
+pub asked-labels : (bytes : List ℕ) (c : Scope) → ((i : ℕ) → getD bytes i 0 < 256) → (i : ℕ) → i < length (asked bytes c .nodes)
+    → all (λ x. ltb x 256) (listedAt (asked bytes c) i .body .label) ≡ true
+unfolding listedAt
+asked-labels bytes c h i l = all-at (λ k. bytesFit (k .body)) (asked bytes c .nodes) blank (asked-bytes bytes c h) i l
+
+-- ## Tree numbers
+
+-- a tree number of 32 bits
+abbrev small : FullNodeId → Bool
+small x = ltb (x .tree .0) 4294967296
+
+abbrev smallLink : Option ParentAndIndex → Bool
+smallLink o = orNone (λ l. small (l .parent)) o
+
+-- of a state's nodes
+view-small : (state : List ℕ) → all (λ n. small (n .id)) (forest state .nodes) ≡ true
+unfolding view nodeIn idIn
+view-small state = all-list-of (λ n. small (n .id)) (slotsOf state) (nodeIn state) (λ i l. lt-ltb (idIn state i .tree .0) 4294967296 (omega arith))
+
+view-links : (state : List ℕ) → all (λ n. smallLink (n .parentAndIndex)) (forest state .nodes) ≡ true
+unfolding view nodeIn linkIn linkOf
+view-links state = all-list-of (λ n. smallLink (n .parentAndIndex)) (slotsOf state) (nodeIn state) (λ i l. go i (eqb (linkIn state i .linked) 0))
+  where
+    go : (i : ℕ) (t : Bool) → smallLink (if t then none else some (record { parent = linkIn state i .parent; index = linkIn state i .index })) ≡ true
+    go i true = refl
+    go i false = lt-ltb (linkIn state i .parent .tree .0) 4294967296 (omega arith)
+
+module _ (s : Forest) (b : Batch) (few : length (s .trees) ≤ 32) (ids : all (λ n. small (n .id)) (s .nodes) ≡ true) where
+  -- of the batch's nodes
+  here-small : (n : NodeId) → small (here s b n) ≡ true
+  unfolding here number
+  here-small n =
+      let ts = map (λ e. e .id) (s .trees) in
+      lt-ltb (number s b .0) 4294967296 (omega (arith, position-first sameTree (b .tree) ROOT ts .within, length-map (s .trees) (λ e. e .id)))
+
+  naming-small : (x : FullNodeId) → smallLink (naming s b x) ≡ true
+  unfolding naming
+  naming-small x = go (mine s b x)
+    where
+      by : Listed → ParentAndIndex
+      by l = record { parent = here s b (l .id); index = position sameNode (l .body .children) (x .node) }
+
+      go : (t : Bool) → smallLink (if t then firstGiven (λ (l : Listed). if has sameNode (l .body .children) (x .node) then some (by l) else none) (b .nodes) else none) ≡ true
+      go true = or-none-given (λ l. small (l .parent)) _ (b .nodes) (λ l m. or-none-if (λ k. small (k .parent)) (has sameNode (l .body .children) (x .node)) (by l) (here-small (l .id)))
+      go false = refl
+
+  holder-small : (t : TreeId) → orNone small (holder (s .nodes) t) ≡ true
+  unfolding holder
+  holder-small t =
+      or-none-given small _ (s .nodes)
+      (λ n m. or-none-if small (sameOption sameTree (graft? (n .body)) (some t)) (n .id) (all-member (λ k. small (k .id)) (s .nodes) n ids m))
+
+  claimed-small : (p : FullNodeId) → orNone small (claimedFrom s b p) ≡ true
+  unfolding claimedFrom claimer
+  claimed-small p = go (graftAt (s .nodes) p)
+    where
+      go : (o : Option TreeId) → orNone small (elim o as (λ _. Option FullNodeId) [ none ↦ none | some t ↦ claimer s b t ]) ≡ true
+      go none = refl
+      go (some t) = or-none-given small _ (b .nodes) (λ l m. or-none-if small (sameOption sameTree (claim s b l) (some t)) (here s b (l .id)) (here-small (l .id)))
+
+  -- under a holder
+  under-small : (o : Option FullNodeId) (l : Option ParentAndIndex) → orNone small o ≡ true → smallLink l ≡ true
+      → smallLink (elim o as (λ _. Option ParentAndIndex) [ none ↦ l | some g ↦ underGraft g ]) ≡ true
+  unfolding underGraft
+  under-small none l e h = h
+  under-small (some g) l e h = e
+
+  here-link : (x : FullNodeId) (was : Option ParentAndIndex) → smallLink was ≡ true → smallLink (linkHere s b x was) ≡ true
+  unfolding linkHere
+  here-link x was h = go (paneRoot s b x) (linkIsCut s b x) (naming s b x) (naming-small x)
+    where
+      go : (p c : Bool) (o : Option ParentAndIndex) → smallLink o ≡ true
+          → smallLink (if p then elim (holder (s .nodes) (b .tree)) as (λ _. Option ParentAndIndex) [ none ↦ none | some g ↦ underGraft g ]
+          else if c then none
+          else elim o as (λ _. Option ParentAndIndex) [ none ↦ was | some l ↦ some l ]) ≡ true
+      go true c o e = under-small (holder (s .nodes) (b .tree)) none (holder-small (b .tree)) refl
+      go false true o e = refl
+      go false false none e = h
+      go false false (some l) e = e
+
+  elsewhere-link : (x : FullNodeId) (was : Option ParentAndIndex) → smallLink was ≡ true → smallLink (linkElsewhere s b x was) ≡ true
+  unfolding linkElsewhere
+  elsewhere-link x none h = refl
+  elsewhere-link x (some l) h = go (sameIndex (l .parent .tree) (x .tree))
+    where
+      go : (t : Bool) → smallLink (if t then some l else elim (claimedFrom s b (l .parent)) as (λ _. Option ParentAndIndex) [ none ↦ some l | some g ↦ underGraft g ]) ≡ true
+      go true = h
+      go false = under-small (claimedFrom s b (l .parent)) (some l) (claimed-small (l .parent)) h
+
+  link-small : (x : FullNodeId) (was : Option ParentAndIndex) → smallLink was ≡ true → smallLink (linkAfter s b x was) ≡ true
+  unfolding linkAfter
+  link-small x was h = go (mine s b x)
+    where
+      go : (t : Bool) → smallLink (if t then linkHere s b x was else linkElsewhere s b x was) ≡ true
+      go true = here-link x was h
+      go false = elsewhere-link x was h
+
+  -- of codes
+  code-small : (c : ℕ) → small (codeId s b c) ≡ true
+  unfolding codeId
+  code-small c = go (ltb c 320)
+    where
+      go : (t : Bool) → small (if t then idAt s c else here s b (listedAt b (c - 320) .id)) ≡ true
+      go true = all-or (λ n. small (n .id)) (s .nodes) noState ids (lt-ltb 0 4294967296 (omega arith)) c
+      go false = here-small (listedAt b (c - 320) .id)
+
+  code-link-small : (links : all (λ n. smallLink (n .parentAndIndex)) (s .nodes) ≡ true) (c : ℕ) → smallLink (codeLink s b c) ≡ true
+  unfolding codeLink
+  code-link-small links c = go (ltb c 320)
+    where
+      go : (t : Bool) → smallLink (if t then nodeAt s c .parentAndIndex else none) ≡ true
+      go true = all-or (λ n. smallLink (n .parentAndIndex)) (s .nodes) noState links refl c
+      go false = refl
+
+-- ## The outcome
+
+module _ (state bytes : List ℕ) (c : Scope) (g : Given state bytes c) (labels : (i : ℕ) → i < length (asked bytes c .nodes) → all (λ x. ltb x 256) (listedAt (asked bytes c) i .body .label) ≡ true) where
+  -- every node's data obeys the record's rules
+  pub body-fits : all (λ n. fieldsOk (n .body)) (outcome (forest state) (asked bytes c) .nodes) ≡ true
+  body-fits = all-outcome fieldsOk (forest state) (asked bytes c) (g .kept .fields) (batched-facts bytes (asked bytes c) (batched state bytes c g) .fields)
+
+  listed-bytes : all (λ l. bytesFit (l .body)) (asked bytes c .nodes) ≡ true
+  unfolding listedAt
+  listed-bytes = all-index (λ l. bytesFit (l .body)) (asked bytes c .nodes) blank labels
+
+  module _ (r : ℕ) (l : r < length (outcome (forest state) (asked bytes c) .nodes)) where
+    few : length (asked bytes c .nodes) ≤ 64
+    few = batched-facts bytes (asked bytes c) (batched state bytes c g) .nodes-limit
+
+    code : ℕ
+    code = codeOf (forest state) (asked bytes c) (idAt (outcome (forest state) (asked bytes c)) r)
+
+    pub tree-fits : idAt (outcome (forest state) (asked bytes c)) r .tree .0 < 4294967296
+    unfolding code
+    tree-fits =
+        let is = code-id (forest state) (asked bytes c) (g .kept) few (g .once) r l in
+        ltb-true _ 4294967296 (ap small (sym is) ∙ code-small (forest state) (asked bytes c) (g .kept .few-trees) (view-small state) code)
+
+    pub parent-fits : (k : ParentAndIndex) → nodeAt (outcome (forest state) (asked bytes c)) r .parentAndIndex ≡ some k → k .parent .tree .0 < 4294967296
+    unfolding code
+    parent-fits k e =
+        let is = code-link (forest state) (asked bytes c) (g .kept) few (g .once) r l in
+        let x = codeId (forest state) (asked bytes c) code in
+        let was = codeLink (forest state) (asked bytes c) code in
+        ltb-true (k .parent .tree .0) 4294967296
+        (ap smallLink (sym e ∙ is)
+        ∙ link-small (forest state) (asked bytes c) (g .kept .few-trees) (view-small state) x was
+        (code-link-small (forest state) (asked bytes c) (g .kept .few-trees) (view-small state) (view-links state) code))
+
+    pub node-fits : NodeFits (getD (outcome (forest state) (asked bytes c) .nodes) r noState)
+    node-fits = record {
+      body = record {
+        fields = all-at (λ n. fieldsOk (n .body)) (outcome (forest state) (asked bytes c) .nodes) noState body-fits r l;
+        bytes = all-at (λ n. bytesFit (n .body)) (outcome (forest state) (asked bytes c) .nodes) noState
+            (all-outcome bytesFit (forest state) (asked bytes c) (view-bytes state) listed-bytes) r l;
+        floats = all-at (λ n. floatsFit (n .body)) (outcome (forest state) (asked bytes c) .nodes) noState
+            (all-outcome floatsFit (forest state) (asked bytes c) (view-floats state) (asked-floats bytes c)) r l;
+      };
+      tree = tree-fits;
+      parent = parent-fits;
+    }
+
+  pub outcome-fits : Fits (record { forest = outcome (forest state) (asked bytes c); hostFocused = view state .hostFocused })
+  outcome-fits =
+      let facts = batched-facts bytes (asked bytes c) (batched state bytes c g) in
+      record {
+        nodes = nodes-few (forest state) (asked bytes c) (g .kept) (facts .nodes-limit);
+        trees = trees-few (forest state) (asked bytes c) (g .kept) (g .numbered);
+        entries = entries-few (forest state) (asked bytes c) (g .kept) (facts .named-limit);
+        each = node-fits;
+      }

@@ -1,0 +1,4 @@
+pub mod Codes
+pub mod Nodes
+pub mod Room
+pub mod Fits

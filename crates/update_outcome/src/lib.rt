@@ -1,0 +1,1 @@
+// The laws of the nodes of an outcome, by their codes, stand in proofs/.

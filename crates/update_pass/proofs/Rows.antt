@@ -1,0 +1,122 @@
+-- Laws of the rows 13 and 14: what the code asks of each listed node and each named child; and of tables of rows. Assumes nothing.
+use mathlib.Core.Bool.{Bool, true, false, not}
+use mathlib.Core.List.{List, [], _∷_}
+use mathlib.Core.Path.{_≡_, refl, sym, ap, ap₂, _∙_}
+use Prim.Native.Nat.{ℕ, suc, _≤_, _<_}
+use native.Mathlib.Decide.{decLt}
+use native.Mathlib.Omega.{arith}
+use lib.Dec.{eqb, ltb}
+use lib.ListN.{length, getD}
+use borrow.Author.Tests.{lt-ltb, le-ltb, eq-eqb, ne-eqb}
+use Rattle.base.specs.Tests.{_&&_, if_then_else_, has, position}
+use Rattle.base.specs.Tables.{Row, row, found, first}
+use Rattle.base.specs.Search.{First}
+use Rattle.base.proofs.Tests.{and-false}
+use Rattle.ids.specs.Ids.{sameNode}
+use Rattle.ids.specs.declared.NodeId.{NodeId}
+use Rattle.record.specs.Batch.{Batch, listedIds, namedIds}
+use Rattle.record.proofs.Batch.{listed-length, listed-at}
+use Rattle.record_reader.specs.Reader.{noNode, blank, listedAt}
+use Rattle.state.specs.State.{Forest}
+use Rattle.update.specs.Words.{here, old, listed, named}
+use Rattle.update.specs.Pass.{placedAtTurn}
+use Rattle.update.specs.Numbers.{placeless, nowhere}
+use Rattle.update_notes.specs.declared.Scope.{Scope}
+use Rattle.update_notes.specs.Setting.{asked, forest}
+use Rattle.update_notes.specs.Says.{Told, READ}
+use Rattle.update_notes.proofs.Positions.{first-unique, first-cong, position-first, has-position}
+use Rattle.update_notes.proofs.Marks.{here-mine, listed-self, named-is}
+use Rattle.update_pass.specs.Steps.{dueOf, Due}
+
+-- ## Row 13
+
+module _ (s : Forest) (b : Batch) where
+  -- a number of the batch's tree is named
+  named-here : (x : NodeId) → named s b (here s b x) ≡ has sameNode (namedIds (b .nodes)) x
+  unfolding here _&&_
+  named-here x = named-is s b (here s b x) ∙ rw (here-mine s b x)
+
+  -- whether a listed node is left without a place, after n children, which are all
+  placeless-is : (i n : ℕ) → n ≡ length (namedIds (b .nodes)) → ltb n (dueOf s b i) ≡ placeless s b (listedAt b i)
+  unfolding placeless dueOf _&&_
+  placeless-is i n e =
+      ap (λ m. ltb m (dueOf s b i)) e ∙ go (placedAtTurn s b x) ∙ ap (λ t. not (placedAtTurn s b x) && not t) (sym (named-here x ∙ has-position sameNode x all))
+    where
+      x : NodeId
+      x = listedAt b i .id
+
+      all : List NodeId
+      all = namedIds (b .nodes)
+
+      beyond : Dec (position sameNode all x < length all) → ltb (length all) (suc (position sameNode all x)) ≡ not (ltb (position sameNode all x) (length all))
+      beyond (yes h) = le-ltb (length all) (suc (position sameNode all x)) h ∙ ap not (sym (lt-ltb (position sameNode all x) (length all) h))
+      beyond (no h) = lt-ltb (length all) (suc (position sameNode all x)) (omega arith) ∙ ap not (sym (le-ltb (position sameNode all x) (length all) (omega arith)))
+
+      go : (t : Bool) → ltb (length all) (if t then 0 else suc (position sameNode all x)) ≡ (not t && not (ltb (position sameNode all x) (length all)))
+      go true = le-ltb (length all) 0 (omega arith)
+      go false = beyond (decLt (position sameNode all x) (length all))
+
+  -- ## Row 14
+
+  -- an old child
+  pub nowhere-old : (x : NodeId) → old s b (here s b x) ≡ true → false ≡ nowhere s b x
+  unfolding nowhere _&&_
+  nowhere-old x e = rw e
+
+  -- one that is listed
+  pub nowhere-listed : (x : NodeId) (p : ℕ) → p < length (b .nodes) → x ≡ listedAt b p .id → false ≡ nowhere s b x
+  unfolding nowhere
+  nowhere-listed x p h e = sym (ap (λ t. not (old s b (here s b x)) && not t) (ap (λ y. listed s b (here s b y)) e ∙ listed-self s b p h) ∙ and-false _)
+
+  -- another: it is sought among the listed nodes
+  pub nowhere-new : (x : NodeId) (k p : ℕ) → old s b (here s b x) ≡ false → k ≡ length (b .nodes)
+      → First (λ m. sameNode x (listedAt b m .id)) (length (b .nodes)) p → eqb p k ≡ nowhere s b x
+  unfolding nowhere listed here _&&_ listedAt
+  nowhere-new x k p e count f =
+      let ids = listedIds (b .nodes) in
+      let at : position sameNode ids x ≡ p =
+      first-unique (λ m. sameNode x (getD ids m noNode)) (length ids) (position sameNode ids x) p (position-first sameNode x noNode ids)
+      (rw (listed-length (b .nodes)) (first-cong _ _ (length (b .nodes)) p (λ m l. ap (sameNode x) (sym (listed-at (b .nodes) m blank))) f)) in
+      let long = listed-length (b .nodes) in
+      ap (eqb p) count ∙ last p (length (b .nodes)) (f .within)
+      ∙ ap not (ap₂ ltb (sym at) (sym long) ∙ sym (has-position sameNode x ids))
+      ∙ rw (e, here-mine s b x)
+    where
+      last : (a n : ℕ) → a ≤ n → eqb a n ≡ not (ltb a n)
+      last a n h = go (decLt a n)
+        where
+          go : Dec (a < n) → eqb a n ≡ not (ltb a n)
+          go (yes l) = rw (lt-ltb a n l, ne-eqb a n (λ q. omega arith))
+          go (no l) = let q : a ≡ n = omega arith in rw (le-ltb a n (omega arith), eq-eqb a n q)
+
+-- row 13, as the code asks it
+pub placeless-column : {state bytes : List ℕ} {c : Scope} {notes : List ℕ} → Told READ state bytes c notes → (due : List ℕ) → Due (forest state) (asked bytes c) due
+    → (m : ℕ) → m < c .listed → ltb (c .named) (getD due m 0) ≡ placeless (forest state) (asked bytes c) (getD (asked bytes c .nodes) m blank)
+unfolding listedAt
+placeless-column {state} {bytes} {c} told due d m h =
+    ap (ltb (c .named)) (d m (omega (arith, told .given .scoped .listed))) ∙ placeless-is (forest state) (asked bytes c) m (c .named) (told .given .scoped .named)
+
+-- ## Tables of rows
+
+-- the first row holds
+pub first-holds : (k : ℕ) (t : Bool) (rs : List Row) → t ≡ true → first (row k t ∷ rs) ≡ k
+unfolding first
+first-holds k t rs e = rw e
+
+-- it does not
+pub first-passes : (k : ℕ) (t : Bool) (rs : List Row) → t ≡ false → first (row k t ∷ rs) ≡ first rs
+unfolding first
+first-passes k t rs e = rw e
+
+-- a number found elsewhere counts
+pub found-counts : (k : ℕ) (rs : List Row) → (k ≡ 0 → ⊥) → first (found k ∷ rs) ≡ k
+found-counts k rs h = first-holds k _ rs (ap not (ne-eqb k 0 h))
+
+-- unless it is 0
+pub found-passes : (k : ℕ) (rs : List Row) → k ≡ 0 → first (found k ∷ rs) ≡ first rs
+found-passes k rs e = first-passes k _ rs (ap not (eq-eqb k 0 e))
+
+-- no row is left
+pub first-none : first [] ≡ 0
+unfolding first
+first-none = refl

@@ -1,0 +1,12 @@
+-- `update_pass::pass_rows` meets its contract. Assumes nothing.
+use mathlib.Core.Path.{ap, _∙_}
+use borrow.Author.Needs.{needs}
+use Rattle.update_notes.specs.Setting.{refusal}
+use Rattle.update_pass.proofs.pass_rows.Statement.{statement}
+use Rattle.update_pass.proofs.pass_rows.Tie as tie
+
+returns : tie.Need-returns
+returns c = c .refuse .ensures ∙ ap refusal (c .before .pass-number .ensures)
+
+pub pass-rows-spec : {M : Type 1} → statement M
+pass-rows-spec = tie.close (tie.spec (λ c κs. search needs) (λ c κs. search needs) returns)

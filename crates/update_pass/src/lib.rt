@@ -1,0 +1,392 @@
+// The crate's pass over the nodes, 9 to 12 as it meets them, and rows 13 and 14.
+ghost use mathlib.Core.Path.{_≡_};
+ghost use Prim.Native.Nat.{_+_, _<_};
+ghost use Rattle.base.specs.Tests.{any};
+ghost use Rattle.record.specs.Batch.{namedIds};
+ghost use Rattle.record_reader.specs.Reader.{batchIn};
+ghost use Rattle.update.specs.Pass.{pass};
+ghost use Rattle.update.specs.Numbers.{placeless, nowhere};
+ghost use Rattle.update_notes.specs.Setting.{forest, asked, refusal};
+ghost use Rattle.update_notes.specs.Says.{Told, READ};
+ghost use Rattle.update_pass.specs.Steps.{dueOf, Due, DueRoom, Firsts, Prepared, startOf, Standing, Moves, Names, isTaken, unclaimedIn, PlacedIs, NowhereAt};
+ghost use Rattle.update_pass.specs.Rows.{passNumber};
+use ids::FullNodeId;
+use ids::NodeId;
+use ids::TreeId;
+use state_array::State;
+use update_notes::Notes;
+use update_notes::Refusal;
+use update_notes::Scope;
+
+// No listed node: one past the last that a batch can have.
+const NONE: usize = 64;
+
+// Where the pass stands after a step: at child entry j of listed node i. `twice` is whether the step named a child named before,
+// `at` the listed node that it placed, NONE if none.
+struct Step {
+    i: usize,
+    j: usize,
+    twice: bool,
+    at: usize,
+}
+
+// The same of a step that names a child: it goes on to the next entry.
+struct Naming {
+    twice: bool,
+    at: usize,
+}
+
+// Rows 9 to 14.
+pub fn pass_rows<'a>(state: &'a State, batch: &'a [u8], scope: Scope, notes: &'a Notes) -> Refusal
+    requires { ⌜ Told READ (now state) (now batch) scope (now notes) ⌝ }
+    ensures { λ r. ⌜ r ≡ refusal (passNumber (forest (now (state .entry))) (asked (now (batch .entry)) scope)) ⌝ }
+{
+    update_notes::refuse(pass_number(state, batch, scope, notes))
+}
+
+// The first number of 9 to 14 that refuses the batch, 0 if none does.
+fn pass_number<'a>(state: &'a State, batch: &'a [u8], scope: Scope, notes: &'a Notes) -> u8
+    requires { ⌜ Told READ (now state) (now batch) scope (now notes) ⌝ }
+    ensures { λ r. ⌜ r ≡ passNumber (forest (now (state .entry))) (asked (now (batch .entry)) scope) ⌝ }
+{
+    let due = dues(state, batch, scope, notes);
+    let firsts = firsts_of(scope.listed, &due);
+    let number = fault(state, batch, scope, notes, &due, &firsts);
+    if number != 0 {
+        return number;
+    }
+    if placeless(state, batch, scope, notes, &due) {
+        return 13;
+    }
+    if nowhere(state, batch, scope, notes, &due, &firsts) {
+        14
+    } else {
+        0
+    }
+}
+
+// For each listed node the number of named children from which on it is placed at its turn.
+fn dues<'a>(state: &'a State, batch: &'a [u8], scope: Scope, notes: &'a Notes) -> [usize; 64]
+    requires { ⌜ Told READ (now state) (now batch) scope (now notes) ⌝ }
+    ensures { λ r. ⌜ Due (forest (now (state .entry))) (asked (now (batch .entry)) scope) r ⌝ }
+{
+    let k = scope.listed;
+    let mut out = [0usize; 64];
+    let mut i = 0usize;
+    while i < k {
+        out[i] = due_of(state, batch, scope, notes, i);
+        i += 1;
+    }
+    out
+}
+
+// That number of listed node i: 0 where it is old or the root, else one more than where it is first named.
+fn due_of<'a>(state: &'a State, batch: &'a [u8], scope: Scope, notes: &'a Notes, i: usize) -> usize
+    requires { ⌜ Told READ (now state) (now batch) scope (now notes) ⌝ }
+    requires { ⌜ i < scope .listed ⌝ }
+    ensures { λ r. ⌜ r ≡ dueOf (forest (now (state .entry))) (asked (now (batch .entry)) scope) i ⌝ }
+{
+    let slot = notes[update_notes::LISTED_SLOTS + i] as usize;
+    if slot < state_array::slots(state) {
+        return 0;
+    }
+    let x = notes[update_notes::LISTED + i];
+    let tree = scope.tree;
+    let id = FullNodeId {
+        tree,
+        node: NodeId(x),
+    };
+    if update_notes::is_root(scope, id) {
+        return 0;
+    }
+    let e = scope.named;
+    update_notes::position_in(notes, update_notes::NAMED, e, x) + 1
+}
+
+// For each number of named children a node that is placed from there on, NONE where there is none: at j + 1 the one that child j is the first
+// to name.
+fn firsts_of(k: usize, due: &[usize; 64]) -> [usize; 258]
+    requires { ⌜ DueRoom k (now due) ⌝ }
+    ensures { λ r. ⌜ Firsts k (now (due .entry)) r ⌝ }
+{
+    let mut out = [NONE; 258];
+    let mut i = 0usize;
+    while i < k {
+        let d = due[i];
+        out[d] = i;
+        i += 1;
+    }
+    out
+}
+
+// Rows 9 to 12: the first number that the pass meets, 0 if none.
+fn fault<'a>(
+    state: &'a State,
+    batch: &'a [u8],
+    scope: Scope,
+    notes: &'a Notes,
+    due: &'a [usize; 64],
+    firsts: &'a [usize; 258],
+) -> u8
+    requires { ⌜ Prepared (now state) (now batch) scope (now notes) (now due) (now firsts) ⌝ }
+    ensures { λ r. ⌜ r ≡ pass (forest (now (state .entry))) (asked (now (batch .entry)) scope) ⌝ }
+{
+    let k = scope.listed;
+    let mut done = [0u8; 65];
+    let mut i = 0usize;
+    let mut j = 0usize;
+    while i < k {
+        let next = next_step(state, batch, scope, notes, due, firsts, i, j);
+        if next.twice {
+            return 9;
+        }
+        let at = next.at;
+        let number = placed(state, batch, scope, notes, &done, at);
+        if number != 0 {
+            return number;
+        }
+        done[at] = 1;
+        i = next.i;
+        j = next.j;
+    }
+    0
+}
+
+// The step at child entry j of listed node i: the child is named, or the node's own turn comes.
+fn next_step<'a>(
+    state: &'a State,
+    batch: &'a [u8],
+    scope: Scope,
+    notes: &'a Notes,
+    due: &'a [usize; 64],
+    firsts: &'a [usize; 258],
+    i: usize,
+    j: usize,
+) -> Step
+    requires { ⌜ Standing (now state) (now batch) scope (now notes) (now due) (now firsts) i j ⌝ }
+    ensures { λ r. ⌜ Moves (forest (now (state .entry))) (asked (now (batch .entry)) scope) i j r ⌝ }
+{
+    if j < notes[update_notes::ENDS + i] as usize {
+        let named = name_step(state, batch, scope, notes, due, firsts, i, j);
+        let entry = j + 1;
+        return Step {
+            i,
+            j: entry,
+            twice: named.twice,
+            at: named.at,
+        };
+    }
+    let node = i + 1;
+    if due[i] <= j {
+        return Step {
+            i: node,
+            j,
+            twice: false,
+            at: i,
+        };
+    }
+    Step {
+        i: node,
+        j,
+        twice: false,
+        at: NONE,
+    }
+}
+
+// Listed node i names child j. One that is old is placed at its turn, and the notes tell where it is first named.
+fn name_step<'a>(
+    state: &'a State,
+    batch: &'a [u8],
+    scope: Scope,
+    notes: &'a Notes,
+    due: &'a [usize; 64],
+    firsts: &'a [usize; 258],
+    i: usize,
+    j: usize,
+) -> Naming
+    requires { ⌜ Standing (now state) (now batch) scope (now notes) (now due) (now firsts) i j ⌝ }
+    requires { ⌜ j < startOf (asked (now batch) scope) (i + 1) ⌝ }
+    ensures { λ r. ⌜ Names (forest (now (state .entry))) (asked (now (batch .entry)) scope) i j r ⌝ }
+{
+    let slot = notes[update_notes::NAMED_SLOTS + j] as usize;
+    if slot < state_array::slots(state) {
+        let first = notes[update_notes::NAMINGS + slot] as usize;
+        return Naming {
+            twice: first <= j,
+            at: NONE,
+        };
+    }
+    new_step(state, batch, scope, notes, due, firsts, i, j)
+}
+
+// The same of a child that is not old. Where it is the first to name a listed node, that node is placed if it is an earlier one: it waited.
+fn new_step<'a>(
+    state: &'a State,
+    batch: &'a [u8],
+    scope: Scope,
+    notes: &'a Notes,
+    due: &'a [usize; 64],
+    firsts: &'a [usize; 258],
+    i: usize,
+    j: usize,
+) -> Naming
+    requires { ⌜ Standing (now state) (now batch) scope (now notes) (now due) (now firsts) i j ⌝ }
+    requires { ⌜ j < startOf (asked (now batch) scope) (i + 1) ⌝ }
+    ensures { λ r. ⌜ Names (forest (now (state .entry))) (asked (now (batch .entry)) scope) i j r ⌝ }
+{
+    let p = firsts[j + 1];
+    if p < i {
+        return Naming {
+            twice: false,
+            at: p,
+        };
+    }
+    if p < NONE {
+        return Naming {
+            twice: false,
+            at: NONE,
+        };
+    }
+    let x = notes[update_notes::NAMED + j];
+    let twice = update_notes::position_in(notes, update_notes::NAMED, j, x) < j;
+    Naming { twice, at: NONE }
+}
+
+// What placing listed node i meets, after those that are done: 10, 11, 12 or 0.
+fn placed<'a>(
+    state: &'a State,
+    batch: &'a [u8],
+    scope: Scope,
+    notes: &'a Notes,
+    done: &'a [u8; 65],
+    i: usize,
+) -> u8
+    requires { ⌜ Told READ (now state) (now batch) scope (now notes) ⌝ }
+    ensures { λ r. ⌜ PlacedIs (forest (now (state .entry))) (asked (now (batch .entry)) scope) (now (notes .entry)) (now (done .entry)) i r ⌝ }
+{
+    if scope.listed <= i {
+        return 0;
+    }
+    if update_notes::grafts_new(batch, i) & (0 < record_reader::child_count(batch, i)) {
+        return 10;
+    }
+    if notes[update_notes::CLAIMS + i] != 1 {
+        return 0;
+    }
+    let t = record_reader::graft(batch, i);
+    if ids::same_tree(TreeId { high: 0, low: 0 }, t) {
+        return 11;
+    }
+    if unclaimed(state, batch, scope, notes, done, t) {
+        0
+    } else {
+        12
+    }
+}
+
+// Whether no node that is done claims the tree t.
+fn unclaimed<'a>(
+    state: &'a State,
+    batch: &'a [u8],
+    scope: Scope,
+    notes: &'a Notes,
+    done: &'a [u8; 65],
+    t: TreeId,
+) -> bool
+    requires { ⌜ Told READ (now state) (now batch) scope (now notes) ⌝ }
+    ensures { λ r. ⌜ r ≡ unclaimedIn (asked (now (batch .entry)) scope) (now (notes .entry)) (now (done .entry)) t ⌝ }
+{
+    let k = scope.listed;
+    let mut i = 0usize;
+    while i < k {
+        if takes(batch, notes, done, i, t) {
+            return false;
+        }
+        i += 1;
+    }
+    true
+}
+
+// Whether listed node i is done and claims the tree t.
+fn takes<'a>(batch: &'a [u8], notes: &'a Notes, done: &'a [u8; 65], i: usize, t: TreeId) -> bool
+    requires { ⌜ i < 64 ⌝ }
+    ensures { λ r. ⌜ r ≡ isTaken (batchIn (now (batch .entry))) (now (notes .entry)) (now (done .entry)) t i ⌝ }
+{
+    if (done[i] != 1) | (notes[update_notes::CLAIMS + i] != 1) {
+        return false;
+    }
+    ids::same_tree(t, record_reader::graft(batch, i))
+}
+
+// Row 13: whether a listed node is left without a place.
+fn placeless<'a>(
+    state: &'a State,
+    batch: &'a [u8],
+    scope: Scope,
+    notes: &'a Notes,
+    due: &'a [usize; 64],
+) -> bool
+    requires { ⌜ Told READ (now state) (now batch) scope (now notes) ⌝ }
+    requires { ⌜ Due (forest (now state)) (asked (now batch) scope) (now due) ⌝ }
+    ensures { λ r. ⌜ r ≡ any (placeless (forest (now (state .entry))) (asked (now (batch .entry)) scope)) (asked (now (batch .entry)) scope .nodes) ⌝ }
+{
+    let k = scope.listed;
+    let e = scope.named;
+    let mut i = 0usize;
+    while i < k {
+        if e < due[i] {
+            return true;
+        }
+        i += 1;
+    }
+    false
+}
+
+// Row 14: whether a named child is neither present nor listed.
+fn nowhere<'a>(
+    state: &'a State,
+    batch: &'a [u8],
+    scope: Scope,
+    notes: &'a Notes,
+    due: &'a [usize; 64],
+    firsts: &'a [usize; 258],
+) -> bool
+    requires { ⌜ Prepared (now state) (now batch) scope (now notes) (now due) (now firsts) ⌝ }
+    ensures { λ r. ⌜ r ≡ any (nowhere (forest (now (state .entry))) (asked (now (batch .entry)) scope)) (namedIds (asked (now (batch .entry)) scope .nodes)) ⌝ }
+{
+    let e = scope.named;
+    let mut j = 0usize;
+    while j < e {
+        if nowhere_at(state, batch, scope, notes, due, firsts, j) {
+            return true;
+        }
+        j += 1;
+    }
+    false
+}
+
+// The same of child j.
+fn nowhere_at<'a>(
+    state: &'a State,
+    batch: &'a [u8],
+    scope: Scope,
+    notes: &'a Notes,
+    due: &'a [usize; 64],
+    firsts: &'a [usize; 258],
+    j: usize,
+) -> bool
+    requires { ⌜ Prepared (now state) (now batch) scope (now notes) (now due) (now firsts) ⌝ }
+    requires { ⌜ j < scope .named ⌝ }
+    ensures { λ r. ⌜ NowhereAt (forest (now (state .entry))) (asked (now (batch .entry)) scope) j r ⌝ }
+{
+    let slot = notes[update_notes::NAMED_SLOTS + j] as usize;
+    if slot < state_array::slots(state) {
+        return false;
+    }
+    if firsts[j + 1] < NONE {
+        return false;
+    }
+    let x = notes[update_notes::NAMED + j];
+    let k = scope.listed;
+    update_notes::position_in(notes, update_notes::LISTED, k, x) == k
+}

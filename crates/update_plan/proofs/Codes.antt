@@ -1,0 +1,147 @@
+-- Laws of codes in ascending order of their ids: one more, put in its place. Assumes nothing.
+use mathlib.Core.Bool.{Bool, true, false, false≢true}
+use mathlib.Core.List.{List}
+use mathlib.Core.Logic.{_⊎_, inl, inr}
+use mathlib.Core.Path.{_≡_, refl, sym, _∙_}
+use Prim.Native.Nat.{ℕ, zero, suc, _+_, _≤_, _<_}
+use native.Mathlib.Decide.{decLt}
+use native.Mathlib.Nat.{eq-or-lt-of-le, le-of-suc-le-suc}
+use native.Mathlib.Numerals.{add-one}
+use native.Mathlib.Omega.{arith}
+use lib.ListN.{length, set}
+use lib.Seq.{getD-set-same, getD-set-other}
+use Rattle.ids.specs.Ids.{before}
+use Rattle.ids.proofs.Ids.{before-trans}
+use Rattle.ids.specs.declared.FullNodeId.{FullNodeId}
+use Rattle.update_notes.specs.Layout.{CODES}
+use Rattle.update_notes.specs.Columns.{Below}
+use Rattle.update_notes.proofs.Columns.{below-none, below-set}
+use Rattle.update_plan.specs.Plan.{codeIn, Ascends, Codes, Inserted}
+
+-- codes that belong by one rule belong by another that says the same
+pub codes-alike : (id : ℕ → FullNodeId) (P Q : ℕ → Type 0) (n : ℕ) (l : List ℕ) → ((c : ℕ) → P c → Q c) → ((c : ℕ) → Q c → P c)
+    → Codes id P n l → Codes id Q n l
+codes-alike id P Q n l to from h = record { up = h .up; are = λ r b. to (codeIn l r) (h .are r b); whole = λ c q. h .whole c (from c q) }
+
+-- where r stands once a code is put at a place among n: before it, there, or after it
+data Spot (n at r : ℕ) : Type 0 where
+  under : r < at → Spot n at r
+  there : r ≡ at → Spot n at r
+  over : (k : ℕ) → r ≡ suc k → at ≤ k → k < n → Spot n at r
+
+-- one of the three
+spot : (n at r : ℕ) → r < suc n → Spot n at r
+spot n at zero l = go (decLt zero at)
+  where
+    go : Dec (zero < at) → Spot n at zero
+    go (yes h) = under h
+    go (no h) = there (omega arith)
+spot n at (suc r) l = go (decLt (suc r) at) (decLt r at)
+  where
+    go : Dec (suc r < at) → Dec (r < at) → Spot n at (suc r)
+    go (yes h) d = under h
+    go (no h) (yes d) = there (omega arith)
+    go (no h) (no d) = over r refl (omega arith) (omega arith)
+
+module _ (id : ℕ → FullNodeId) (P Q : ℕ → Type 0) (n at code : ℕ) (was col : List ℕ) (within : at ≤ n) (put : Inserted was n at code col) (h : Codes id P n was) where
+  -- a code after it
+  above : (r k : ℕ) → r ≡ suc k → at ≤ k → k < n → codeIn col r ≡ codeIn was k
+  above r k e m l = rw e (put .above k m l)
+
+  -- a code put where those before it come before it, and it comes before those from there on
+  pub codes-insert : ((k : ℕ) → k < at → before (id (codeIn was k)) (id code) ≡ true)
+      → ((k : ℕ) → at ≤ k → k < n → before (id code) (id (codeIn was k)) ≡ true)
+      → ((c : ℕ) → P c → Q c) → Q code → ((c : ℕ) → Q c → (P c) ⊎ (c ≡ code)) → Codes id Q (suc n) col
+  codes-insert before-it after-it keeps new only =
+      record { up = λ i j m l. up (spot n at i (omega arith)) (spot n at j l) m; are = λ r l. are (spot n at r l); whole = λ c q. whole c (only c q) }
+    where
+      up : {i j : ℕ} → Spot n at i → Spot n at j → i < j → before (id (codeIn col i)) (id (codeIn col j)) ≡ true
+      up {i} {j} (under a) (under b) m = rw (put .below i a, put .below j b) (h .up i j m (omega arith))
+      up {i} {j} (under a) (there b) m = rw (put .below i a, b, put .there) (before-it i a)
+      up {i} {j} (under a) (over k b f l) m = rw (put .below i a, above j k b f l) (h .up i k (omega arith) l)
+      up {i} {j} (there a) (under b) m = absurd (omega arith)
+      up {i} {j} (there a) (there b) m = absurd (omega arith)
+      up {i} {j} (there a) (over k b f l) m = rw (a, put .there, above j k b f l) (after-it k f l)
+      up {i} {j} (over d a e g) (under b) m = absurd (omega arith)
+      up {i} {j} (over d a e g) (there b) m = absurd (omega arith)
+      up {i} {j} (over d a e g) (over k b f l) m = rw (above i d a e g, above j k b f l) (h .up d k (omega arith) l)
+
+      are : {r : ℕ} → Spot n at r → Q (codeIn col r)
+      are {r} (under a) = rw (put .below r a) (keeps (codeIn was r) (h .are r (omega arith)))
+      are {r} (there a) = rw (a, put .there) new
+      are {r} (over k a f l) = rw (above r k a f l) (keeps (codeIn was k) (h .are k l))
+
+      found : (c r : ℕ) → r < n → codeIn was r ≡ c → Dec (r < at) → (r : ℕ) × (r < suc n) × (codeIn col r ≡ c)
+      found c r l e (yes m) = (r, omega arith, put .below r m ∙ e)
+      found c r l e (no m) = (suc r, omega arith, put .above r (omega arith) l ∙ e)
+
+      whole : (c : ℕ) → (P c) ⊎ (c ≡ code) → (r : ℕ) × (r < suc n) × (codeIn col r ≡ c)
+      whole c (inl p) = let w = h .whole c p in found c (w .0) (w .1) (w .2) (decLt (w .0) at)
+      whole c (inr e) = (at, omega arith, put .there ∙ sym e)
+
+-- a code put at the end
+pub insert-end : (was : List ℕ) (n code : ℕ) → CODES + n < length was → Inserted was n n code (set was (CODES + n) code)
+insert-end was n code h =
+    record {
+      kept = below-set CODES was was (CODES + n) code (omega arith) (below-none CODES was);
+      below = λ k l. getD-set-other was (CODES + n) (CODES + k) code 0 (λ e. absurd (omega arith));
+      there = getD-set-same was (CODES + n) code 0 h;
+      above = λ k m l. absurd (omega arith);
+    }
+
+-- ## Moving up by one
+
+-- from r on, the codes among the first n are moved up by one
+pub record Shifted (was : List ℕ) (n r : ℕ) (notes : List ℕ) : Type 0 where
+  pub kept : Below CODES was notes
+  pub below : (k : ℕ) → k < r → codeIn notes k ≡ codeIn was k
+  pub above : (k : ℕ) → r ≤ k → k < n → codeIn notes (suc k) ≡ codeIn was k
+
+pub shift-none : (was : List ℕ) (n : ℕ) → Shifted was n n was
+shift-none was n = record { kept = below-none CODES was; below = λ k l. refl; above = λ k m l. absurd (omega arith) }
+
+-- one more is moved
+pub shift-one : (was notes : List ℕ) (n r q : ℕ) → r ≡ suc q → CODES + r < length notes → Shifted was n r notes → (v : ℕ) → v ≡ codeIn notes q
+    → Shifted was n q (set notes (CODES + r) v)
+shift-one was notes n r q e room h v is = record {
+  kept = below-set CODES was notes (CODES + r) v (omega arith) (h .kept);
+  below = λ k l. getD-set-other notes (CODES + r) (CODES + k) v 0 (λ s. absurd (omega arith)) ∙ h .below k (omega arith);
+  above = λ k m l. above k l (eq-or-lt-of-le m);
+}
+  where
+    above : (k : ℕ) → k < n → (q ≡ k) ⊎ (q < k) → codeIn (set notes (CODES + r) v) (suc k) ≡ codeIn was k
+    above k l (inl f) = rw (← f, ← e) (getD-set-same notes (CODES + r) v 0 room ∙ is ∙ h .below q (omega arith))
+    above k l (inr f) = getD-set-other notes (CODES + r) (CODES + suc k) v 0 (λ s. absurd (omega arith)) ∙ h .above k (omega arith) l
+
+-- and the code is put into the place that is free
+pub shift-end : (was notes : List ℕ) (n at code : ℕ) → CODES + at < length notes → Shifted was n at notes → Inserted was n at code (set notes (CODES + at) code)
+shift-end was notes n at code room h =
+    record {
+      kept = below-set CODES was notes (CODES + at) code (omega arith) (h .kept);
+      below = λ k l. getD-set-other notes (CODES + at) (CODES + k) code 0 (λ s. absurd (omega arith)) ∙ h .below k l;
+      there = getD-set-same notes (CODES + at) code 0 room;
+      above = λ k m l. getD-set-other notes (CODES + at) (CODES + suc k) code 0 (λ s. absurd (omega arith)) ∙ h .above k m l;
+    }
+
+-- ## Bisection
+
+module _ (id : ℕ → FullNodeId) (n : ℕ) (up : Ascends id n) (x : FullNodeId) (middle : ℕ) (y : FullNodeId) (is : y ≡ id middle) where
+  -- a middle that comes before x: so do all before it
+  pub under-middle : middle < n → before y x ≡ true → (k : ℕ) → k < middle + 1 → before (id k) x ≡ true
+  under-middle h b k l = go (eq-or-lt-of-le (le-of-suc-le-suc (rw add-one at l)))
+    where
+      go : (k ≡ middle) ⊎ (k < middle) → before (id k) x ≡ true
+      go (inl e) = rw (e, ← is) b
+      go (inr m) = before-trans (id k) (id middle) x (up k middle m h) (rw (← is) b)
+
+  -- one that does not: nor does any after it
+  pub over-middle : before y x ≡ false → (k : ℕ) → middle ≤ k → k < n → before (id k) x ≡ false
+  over-middle b k l h = on (eq-or-lt-of-le l)
+    where
+      go : middle < k → (c : Bool) → before (id k) x ≡ c → c ≡ false
+      go m false q = refl
+      go m true q = absurd (false≢true (sym b ∙ rw is (before-trans (id middle) (id k) x (up middle k m h) q)))
+
+      on : (middle ≡ k) ⊎ (middle < k) → before (id k) x ≡ false
+      on (inl e) = rw (← e, ← is) b
+      on (inr m) = go m (before (id k) x) refl

@@ -1,0 +1,209 @@
+-- Laws of the column CHANGED: the word of a node is told by its code, its data and its links before and after. Assumes nothing.
+use mathlib.Core.Bool.{Bool, true, false, not, _||_}
+use mathlib.Core.List.{List, [], _∷_}
+use mathlib.Core.Option.{Option, none, some}
+use mathlib.Core.Path.{_≡_, refl, sym, ap, ap₂, _∙_}
+use Prim.Native.Nat.{ℕ, zero, suc, _+_, _*_, _≤_, _<_}
+use native.Mathlib.Omega.{arith}
+use lib.Dec.{eqb, ltb}
+use lib.ListN.{length, getD}
+use borrow.Author.Tests.{lt-ltb, ltb-true}
+use Rattle.base.specs.Tests.{_&&_, if_then_else_, isSome, all, sameOption, distinct}
+use Rattle.base.proofs.Tests.{both}
+use Rattle.ids.specs.Ids.{sameNode, sameId}
+use Rattle.ids.specs.declared.FullNodeId.{FullNodeId}
+use Rattle.record.specs.Batch.{NodeData, fieldsOk, sameData, Batch, listedIds}
+use Rattle.record_reader.specs.Reader.{listedAt}
+use Rattle.state.specs.State.{sameLink, NodeState, Forest, find, parentOf}
+use Rattle.state_array.specs.Layout.{SLOTS}
+use Rattle.state_array.specs.Stored.{noState}
+use Rattle.state_array.specs.View.{slotsOf, idIn, linkIn, linkOf}
+use Rattle.state_array.specs.declared.LinkRow.{LinkRow}
+use Rattle.update.specs.Words.{old, listed, turn}
+use Rattle.update.specs.Gone.{gone}
+use Rattle.update.specs.Outcome.{paneRoot, linkAfter, outcome}
+use Rattle.update.specs.Reports.{isUpdated, isRelinked}
+use Rattle.update.proofs.Outcome.{nodeAfter, find-old-outcome, ascending-outcome}
+use Rattle.update.proofs.Reports.{dataChanged, linkChanged, updated-is, relinked-is}
+use Rattle.update_notes.specs.declared.Scope.{Scope}
+use Rattle.update_notes.specs.Layout.{TURNS, DIFFERS, CODES}
+use Rattle.update_notes.specs.Setting.{asked, forest, Kept}
+use Rattle.update_notes.specs.Codes.{nodeAt, idAt, slotAt, flag, differs, codeOf, changeOf}
+use Rattle.update_notes.specs.Says.{turnMark, turnWord, differWord, codeWord, changedWord, outcomeCount, Told, PLANNED}
+use Rattle.update_notes.proofs.Places.{slot-old, slot-id, find-at, forest-length, forest-id, forest-link}
+use Rattle.update_notes.proofs.Marks.{turn-listed, turn-none, turn-within, turn-here, turn-listing}
+use Rattle.update_reports.specs.Outcomes.{Outcomes}
+use Rattle.update_reports.proofs.Outcomes.{shows, counted}
+
+-- a mark by its test
+flag-is : (t : Bool) → eqb (flag t) 1 ≡ t
+flag-is true = refl
+flag-is false = refl
+
+-- ## Data
+
+module _ (s : Forest) (b : Batch) (kept : Kept s) (i : ℕ) (within : i < length (s .nodes)) where
+  -- a node that is not listed keeps its data
+  data-none : turnMark s b (idAt s i) ≡ 0 → dataChanged s b (nodeAt s i) ≡ false
+  unfolding dataChanged _&&_
+  data-none e = rw (turn-none s b (idAt s i) e)
+
+  -- one that is listed has other data where the node listed at its turn differs
+  data-at : (k : ℕ) → turnMark s b (idAt s i) ≡ suc k → differs s b (listedAt b k) ≡ dataChanged s b (nodeAt s i)
+  unfolding differs dataChanged _&&_
+  data-at k e =
+      let now : listed s b (idAt s i) ≡ true = turn-listed s b (idAt s i) ∙ rw (e, lt-ltb 0 (suc k) (omega arith)) in
+      ap (λ (o : Option NodeState). elim o as (λ _. Bool) [ none ↦ false | some n ↦ not (sameData (n .body) (listedAt b k .body)) ])
+      (ap (λ x. find x (s .nodes)) (turn-here s b (idAt s i) k e) ∙ find-at s (kept .ascending) i within)
+      ∙ sym (ap₂ (λ (c : Bool) (o : Option NodeData). c && elim o as (λ _. Bool) [ none ↦ false | some d ↦ not (sameData (nodeAt s i .body) d) ])
+      now (turn-listing s b (idAt s i) k e))
+
+  -- its fields are in order
+  fields : fieldsOk (nodeAt s i .body) ≡ true
+  fields = at (s .nodes) (kept .fields) i within
+    where
+      at : (ns : List NodeState) → all (λ n. fieldsOk (n .body)) ns ≡ true → (j : ℕ) → j < length ns → fieldsOk (getD ns j noState .body) ≡ true
+      at [] e j l = absurd (omega arith)
+      at (n ∷ ns) e zero l = both e .0
+      at (n ∷ ns) e (suc j) l = at ns (both e .1) j (omega arith)
+
+module _ {state bytes : List ℕ} {c : Scope} {notes : List ℕ} (told : Told PLANNED state bytes c notes) (i : ℕ) (h : i < slotsOf state) where
+  within : i < length (forest state .nodes)
+  within = omega (arith, forest-length state)
+
+  turn-word : getD notes (TURNS + i) 0 ≡ turnMark (forest state) (asked bytes c) (idAt (forest state) i)
+  unfolding turnWord
+  turn-word = told .written 5 (omega arith) i h
+
+  -- a node without a turn
+  pub data-unlisted : getD notes (TURNS + i) 0 < 1 → false ≡ dataChanged (forest state) (asked bytes c) (nodeAt (forest state) i)
+  data-unlisted e = sym (data-none (forest state) (asked bytes c) (told .given .kept) i within (omega (arith, turn-word)))
+
+  module _ (t : ℕ) (e : getD notes (TURNS + i) 0 ≡ suc t) where
+    -- the turn of a node that is listed
+    pub turn-below : t < c .listed
+    turn-below = omega (arith, turn-within (forest state) (asked bytes c) (idAt (forest state) i) t (sym turn-word ∙ e), told .given .scoped .listed)
+
+    pub data-listed : eqb (getD notes (DIFFERS + t) 0) 1 ≡ dataChanged (forest state) (asked bytes c) (nodeAt (forest state) i)
+    unfolding differWord
+    data-listed =
+        ap (λ (m : ℕ). eqb m 1) (told .written 10 (omega arith) t turn-below)
+        ∙ flag-is (differs (forest state) (asked bytes c) (listedAt (asked bytes c) t))
+        ∙ data-at (forest state) (asked bytes c) (told .given .kept) i within t (sym turn-word ∙ e)
+
+-- ## Codes
+
+module _ (s : Forest) (b : Batch) (few : length (s .nodes) ≤ 256) (x : FullNodeId) where
+  -- a code from 320 on is that of a new node
+  code-new : SLOTS ≤ codeOf s b x → old s b x ≡ false
+  unfolding codeOf
+  code-new = go (old s b x) (slot-old s x b)
+    where
+      go : (o : Bool) → o ≡ ltb (slotAt s x) (length (s .nodes)) → 320 ≤ (if o then slotAt s x else 320 + turn s b x) → o ≡ false
+      go true e h = absurd (omega (arith, ltb-true (slotAt s x) (length (s .nodes)) (sym e)))
+      go false e h = refl
+
+  -- any other is the slot of an old one
+  code-old : codeOf s b x < SLOTS → (old s b x ≡ true) × (slotAt s x ≡ codeOf s b x)
+  unfolding codeOf
+  code-old = go (old s b x)
+    where
+      go : (o : Bool) → (if o then slotAt s x else 320 + turn s b x) < 320 → (o ≡ true) × (slotAt s x ≡ (if o then slotAt s x else 320 + turn s b x))
+      go true h = (refl, refl)
+      go false h = absurd (omega arith)
+
+-- ## An old node that stays
+
+module _ (s : Forest) (b : Batch) (kept : Kept s) (once : distinct sameNode (listedIds (b .nodes)) ≡ true) (r : ℕ) (h : r < length (outcome s b .nodes))
+    (here : slotAt s (idAt (outcome s b) r) < length (s .nodes)) where
+  -- its node before and after
+  abbrev was : NodeState
+  was = nodeAt s (slotAt s (idAt (outcome s b) r))
+
+  abbrev after : NodeState
+  after = nodeAt (outcome s b) r
+
+  found : find (was .id) (s .nodes) ≡ some was
+  found = find-at s (kept .ascending) (slotAt s (after .id)) here
+
+  -- it stays, with the link that stands in the outcome
+  stays : (gone s b (was .id) ≡ false) × (linkAfter s b (was .id) (was .parentAndIndex) ≡ after .parentAndIndex)
+  unfolding nodeAfter
+  stays =
+      go (gone s b (was .id))
+      (sym (find-old-outcome s b (kept .ascending) once was found)
+      ∙ ap (λ x. find x (outcome s b .nodes)) (slot-id s (after .id) here)
+      ∙ find-at (outcome s b) (ascending-outcome s b (kept .ascending)) r h)
+    where
+      go : (g : Bool) → (if g then none else some (nodeAfter s b was)) ≡ some after
+          → (g ≡ false) × (linkAfter s b (was .id) (was .parentAndIndex) ≡ after .parentAndIndex)
+      go true e = let z : _≡_ {A = ℕ} 0 1 = cc in absurd (omega arith)
+      go false e = let same : nodeAfter s b was ≡ after = cc in (refl, ap (λ n. n .parentAndIndex) same)
+
+  -- so it is updated or relinked by these
+  updated-by : isUpdated s (outcome s b) (paneRoot s b) was
+      ≡ (dataChanged s b was
+      || (isSome (after .parentAndIndex) && not (sameOption sameLink (was .parentAndIndex) (after .parentAndIndex)))
+      || paneRoot s b (after .id))
+  unfolding linkChanged _&&_
+  updated-by =
+      updated-is s b (kept .ascending) once was found (fields s b kept (slotAt s (after .id)) here) (paneRoot s b)
+      ∙ rw (stays .0, stays .1, slot-id s (after .id) here)
+
+  relinked-by : isRelinked s (outcome s b) (after .id) ≡ not (sameOption sameId (parentOf (was .parentAndIndex)) (parentOf (after .parentAndIndex)))
+  unfolding _&&_
+  relinked-by = rw (stays .0, stays .1, slot-id s (after .id) here) at (relinked-is s b (kept .ascending) once was found)
+
+-- ## The word of a node
+
+module _ {state bytes : List ℕ} {c : Scope} {notes next : List ℕ} (given : Outcomes PLANNED state bytes c notes next) (r : ℕ) (h : r < slotsOf next) where
+  abbrev s : Forest
+  s = forest state
+
+  abbrev b : Batch
+  b = asked bytes c
+
+  below : r < outcomeCount state bytes c
+  below = omega (arith, counted given)
+
+  code-is : getD notes (CODES + r) 0 ≡ codeOf s b (idAt (outcome s b) r)
+  unfolding codeWord
+  code-is = given .told .written 12 (omega arith) r below
+
+  -- a new node
+  pub changed-new : SLOTS ≤ getD notes (CODES + r) 0 → 1 ≡ changedWord state bytes c r
+  unfolding changedWord changeOf
+  changed-new e = rw (code-new s b (given .told .given .kept .few-nodes) (idAt (outcome s b) r) (rw (← code-is) e))
+
+  module _ (e : getD notes (CODES + r) 0 < SLOTS) where
+    is-old : (old s b (idAt (outcome s b) r) ≡ true) × (slotAt s (idAt (outcome s b) r) ≡ getD notes (CODES + r) 0)
+    is-old = rw code-is (code-old s b (given .told .given .kept .few-nodes) (idAt (outcome s b) r) (rw (← code-is) e))
+
+    here : slotAt s (idAt (outcome s b) r) < length (s .nodes)
+    here = ltb-true (slotAt s (idAt (outcome s b) r)) (length (s .nodes)) (sym (slot-old s (idAt (outcome s b) r) b) ∙ is-old .0)
+
+    -- its slot
+    pub slot-below : getD notes (CODES + r) 0 < slotsOf state
+    slot-below = omega (arith, is-old .1, here, forest-length state)
+
+    -- an old one
+    pub changed-old : (before after : LinkRow) {v : ℕ} {other link pane parent : Bool} → v ≡ 2 * flag (other || link || pane) + 4 * flag parent
+        → other ≡ dataChanged s b (nodeAt s (getD notes (CODES + r) 0))
+        → link ≡ (isSome (linkOf after) && not (sameOption sameLink (linkOf before) (linkOf after)))
+        → pane ≡ paneRoot s b (idIn next r)
+        → parent ≡ not (sameOption sameId (parentOf (linkOf before)) (parentOf (linkOf after)))
+        → before ≡ linkIn state (getD notes (CODES + r) 0)
+        → after ≡ linkIn next r
+        → v ≡ changedWord state bytes c r
+    unfolding changedWord changeOf
+    changed-old before after says d l p m before-is after-is =
+        let once = given .told .given .once in
+        let kept = given .told .given .kept in
+        let old-link : linkOf before ≡ nodeAt s (slotAt s (idAt (outcome s b) r)) .parentAndIndex =
+        ap linkOf before-is ∙ sym (forest-link state (getD notes (CODES + r) 0) slot-below) ∙ ap (λ i. nodeAt s i .parentAndIndex) (sym (is-old .1)) in
+        let new-link : linkOf after ≡ nodeAt (outcome s b) r .parentAndIndex =
+        ap linkOf after-is ∙ sym (forest-link next r h) ∙ ap (λ (f : Forest). nodeAt f r .parentAndIndex) (shows given) in
+        let id-is : idIn next r ≡ idAt (outcome s b) r = sym (forest-id next r h) ∙ ap (λ (f : Forest). idAt f r) (shows given) in
+        says
+        ∙ rw (d, l, p, m, old-link, new-link, id-is, ← is-old .1, is-old .0)
+        (ap₂ (λ (t u : Bool). 2 * flag t + 4 * flag u) (sym (updated-by s b kept once r below here)) (sym (relinked-by s b kept once r below here)))

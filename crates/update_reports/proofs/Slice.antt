@@ -1,0 +1,199 @@
+-- Laws of the lists in the lent slice: how ids are written one by one, lists one after another, and all four. Assumes nothing.
+use mathlib.Core.Bool.{Bool, true, false, not}
+use mathlib.Core.List.{List, [], _∷_, _++_, map-append, append-assoc, append-nil}
+use mathlib.Core.Path.{_≡_, refl, sym, ap, ap₂, _∙_}
+use Prim.Native.Nat.{ℕ, suc, _+_, _*_, _≤_, _<_}
+use native.Mathlib.Omega.{arith}
+use lib.ListN.{length, getD, set, take, drop, length-append, length-set, length-map, take-append-drop}
+use lib.Seq.{drop-cons, length-take-le, drop-append-add, drop-drop, set-at, take-at}
+use borrow.Author.Tests.{lt-ltb, le-ltb, leb-true, leb-false}
+use lib.Dec.{leb}
+use Rattle.base.specs.Tests.{if_then_else_}
+use Rattle.ids.specs.declared.FullNodeId.{FullNodeId}
+use Rattle.state_array.specs.Layout.{SLOTS}
+use Rattle.state_array.specs.View.{idIn, slotsOf}
+use Rattle.update.specs.Reports.{Changes, words, changeWords, lent}
+use Rattle.update_reports.specs.declared.Lists.{Lists}
+use Rattle.update_reports.specs.Slice.{slotsWith, Counted, idsAt, picked, Room, ListWritten, ListsWritten}
+use Rattle.update_reports.proofs.Slots.{taken, slots-none, slots-hit, slots-miss, count-within}
+
+-- ## The words of ids
+
+-- two words an id
+length-words : (xs : List FullNodeId) → length (words xs) ≡ 2 * length xs
+unfolding words
+length-words [] = refl
+length-words (x ∷ xs) = let h = length-words xs in omega arith
+
+-- the words of two lists
+words-append : (xs ys : List FullNodeId) → words (xs ++ ys) ≡ words xs ++ words ys
+unfolding words
+words-append [] ys = refl
+words-append (x ∷ xs) ys = ap (λ (l : List ℕ). x .tree .0 ∷ x .node .0 ∷ l) (words-append xs ys)
+
+-- two stores after a part
+two-stored : (p d : List ℕ) (to x y : ℕ) → length p ≡ to → to + 2 ≤ length d
+    → set (set (p ++ drop to d) to x) (to + 1) y ≡ p ++ x ∷ y ∷ drop (to + 2) d
+two-stored p d to x y e h =
+    let rest = drop (suc (suc to)) d in
+    let long : length (p ++ x ∷ []) ≡ to + 1 = length-append p (x ∷ []) ∙ ap (λ (k : ℕ). k + 1) e in
+    let past : suc (suc to) ≡ to + 2 = omega arith in
+    let next : suc to < length d = omega arith in
+    let here : to < length d = omega arith in
+    ap (λ (l : List ℕ). set (set (p ++ l) to x) (to + 1) y) (drop-cons d to 0 here ∙ ap (λ (l : List ℕ). getD d to 0 ∷ l) (drop-cons d (suc to) 0 next))
+    ∙ ap (λ (l : List ℕ). set l (to + 1) y) (set-at p (getD d to 0) (getD d (suc to) 0 ∷ rest) x to e ∙ sym (append-assoc p (x ∷ []) (getD d (suc to) 0 ∷ rest)))
+    ∙ set-at (p ++ x ∷ []) (getD d (suc to) 0) rest y (to + 1) long
+    ∙ append-assoc p (x ∷ []) (y ∷ rest)
+    ∙ ap (λ (k : ℕ). p ++ x ∷ y ∷ drop k d) past
+
+-- ## Ids one by one
+
+-- no id
+list-none : (before : List ℕ) (at : ℕ) → ListWritten [] at before before at
+unfolding words
+list-none before at =
+    let same : at + 0 ≡ at = omega arith in
+    record {
+      same-length = refl;
+      slice-is = sym (ap₂ (λ (l : List ℕ) (k : ℕ). l ++ drop k before) (append-nil (take at before)) same ∙ take-append-drop at before);
+      end-is = omega arith;
+    }
+
+-- one id more
+list-one : (before : List ℕ) (at : ℕ) (xs : List FullNodeId) (x : FullNodeId) (changes : List ℕ) (to : ℕ) → ListWritten xs at before changes to
+    → to + 2 ≤ length before → ListWritten (xs ++ x ∷ []) at before (set (set changes to (x .tree .0)) (to + 1) (x .node .0)) (to + 2)
+unfolding words
+list-one before at xs x changes to done room =
+    let more = length-append xs (x ∷ []) in
+    let placed : to ≡ at + 2 * length xs = done .end-is in
+    let front : at ≤ length before = omega arith in
+    let long : length (take at before ++ words xs) ≡ to =
+    length-append (take at before) (words xs) ∙ ap₂ (λ (j k : ℕ). j + k) (length-take-le at before front) (length-words xs) ∙ sym placed
+    in
+    let after : to + 2 ≡ at + 2 * length (xs ++ x ∷ []) = omega arith in
+    record {
+      same-length = simp length-set (done .same-length);
+      slice-is =
+          ap (λ (l : List ℕ). set (set l to (x .tree .0)) (to + 1) (x .node .0)) (done .slice-is ∙ ap (λ (k : ℕ). take at before ++ words xs ++ drop k before) (sym placed))
+          ∙ two-stored (take at before ++ words xs) before to (x .tree .0) (x .node .0) long room
+          ∙ sym (append-assoc (take at before ++ words xs) (words (x ∷ [])) (drop (to + 2) before))
+          ∙ ap₂ (λ (l : List ℕ) (k : ℕ). l ++ drop k before)
+          (append-assoc (take at before) (words xs) (words (x ∷ [])) ∙ ap (λ (l : List ℕ). take at before ++ l) (sym (words-append xs (x ∷ [])))) after;
+      end-is = after;
+    }
+
+module _ (weight : ℕ) (notes : List ℕ) (start : ℕ) (state before : List ℕ) (at : ℕ) where
+  -- the ids of the first i slots that are picked are written
+  abbrev pub ListBelow : ℕ → List ℕ → ℕ → Type 0
+  ListBelow i changes to = ListWritten (idsAt state (slotsWith weight notes start i)) at before changes to
+
+  pub list-empty : ListBelow 0 before at
+  list-empty = rw slots-none (list-none before at)
+
+  module _ (i : ℕ) (changes : List ℕ) (to : ℕ) (h : ListBelow i changes to) where
+    -- after a slot that is picked, and one that is not
+    pub list-hit : taken weight notes start i ≡ true → to + 2 ≤ length before
+        → ListBelow (i + 1) (set (set changes to (idIn state i .tree .0)) (to + 1) (idIn state i .node .0)) (to + 2)
+    list-hit e room =
+        rw (slots-hit weight notes start i e, map-append (idIn state) (slotsWith weight notes start i) (i ∷ []))
+        (list-one before at (idsAt state (slotsWith weight notes start i)) (idIn state i) changes to h room)
+
+    -- one that is picked has room, where all have
+    pub list-room : i < slotsOf state → taken weight notes start i ≡ true → Room weight notes start state at before → to + 2 ≤ length before
+    list-room l e room =
+        omega (
+          arith,
+          count-within weight notes start i (slotsOf state) l e,
+          h .end-is,
+          room .fits,
+          length-map (slotsWith weight notes start i) (idIn state),
+          length-map (slotsWith weight notes start (slotsOf state)) (idIn state),
+        )
+
+    pub list-miss : taken weight notes start i ≡ false → ListBelow (i + 1) changes to
+    list-miss e = rw (slots-miss weight notes start i e) h
+
+-- as many ids as slots
+pub picked-count : (weight : ℕ) (notes : List ℕ) (start : ℕ) (state : List ℕ) (n r : ℕ) → Counted weight notes start n r → n ≡ slotsOf state
+    → r ≡ length (picked weight notes start state)
+picked-count weight notes start state n r k e =
+    k .count-is ∙ ap (λ m. length (slotsWith weight notes start m)) e ∙ sym (length-map (slotsWith weight notes start (slotsOf state)) (idIn state))
+
+-- room for them
+pub room-for : (weight : ℕ) (notes : List ℕ) (start : ℕ) (state : List ℕ) (at : ℕ) (slice : List ℕ) → start + SLOTS ≤ 4096 → 0 < weight
+    → at + 2 * length (picked weight notes start state) ≤ length slice → Room weight notes start state at slice
+room-for weight notes start state at slice h w fits = record { marks = record { within = omega arith; some = w }; fits = fits }
+
+-- ## Lists one after another
+
+-- a list after one that starts the slice
+list-then : (xs ys : List FullNodeId) (before middle after : List ℕ) (to r : ℕ) → ListWritten xs 0 before middle to → ListWritten ys to middle after r
+    → ListWritten (xs ++ ys) 0 before after r
+list-then xs ys before middle after to r first next =
+    let k = 2 * length ys in
+    let rest = drop (0 + 2 * length xs) before in
+    let long : length (words xs) ≡ to = omega (arith, length-words xs, first .end-is) in
+    let both : 0 + 2 * length (xs ++ ys) ≡ to + k = omega (arith, length-append xs ys, first .end-is) in
+    let front : take to middle ≡ words xs = ap (take to) (first .slice-is) ∙ take-at (words xs) rest to long in
+    let back : drop (to + k) middle ≡ drop (to + k) before =
+    ap₂ (λ (n : ℕ) (l : List ℕ). drop (n + k) l) (sym long) (first .slice-is)
+    ∙ drop-append-add (words xs) rest k
+    ∙ drop-drop k (0 + 2 * length xs) before
+    ∙ ap (λ (n : ℕ). drop (n + k) before) (sym (first .end-is)) in
+    record {
+      same-length = next .same-length ∙ first .same-length;
+      slice-is =
+          next .slice-is
+          ∙ ap₂ (λ (l m : List ℕ). l ++ words ys ++ m) front back
+          ∙ ap₂ (λ (l : List ℕ) (n : ℕ). l ++ drop n before) (sym (words-append xs ys)) (sym both);
+      end-is = next .end-is ∙ sym both;
+    }
+
+-- the words of the four lists
+lists-length : (c : Changes) → length (changeWords c) ≡ 2 * (length (c .added) + length (c .updated) + length (c .removed) + length (c .relinked))
+unfolding changeWords
+lists-length c =
+    let two = c .added ++ c .updated in
+    let three = two ++ c .removed in
+    omega (arith, length-words (three ++ c .relinked), length-append three (c .relinked), length-append two (c .removed), length-append (c .added) (c .updated))
+
+-- the four lists from the start of a slice are what it is lent for
+list-lent : (c : Changes) (slice after : List ℕ) (r : ℕ) → ListWritten (c .added ++ c .updated ++ c .removed ++ c .relinked) 0 slice after r → after ≡ lent slice c
+unfolding lent changeWords
+list-lent c slice after r h =
+    let all = c .added ++ c .updated ++ c .removed ++ c .relinked in
+    let long : 0 + 2 * length all ≡ length (words all) = omega (arith, length-words all) in
+    h .slice-is ∙ ap (λ (n : ℕ). words all ++ drop n slice) long
+
+module _ (c : Changes) (slice : List ℕ) (l : Lists) (added-is : l .added ≡ length (c .added)) (updated-is : l .updated ≡ length (c .updated))
+    (removed-is : l .removed ≡ length (c .removed)) (relinked-is : l .relinked ≡ length (c .relinked))
+    (told : l .fit ≡ leb (2 * (l .added + l .updated + l .removed + l .relinked)) (length slice)) where
+  -- without room the slice stays as it is
+  pub lists-short : l .fit ≡ false → ListsWritten c slice slice l
+  lists-short e =
+      let short = leb-false (2 * (l .added + l .updated + l .removed + l .relinked)) (length slice) (sym told ∙ e) in
+      record {
+        added-is = added-is;
+        updated-is = updated-is;
+        removed-is = removed-is;
+        relinked-is = relinked-is;
+        fit-is = e ∙ sym (ap not (lt-ltb (length slice) (length (changeWords c)) (omega (arith, lists-length c))));
+        slice-is = sym (ap (λ (t : Bool). if t then lent slice c else slice) e);
+      }
+
+  -- with room each list is written after the one before
+  pub lists-lent : l .fit ≡ true → (x y z w : List ℕ) (i j k m : ℕ) → ListWritten (c .added) 0 slice x i → ListWritten (c .updated) i x y j
+      → ListWritten (c .removed) j y z k → ListWritten (c .relinked) k z w m → ListsWritten c slice w l
+  lists-lent e x y z w i j k m wx wy wz ww =
+      let room = leb-true (2 * (l .added + l .updated + l .removed + l .relinked)) (length slice) (sym told ∙ e) in
+      let two = list-then (c .added) (c .updated) slice x y i j wx wy in
+      let three = list-then (c .added ++ c .updated) (c .removed) slice y z j k two wz in
+      let four = list-then (c .added ++ c .updated ++ c .removed) (c .relinked) slice z w k m three ww in
+      record {
+        added-is = added-is;
+        updated-is = updated-is;
+        removed-is = removed-is;
+        relinked-is = relinked-is;
+        fit-is = e ∙ sym (ap not (le-ltb (length slice) (length (changeWords c)) (omega (arith, lists-length c))));
+        slice-is = list-lent c slice w m four ∙ sym (ap (λ (t : Bool). if t then lent slice c else slice) e);
+      }

@@ -1,0 +1,12 @@
+-- `update_reports::no_report` meets its contract. Assumes nothing.
+use Rattle.state_focus.specs.Focus.{foundOf}
+use borrow.Author.Needs.{needs}
+use Rattle.update_reports.proofs.no_report.Statement.{statement}
+use Rattle.update_reports.proofs.no_report.Tie as tie
+
+returns : tie.Need-returns
+unfolding foundOf
+returns c = c .report-start .ensures
+
+pub no-report-spec : {M : Type 1} → statement M
+no-report-spec = tie.close (tie.spec (λ c κs. search needs) returns)

@@ -1,0 +1,12 @@
+-- `update_reports::report_start` meets its contract. Assumes nothing.
+use mathlib.Core.Path.{refl}
+use Rattle.state_focus.specs.Focus.{foundOf}
+use Rattle.update_reports.proofs.report_start.Statement.{statement}
+use Rattle.update_reports.proofs.report_start.Tie as tie
+
+returns : tie.Need-returns
+unfolding foundOf
+returns c = record { before-is = refl; after-is = refl; extra-before-is = refl; extra-after-is = refl }
+
+pub report-start-spec : {M : Type 1} → statement M
+report-start-spec = tie.close (tie.spec returns)

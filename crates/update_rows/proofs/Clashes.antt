@@ -1,0 +1,113 @@
+-- Row 18: a listed node that has other data than before and goes, as the notes say it. Assumes nothing.
+use mathlib.Core.Bool.{Bool, true, false, not, false≢true}
+use mathlib.Core.List.{List, [], _∷_}
+use mathlib.Core.Option.{Option, none, some}
+use mathlib.Core.Path.{_≡_, refl, sym, ap, _∙_}
+use Prim.Native.Nat.{ℕ, zero, suc, _+_, _<_}
+use native.Mathlib.Omega.{arith}
+use lib.Dec.{eqb}
+use lib.ListN.{length, getD}
+use borrow.Author.Tests.{ltb-true, eq-eqb, ne-eqb}
+use Rattle.base.specs.Tests.{_&&_, isSome, any}
+use Rattle.base.proofs.Tests.{and-false, and-right, or-right}
+use Rattle.record.specs.Batch.{sameData, Listed, Batch}
+use Rattle.ids.specs.declared.FullNodeId.{FullNodeId}
+use Rattle.record_reader.specs.Reader.{blank, listedAt}
+use Rattle.state.specs.State.{NodeState, Forest, find, present}
+use Rattle.state_array.specs.View.{slotsOf}
+use Rattle.update.specs.Words.{here}
+use Rattle.update.specs.Gone.{gone}
+use Rattle.update.specs.Numbers.{updatedAndRemoved}
+use Rattle.update_notes.specs.Layout.{LISTED-SLOTS, GOES, DIFFERS}
+use Rattle.update_notes.specs.declared.Scope.{Scope}
+use Rattle.update_notes.specs.Setting.{asked, forest}
+use Rattle.update_notes.specs.Codes.{slotAt, idAt, flag, differs}
+use Rattle.update_notes.specs.Says.{listedSlot, goesWord, differWord, Told, COMPARED}
+use Rattle.update_notes.proofs.Places.{slot-present, slot-id, forest-length}
+
+-- a mark by its test
+flag-is : (t : Bool) → eqb (flag t) 1 ≡ t
+flag-is true = refl
+flag-is false = refl
+
+-- ## A listed node
+
+module _ (s : Forest) (b : Batch) (l : Listed) where
+  -- one that differs is old
+  differs-old : differs s b l ≡ true → present (s .nodes) (here s b (l .id)) ≡ true
+  unfolding differs present
+  differs-old e = go (find (here s b (l .id)) (s .nodes)) e
+    where
+      go : (o : Option NodeState) → (elim o as (λ _. Bool) [ none ↦ false | some n ↦ not (sameData (n .body) (l .body)) ]) ≡ true → isSome o ≡ true
+      go none f = absurd (false≢true f)
+      go (some n) f = refl
+
+  -- the two tests of row 18
+  clash-is : updatedAndRemoved s b l ≡ (gone s b (here s b (l .id)) && differs s b l)
+  unfolding updatedAndRemoved differs
+  clash-is = refl
+
+module _ (state bytes : List ℕ) (c : Scope) (notes : List ℕ) (told : Told COMPARED state bytes c notes) (i : ℕ) (h : i < c .listed) where
+  abbrev s : Forest
+  s = forest state
+
+  abbrev b : Batch
+  b = asked bytes c
+
+  -- the mark of a node that differs
+  differs-is : eqb (getD notes (DIFFERS + i) 0) 1 ≡ differs s b (listedAt b i)
+  unfolding differWord
+  differs-is = ap (λ (m : ℕ). eqb m 1) (told .written 10 (omega arith) i h) ∙ flag-is (differs s b (listedAt b i))
+
+  -- one that does not differ
+  pub clash-same : (getD notes (DIFFERS + i) 0 ≡ 1 → ⊥) → false ≡ updatedAndRemoved s b (listedAt b i)
+  clash-same e = sym (clash-is s b (listedAt b i) ∙ rw (sym differs-is ∙ ne-eqb _ _ e) (and-false _))
+
+  module _ (e : getD notes (DIFFERS + i) 0 ≡ 1) where
+    abbrev x : FullNodeId
+    x = here s b (listedAt b i .id)
+
+    other : differs s b (listedAt b i) ≡ true
+    other = sym differs-is ∙ eq-eqb _ _ e
+
+    slot-is : getD notes (LISTED-SLOTS + i) 0 ≡ slotAt s x
+    unfolding listedSlot
+    slot-is = told .written 3 (omega arith) i h
+
+    -- it has a slot
+    pub clash-within : getD notes (LISTED-SLOTS + i) 0 < slotsOf state
+    clash-within =
+        let within = ltb-true (slotAt s x) (length (s .nodes)) (sym (slot-present s x) ∙ differs-old s b (listedAt b i) other) in
+        omega (arith, slot-is, forest-length state)
+
+    -- whose mark says whether it goes
+    pub clash-goes : eqb (getD notes (GOES + getD notes (LISTED-SLOTS + i) 0) 0) 1 ≡ updatedAndRemoved s b (listedAt b i)
+    unfolding goesWord
+    clash-goes =
+        ap (λ (m : ℕ). eqb m 1) (told .written 9 (omega arith) (getD notes (LISTED-SLOTS + i) 0) clash-within)
+        ∙ flag-is _
+        ∙ ap (λ (k : ℕ). gone s b (idAt s k)) slot-is
+        ∙ ap (gone s b) (slot-id s x (omega (arith, clash-within, slot-is, forest-length state)))
+        ∙ sym (clash-is s b (listedAt b i) ∙ rw other (and-right _))
+
+-- ## All of them
+
+module _ (p : Listed → Bool) (b : Batch) where
+  -- one passes
+  pub any-here : (i : ℕ) → i < length (b .nodes) → p (listedAt b i) ≡ true → any p (b .nodes) ≡ true
+  unfolding listedAt
+  any-here i h e = go (b .nodes) i h e
+    where
+      go : (ls : List Listed) (j : ℕ) → j < length ls → p (getD ls j blank) ≡ true → any p ls ≡ true
+      go [] j l q = absurd (omega arith)
+      go (x ∷ ls) zero l q = rw q
+      go (x ∷ ls) (suc j) l q = or-right (p x) (go ls j (omega arith) q)
+
+  -- none does
+  pub any-nowhere : ((i : ℕ) → i < length (b .nodes) → p (listedAt b i) ≡ false) → any p (b .nodes) ≡ false
+  unfolding listedAt
+  any-nowhere e = go (b .nodes) e
+    where
+      go : (ls : List Listed) → ((j : ℕ) → j < length ls → p (getD ls j blank) ≡ false) → any p ls ≡ false
+      go [] q = refl
+      go (x ∷ ls) q = rw (q 0 (omega arith)) (go ls (λ j l. q (suc j) (omega arith)))

@@ -1,0 +1,9 @@
+pub mod Tables
+pub mod Listed
+pub mod Trees
+pub mod Scopes
+pub mod Outcomes
+pub mod Clashes
+pub mod Numbers
+pub mod Given
+pub mod Calls

@@ -1,0 +1,171 @@
+-- How the numbers of the parts make the number of a batch: rows 1, 2 and 5 to 8, or 2 to 5 of a start, then 9 to 14, then the last.
+-- Assumes nothing.
+use mathlib.Core.Bool.{Bool, true, false, not, _||_}
+use mathlib.Core.List.{List, [], _∷_}
+use mathlib.Core.Option.{some}
+use mathlib.Core.Path.{_≡_, refl, sym, _∙_}
+use Prim.Native.Nat.{ℕ, zero, suc}
+use native.Mathlib.Omega.{arith}
+use lib.Dec.{ltb, leb}
+use lib.ListN.{length}
+use borrow.Author.Tests.{lt-ltb, leb-false}
+use Rattle.base.specs.Tests.{_&&_, isNone, any, distinct}
+use Rattle.base.specs.Tables.{row, found, first}
+use Rattle.base.proofs.Tables.{first-zero, first-found-zero}
+use Rattle.base.proofs.Tests.{not-false}
+use Rattle.ids.specs.Ids.{ROOT, sameTree, sameNode}
+use Rattle.record.specs.Batch.{Batch, listedIds, namedIds}
+use Rattle.record.specs.Parse.{wellFormed, parse}
+use Rattle.record_reader.specs.Reader.{batchIn}
+use Rattle.record_reader.proofs.Reader.{batch-in}
+use Rattle.state.specs.State.{Forest, holder, subtreeOf}
+use Rattle.state.specs.Sound.{sound}
+use Rattle.update.specs.Words.{known, withTreeData}
+use Rattle.update.specs.Pass.{pass}
+use Rattle.update.specs.Outcome.{outcome}
+use Rattle.update.specs.Numbers.{placeless, nowhere, updatedAndRemoved, rowsBeforePass, rowsAfterPass, batchNumber}
+use Rattle.update.specs.Calls.{seed, withoutTreeData}
+use Rattle.update_rows.specs.Rows.{firstNumber, startRows, lastNumber}
+use Rattle.update_rows.proofs.Tables.{found-counts, found-passes, found-alone, first-append, first-append-none}
+
+-- ## Rows 9 to 20
+
+-- rows 9 to 14
+abbrev pub passRows : Forest → Batch → ℕ
+passRows s b = first (found (pass s b) ∷ row 13 (any (placeless s b) (b .nodes)) ∷ row 14 (any (nowhere s b) (namedIds (b .nodes))) ∷ [])
+
+-- 12's second part and rows 15 to 20
+abbrev pub lastRows : Forest → Batch → ℕ
+lastRows s b = lastNumber (outcome s b) (any (updatedAndRemoved s b) (b .nodes))
+
+-- both
+abbrev pub laterRows : Forest → Batch → ℕ
+laterRows s b = first (found (pass s b) ∷ rowsAfterPass s b (outcome s b))
+
+module _ (s : Forest) (b : Batch) where
+  -- 5 to 8
+  pub batch-first : (first (rowsBeforePass s b) ≡ 0 → ⊥) → batchNumber s b ≡ first (rowsBeforePass s b)
+  unfolding batchNumber
+  batch-first h = first-append (rowsBeforePass s b) _ h
+
+  -- then 9 to 20
+  pub batch-later : first (rowsBeforePass s b) ≡ 0 → batchNumber s b ≡ laterRows s b
+  unfolding batchNumber rowsBeforePass _&&_
+  batch-later e = first-append-none (rowsBeforePass s b) _ refl e
+
+  -- a batch that rows 9 to 14 refuse
+  pub later-early : (passRows s b ≡ 0 → ⊥) → laterRows s b ≡ passRows s b
+  unfolding rowsAfterPass
+  later-early h = first-append (found _ ∷ row 13 _ ∷ row 14 _ ∷ []) _ h
+
+  -- a batch that they let pass
+  pub later-last : passRows s b ≡ 0 → laterRows s b ≡ lastRows s b
+  unfolding lastNumber rowsAfterPass first
+  later-last e =
+      let places : Bool = any (placeless s b) (b .nodes) in
+      let names : Bool = any (nowhere s b) (namedIds (b .nodes)) in
+      let one = first-found-zero (pass s b) (row 13 places ∷ row 14 names ∷ []) e in
+      let two = first-zero (row 13 places) (row 14 names ∷ []) (λ (z : _≡_ {A = ℕ} 13 0) t. omega arith) (one .1) in
+      let three = first-zero (row 14 names) [] (λ (z : _≡_ {A = ℕ} 14 0) t. omega arith) (two .1) in
+      rw (one .0, two .0, three .0)
+
+  -- the two in one
+  pub later-number : laterRows s b ≡ first (found (passRows s b) ∷ found (lastRows s b) ∷ [])
+  later-number = go (passRows s b) refl
+    where
+      go : (k : ℕ) → passRows s b ≡ k → laterRows s b ≡ first (found (passRows s b) ∷ found (lastRows s b) ∷ [])
+      go zero e = later-last e ∙ sym (found-passes (passRows s b) _ e ∙ found-alone (lastRows s b))
+      go (suc k) e =
+          let wrong : passRows s b ≡ 0 → ⊥ = λ z. omega (arith, sym e ∙ z) in
+          later-early wrong ∙ sym (found-counts (passRows s b) _ wrong)
+
+  -- ## What holds after rows 5 to 8
+
+  -- each node is listed once, and the tree has a number or there is one for it
+  pub record Listable : Type 0 where
+    pub once : distinct sameNode (listedIds (b .nodes)) ≡ true
+    pub numbered : (known s b || ltb (length (s .trees)) 32) ≡ true
+
+  room-for : (k : Bool) → (not k && leb 32 (length (s .trees))) ≡ false → (k || ltb (length (s .trees)) 32) ≡ true
+  unfolding _&&_
+  room-for true e = refl
+  room-for false e = lt-ltb (length (s .trees)) 32 (leb-false 32 (length (s .trees)) e)
+
+  pub listable : first (rowsBeforePass s b) ≡ 0 → Listable
+  unfolding rowsBeforePass
+  listable e =
+      let five = first-zero (row 5 (not (distinct sameNode (listedIds (b .nodes))))) _ (λ n _. omega arith) e in
+      let six = first-zero (row 6 _) _ (λ n _. omega arith) (five .1) in
+      let seven = first-zero (row 7 _) _ (λ n _. omega arith) (six .1) in
+      let eight = first-zero (row 8 _) _ (λ n _. omega arith) (seven .1) in
+      record { once = not-false (five .0); numbered = room-for (known s b) (eight .0) }
+
+-- ## A batch on a state
+
+module _ (s : Forest) (bytes : List ℕ) where
+  -- rows 1, 2 and 5 to 8 passed
+  pub record Passed : Type 0 where
+    pub is-sound : sound s ≡ true
+    pub formed : wellFormed bytes ≡ true
+    pub before : first (rowsBeforePass s (batchIn bytes)) ≡ 0
+
+  pub first-passed : firstNumber s bytes ≡ 0 → Passed
+  unfolding firstNumber
+  first-passed e =
+      let y = first-zero (row 1 (not (sound s))) _ (λ n _. omega arith) e in
+      let z = first-zero (row 2 (not (wellFormed bytes))) _ (λ n _. omega arith) (y .1) in
+      record { is-sound = not-false (y .0); formed = not-false (z .0); before = z .1 }
+
+  -- then the pass's number, then the last rows'
+  pub batch-number : (b : Batch) → firstNumber s bytes ≡ 0 → parse bytes ≡ some b
+      → batchNumber s b ≡ first (found (passRows s b) ∷ found (lastRows s b) ∷ [])
+  batch-number b e p =
+      batch-later s b (rw (batch-in bytes b p) at (first-passed e .before)) ∙ later-number s b
+
+-- ## A start
+
+-- rows 6 to 8 of ROOT, where there is room for its number
+dropped : (x a c d k : Bool) → first (row 5 x ∷ row 6 (a && false && c) ∷ row 7 (not a && false && d) ∷ row 8 (k && false) ∷ []) ≡ first (row 5 x ∷ [])
+unfolding first _&&_
+dropped x true c d true = refl
+dropped x true c d false = refl
+dropped x false c d true = refl
+dropped x false c d false = refl
+
+module _ (b : Batch) where
+  -- of rows 5 to 8 row 5 is left
+  pub seed-before : sameTree (b .tree) ROOT ≡ true
+      → first (rowsBeforePass (seed b) (withoutTreeData b)) ≡ first (row 5 (not (distinct sameNode (listedIds (b .nodes)))) ∷ [])
+  unfolding rowsBeforePass seed withoutTreeData
+  seed-before e =
+      let s : Forest = seed b in
+      let d : Batch = withoutTreeData b in
+      rw e
+      (dropped (not (distinct sameNode (listedIds (b .nodes)))) (withTreeData s d) (isNone (holder (s .nodes) (b .tree))) (isNone (subtreeOf s (b .tree)))
+      (not (known s d)))
+
+module _ (bytes : List ℕ) where
+  -- rows 2 to 5 passed
+  pub record Begun : Type 0 where
+    pub formed : wellFormed bytes ≡ true
+    pub rooted : isNone (batchIn bytes .root) ≡ false
+    pub root-tree : sameTree (batchIn bytes .tree) ROOT ≡ true
+    pub once : distinct sameNode (listedIds (batchIn bytes .nodes)) ≡ true
+
+  pub start-begun : startRows bytes ≡ 0 → Begun
+  unfolding startRows
+  start-begun e =
+      let two = first-zero (row 2 (not (wellFormed bytes))) _ (λ n _. omega arith) e in
+      let three = first-zero (row 3 (isNone (batchIn bytes .root))) _ (λ n _. omega arith) (two .1) in
+      let four = first-zero (row 4 (not (sameTree (batchIn bytes .tree) ROOT))) _ (λ n _. omega arith) (three .1) in
+      let five = first-zero (row 5 (not (distinct sameNode (listedIds (batchIn bytes .nodes))))) _ (λ n _. omega arith) (four .1) in
+      record { formed = not-false (two .0); rooted = three .0; root-tree = not-false (four .0); once = not-false (five .0) }
+
+  -- no number of rows 5 to 8
+  pub start-before : startRows bytes ≡ 0 → first (rowsBeforePass (seed (batchIn bytes)) (withoutTreeData (batchIn bytes))) ≡ 0
+  unfolding first
+  start-before e = let p = start-begun e in seed-before (batchIn bytes) (p .root-tree) ∙ rw (p .once)
+
+  -- each node is listed once, and ROOT has a number
+  pub start-listable : startRows bytes ≡ 0 → Listable (seed (batchIn bytes)) (withoutTreeData (batchIn bytes))
+  start-listable e = listable (seed (batchIn bytes)) (withoutTreeData (batchIn bytes)) (start-before e)

@@ -1,0 +1,21 @@
+-- `update_rows::exists` meets its contract. Assumes nothing.
+use mathlib.Core.Path.{sym, ap, _∙_}
+use Rattle.base.specs.Tests.{isSome}
+use Rattle.state_lookup.specs.Lookup.{endsOf}
+use borrow.Author.Needs.{needs}
+use Rattle.update_rows.proofs.exists.Statement.{statement}
+use Rattle.update_rows.proofs.exists.Tie as tie
+
+enum-told : tie.Need-enum-told
+enum-told c = search needs
+
+returns : tie.Need-returns
+unfolding endsOf
+returns c = ap (λ o. isSome o) (sym (ap endsOf (c .enum-told .given .1)) ∙ c .before .before .tree-of .ensures)
+
+returns-2 : tie.Need-returns-2
+unfolding endsOf
+returns-2 c = ap (λ o. isSome o) (sym (ap endsOf (c .before .e .given .1)) ∙ c .before .before .before .tree-of .ensures)
+
+pub exists-spec : {M : Type 1} → statement M
+exists-spec = tie.close (tie.spec (λ c κs. search needs) (λ c. search needs) enum-told returns returns-2)

@@ -1,0 +1,34 @@
+-- `update_rows::is_ungrafted` meets its contract: the search of the grafts says it. Assumes nothing.
+use denote.Ref.{now}
+use mathlib.Core.Path.{sym}
+use Rattle.base.specs.Tests.{_&&_}
+use Rattle.base.proofs.Tests.{call-true, call-false}
+use Rattle.record_reader.specs.Reader.{batchIn}
+use Rattle.update.specs.Words.{withTreeData}
+use Rattle.update_rows.specs.Parts.{ungrafted}
+use Rattle.update_rows.proofs.Trees.{ungrafted-is}
+use borrow.Author.Needs.{needs}
+use Rattle.update_rows.proofs.is_ungrafted.Statement.{statement}
+use Rattle.update_rows.proofs.is_ungrafted.Tie as tie
+
+returns : tie.Need-returns
+unfolding ungrafted withTreeData _&&_
+returns c = sym (rw (call-false (c .before .has-tree-data .ensures) (c .if1 .taken)))
+
+returns-2 : tie.Need-returns-2
+unfolding _&&_
+returns-2 c = let a = c .before .before .before .before .before .before .before .args in
+    rw (c .before .before .is-root-id .ensures, c .before .before .before .tree-id .ensures, c .before .slots .ensures)
+    (ungrafted-is (now (a .state)) (batchIn (now (a .batch))) _ (rw (c .before .before .before .tree-id .ensures) at (c .holder-of .ensures)) (call-true (c .before .before .before .before .before .has-tree-data .ensures) (c .before .before .before .before .if1 .left)))
+
+pub is-ungrafted-spec : {M : Type 1} → statement M
+is-ungrafted-spec =
+    tie.close
+    (tie.spec
+    (λ c κs. search needs)
+    returns
+    (λ c κs. search needs)
+    (λ c κs. search needs)
+    (λ c κs. search needs)
+    (λ c κs. search needs)
+    returns-2)

@@ -1,0 +1,13 @@
+-- `update_rows::last_rows` meets its contract. Assumes nothing.
+use mathlib.Core.Path.{ap, _∙_}
+use Prim.Native.Nat.{ℕ}
+use Rattle.update_notes.specs.Setting.{refusal}
+use borrow.Author.Needs.{needs}
+use Rattle.update_rows.proofs.last_rows.Statement.{statement}
+use Rattle.update_rows.proofs.last_rows.Tie as tie
+
+returns : tie.Need-returns
+returns c = c .refuse .ensures ∙ ap (λ (k : ℕ). refusal k) (c .before .last-number .ensures)
+
+pub last-rows-spec : {M : Type 1} → statement M
+last-rows-spec = tie.close (tie.spec (λ c κs. search needs) (λ c κs. search needs) returns)

@@ -1,0 +1,41 @@
+-- What the helpers answer: rows 6 to 8 by themselves, the root that a batch leaves, rows 15 to 17. Assumes nothing.
+use mathlib.Core.Bool.{Bool, not}
+use mathlib.Core.List.{[], _∷_}
+use mathlib.Core.Option.{none, some}
+use mathlib.Core.Path.{_≡_}
+use Prim.Native.Nat.{ℕ}
+use lib.Dec.{leb}
+use lib.ListN.{length}
+use Rattle.base.specs.Tests.{_&&_, if_then_else_, isNone}
+use Rattle.base.specs.Tables.{row, first}
+use Rattle.ids.specs.Ids.{ROOT, sameTree}
+use Rattle.record.specs.Batch.{Batch}
+use Rattle.state.specs.State.{Forest, holder, subtreeOf}
+use Rattle.state.specs.Down.{rootOf}
+use Rattle.state.specs.Focus.{effectiveFocus}
+use Rattle.update.specs.Words.{known, here, withTreeData, rootAfter}
+use Rattle.update.specs.Numbers.{absent}
+use Rattle.update_rows.specs.declared.Root.{Root}
+
+module _ (s : Forest) (b : Batch) where
+  -- row 6: tree data for a tree other than ROOT that no node grafts
+  unfoldable pub ungrafted : Bool
+  ungrafted = withTreeData s b && not (sameTree (b .tree) ROOT) && isNone (holder (s .nodes) (b .tree))
+
+  -- row 7: no tree data for a tree other than ROOT that does not exist
+  unfoldable pub missing : Bool
+  missing = not (withTreeData s b) && not (sameTree (b .tree) ROOT) && isNone (subtreeOf s (b .tree))
+
+  -- row 8: a tree without a number, where none is left
+  unfoldable pub full : Bool
+  full = not (known s b) && leb 32 (length (s .trees))
+
+  -- the root as the batch leaves it
+  abbrev pub RootAfter : Root → Type 0
+  RootAfter r = (if r .rooted then some (here s b (r .node)) else none) ≡ rootAfter s b
+
+-- rows 15 to 17
+unfoldable pub focusNumber : Forest → ℕ
+focusNumber o =
+    first
+    (row 15 (isNone (effectiveFocus o)) ∷ row 16 (absent (o .nodes) (rootOf o)) ∷ row 17 (absent (o .nodes) (effectiveFocus o)) ∷ [])

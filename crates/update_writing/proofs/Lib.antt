@@ -1,0 +1,5 @@
+pub mod Plan
+pub mod Kids
+pub mod Rows
+pub mod Sources
+pub mod Written

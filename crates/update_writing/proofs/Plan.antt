@@ -1,0 +1,93 @@
+-- Laws of the plan: what the notes say of the outcome's nodes. Assumes nothing.
+use mathlib.Core.List.{List}
+use mathlib.Core.Path.{_≡_, sym, _∙_}
+use Prim.Native.Nat.{ℕ, _+_, _-_, _≤_, _<_}
+use native.Mathlib.Omega.{arith}
+use lib.ListN.{length, getD}
+use Rattle.record.specs.Batch.{Batch}
+use Rattle.record_reader.specs.Reader.{listedAt}
+use Rattle.state.specs.State.{Forest}
+use Rattle.state_array.specs.View.{idIn}
+use Rattle.state_array.specs.Stored.{noState, entriesOf}
+use Rattle.update.specs.Words.{here}
+use Rattle.update.specs.Outcome.{linkAfter, outcome}
+use Rattle.update_notes.specs.declared.Scope.{Scope}
+use Rattle.update_notes.specs.Layout.{LISTED, COUNT, CODES, SOURCES}
+use Rattle.update_notes.specs.Setting.{asked, forest}
+use Rattle.update_notes.specs.Codes.{idAt, codeId, codeLink, Coded, SourceOf, codeOf, sourceOf}
+use Rattle.update_notes.specs.Says.{Told, COMPARED, PLANNED, listedWord, codeWord, sourceWord}
+use Rattle.update_notes.proofs.Places.{forest-length, forest-id}
+use Rattle.update_notes.proofs.Told.{few-listed, few-named, few-after}
+use Rattle.update_outcome.proofs.Codes.{code-old, code-new, coded, code-id}
+use Rattle.update_outcome.proofs.Nodes.{code-link, source-of}
+use Rattle.update_outcome.proofs.Room.{entries-few}
+use Rattle.update_writing.specs.Written.{nodesAfter}
+
+module _ (state bytes : List ℕ) (c : Scope) (notes : List ℕ) (told : Told PLANNED state bytes c notes) where
+  abbrev s : Forest
+  s = forest state
+
+  abbrev b : Batch
+  b = asked bytes c
+
+  -- ## Limits
+
+  -- how many nodes there are, and that they have room
+  pub count-told : getD notes COUNT 0 ≡ length (nodesAfter state bytes c)
+  count-told = told .written 11 (omega arith) 0 (omega arith)
+
+  pub nodes-room : length (nodesAfter state bytes c) ≤ 320
+  nodes-room = few-after state bytes c (told .given)
+
+  listed-room : length (asked bytes c .nodes) ≤ 64
+  listed-room = omega (arith, few-listed state bytes c (told .given), told .given .scoped .listed)
+
+  -- so have their children
+  pub entries-room : length (entriesOf (nodesAfter state bytes c)) ≤ 512
+  entries-room = entries-few s b (told .given .kept) (rw (told .given .scoped .named) at (few-named state bytes c (told .given)))
+
+  -- what the links were worked out from
+  pub told-compared : Told COMPARED state bytes c notes
+  told-compared = record { given = told .given; long = told .long; written = λ j h. told .written j (omega arith) }
+
+  -- ## Node r
+
+  module _ (r : ℕ) (l : r < length (nodesAfter state bytes c)) where
+    code-told : getD notes (CODES + r) 0 ≡ codeOf s b (idAt (outcome s b) r)
+    unfolding codeWord
+    code-told = told .written 12 (omega arith) r l
+
+    source-told : getD notes (SOURCES + r) 0 ≡ sourceOf s b (idAt (outcome s b) r)
+    unfolding sourceWord
+    source-told = told .written 13 (omega arith) r l
+
+    -- its code, its id and its link
+    pub code-there : Coded (forest state) (asked bytes c) (getD notes (CODES + r) 0)
+    code-there = rw code-told (coded s b (told .given .kept) listed-room (told .given .once) r l)
+
+    pub id-there : codeId (forest state) (asked bytes c) (getD notes (CODES + r) 0) ≡ getD (nodesAfter state bytes c) r noState .id
+    id-there = rw code-told (code-id s b (told .given .kept) listed-room (told .given .once) r l)
+
+    pub link-there : linkAfter (forest state) (asked bytes c) (codeId (forest state) (asked bytes c) (getD notes (CODES + r) 0)) (codeLink (forest state) (asked bytes c) (getD notes (CODES + r) 0))
+        ≡ getD (nodesAfter state bytes c) r noState .parentAndIndex
+    link-there = rw code-told (sym (code-link s b (told .given .kept) listed-room (told .given .once) r l))
+
+    -- where its data comes from
+    pub source-there : SourceOf (forest state) (asked bytes c) (getD notes (SOURCES + r) 0) (getD (nodesAfter state bytes c) r noState .body)
+    source-there = rw source-told (source-of s b (told .given .kept) listed-room (told .given .once) r l)
+
+  -- ## The id of a code
+
+  module _ (code : ℕ) (there : Coded (forest state) (asked bytes c) code) where
+    pub slot-id : code < 320 → idIn state code ≡ codeId (forest state) (asked bytes c) code
+    slot-id h = sym (code-old s b code h ∙ forest-id state code (rw (forest-length state) at (there .stays h .0)))
+
+    -- a listed node's place
+    pub listed-place : 320 ≤ code → code - 320 < 64
+    listed-place h = omega (arith, there .new h .0, listed-room)
+
+    pub listed-id : 320 ≤ code → record { tree = c .tree; node = record { 0 = getD notes (LISTED + (code - 320)) 0 } } ≡ codeId (forest state) (asked bytes c) code
+    unfolding here listedWord
+    listed-id h =
+        let word : getD notes (LISTED + (code - 320)) 0 ≡ listedAt b (code - 320) .id .0 = told .written 0 (omega arith) (code - 320) (omega (arith, there .new h .0, told .given .scoped .listed)) in
+        (λ z. record { tree = told .given .scoped .tree z; node = record { 0 = word z } }) ∙ sym (code-new s b code h)

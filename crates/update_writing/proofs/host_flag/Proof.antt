@@ -1,0 +1,17 @@
+-- `update_writing::host_flag` meets its contract. Assumes nothing.
+use borrow.Author.Tests.{eq-eqb, ne-eqb}
+use Rattle.state_array.specs.View.{view}
+use borrow.Author.Needs.{needs}
+use Rattle.update_writing.proofs.host_flag.Statement.{statement}
+use Rattle.update_writing.proofs.host_flag.Tie as tie
+
+returns : tie.Need-returns
+unfolding view
+returns c = rw (eq-eqb _ 0 (rw (c .before .host .ensures) at (c .if1 .taken)))
+
+returns-2 : tie.Need-returns-2
+unfolding view
+returns-2 c = rw (ne-eqb _ 0 (rw (c .before .host .ensures) at (c .if1 .left)))
+
+pub host-flag-spec : {M : Type 1} → statement M
+host-flag-spec = tie.close (tie.spec (λ c κs. search needs) returns returns-2)

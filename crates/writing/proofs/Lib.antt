@@ -1,5 +1,0 @@
-pub mod Rows
-pub mod Sources
-pub mod Texts
-pub mod Plan
-pub mod Nodes
