@@ -1,29 +1,25 @@
 -- Demand 3 over the contracts of the linked functions: the words of a chain show the definitions' states, and the lists that stand in the slice are
 -- the definition's. Assumes nothing.
-use mathlib.Core.Bool.{Bool, not, _||_}
 use mathlib.Core.List.{List, [], _∷_, _++_, map, append-assoc}
 use mathlib.Core.Path.{_≡_, refl, sym, ap, _∙_, subst}
 use Prim.Native.Nat.{ℕ, zero, suc, _+_, _*_, _<_}
 use native.Mathlib.Omega.{arith}
-use lib.ListN.{length, drop, getD, length-append, List·getD-append}
+use lib.ListN.{length, drop, getD, length-append}
 use lib.Seq.{getD-append-add}
-use Rattle.base.specs.Tests.{_&&_, has}
-use Rattle.base.specs.Bytes.{listOf}
 use Rattle.base.proofs.Columns.{list-of-each}
-use Rattle.ids.specs.Ids.{sameId}
+use Rattle.update_reports.proofs.Slice.{words-append}
 use Rattle.ids.specs.declared.FullNodeId.{FullNodeId}
-use Rattle.state.specs.State.{Forest, State, present}
+use Rattle.state.specs.State.{State}
 use Rattle.state_array.specs.View.{view}
 use Rattle.update.specs.Reports.{Changes, lengthsOf, words, changeWords, lent}
 use Rattle.update.specs.Calls as definition
-use Rattle.update.specs.Calls.{start, update}
+use Rattle.update.specs.Calls.{update}
 use Rattle.cartgravel.specs.declared.Reply.{Reply}
-use Rattle.cartgravel.specs.Replies.{replyTo, isSet, Answers, Starts}
+use Rattle.cartgravel.specs.Replies.{replyTo, isSet, Answers}
 use Rattle.book.specs.Book as book
 use Rattle.book.specs.Book.{answerTo}
-use Rattle.book.specs.Demand as demand
 use Rattle.book.specs.Demand.{stateAfter, bookAfter, Kept}
-use Rattle.book.specs.Contracts.{Call, batch, host, meant, Allows, Chain, idsIn, addedIn, removedIn, Counted, CodeClaim, Demand3OfCode}
+use Rattle.book.specs.Contracts.{Call, batch, host, meant, Allows, Chain, idsIn, addedIn, removedIn, Counted, Demand3OfCode}
 use Rattle.book.proofs.Calls.{accepted-update, counted-update}
 use Rattle.book.proofs.Theorem.{demand3}
 
@@ -56,11 +52,6 @@ words-length : (xs : List FullNodeId) → length (words xs) ≡ 2 * length xs
 unfolding words
 words-length [] = refl
 words-length (x ∷ xs) = omega (arith, words-length xs)
-
-words-append : (xs ys : List FullNodeId) → words (xs ++ ys) ≡ words xs ++ words ys
-unfolding words
-words-append [] ys = refl
-words-append (x ∷ xs) ys = ap (λ (l : List ℕ). x .tree .0 ∷ x .node .0 ∷ l) (words-append xs ys)
 
 -- the words of a list say its ids
 words-at : (xs : List FullNodeId) (rest : List ℕ) (i : ℕ) → i < length xs → idOf (words xs ++ rest) (2 * i) ≡ getD xs i none

@@ -1,30 +1,20 @@
 -- What a call answers is what its definition answers: a law for each way out. Assumes nothing.
-use mathlib.Core.Bool.{Bool, true, false, not}
 use mathlib.Core.List.{List, []}
-use mathlib.Core.Option.{none}
-use mathlib.Core.Path.{_≡_, refl, sym, ap, _∙_}
+use mathlib.Core.Path.{_≡_, refl, _∙_}
 use Prim.Native.Nat.{ℕ}
-use lib.Dec.{eqb}
 use lib.ListN.{length}
 use borrow.Author.Tests.{ne-eqb}
-use Rattle.base.specs.Tests.{if_then_else_}
 use Rattle.state.specs.State.{State}
 use Rattle.state.specs.Focus.{stateFocus}
 use Rattle.state_array.specs.View.{view}
-use Rattle.state_focus.specs.Focus.{foundOf}
 use Rattle.update.specs.Reports.{Changes, noChanges, lengthsOf, lent}
 use Rattle.update.specs.Calls as definition
 use Rattle.update_reports.specs.declared.Report as reports
 use Rattle.update_reports.specs.Reported.{Reported, OnlyAfter}
 use Rattle.cartgravel.specs.declared.Lengths.{Lengths}
 use Rattle.cartgravel.specs.declared.Reply.{Reply}
-use Rattle.cartgravel.specs.Replies.{plainId, replyTo, Answers}
+use Rattle.cartgravel.specs.Replies.{replyTo, Answers}
 use Rattle.cartgravel.specs.Plain.{lengthsAre, plainReport, acceptedReply, refusedReply}
-
--- a flag of 0 or 1 says what it was made of
-pub flag-back : (t : Bool) → not (eqb (if t then 1 else 0) 0) ≡ t
-flag-back true = refl
-flag-back false = refl
 
 -- a refusal: the words are as they were
 pub refused-answers : (k : ℕ) → (k ≡ 0 → ⊥) → (s : State) (kept written slice : List ℕ) → view kept ≡ s → (d : definition.Answer) → d ≡ definition.refused k s slice

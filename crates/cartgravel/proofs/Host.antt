@@ -1,6 +1,6 @@
 -- The host flag of a state: another flag leaves the forest as it was. Assumes nothing.
 use mathlib.Core.List.{List, []}
-use mathlib.Core.Bool.{Bool, true, false, not}
+use mathlib.Core.Bool.{true, false, not}
 use mathlib.Core.Path.{_≡_, refl, ap, _∙_}
 use Prim.Native.Nat.{ℕ, _<_, _+_, _*_, _/_, _%_, _^_, min}
 use native.Mathlib.Omega.{arith}
@@ -11,6 +11,7 @@ use lib.Ieee.{ofBits, binary64}
 use Rattle.base.specs.Tests.{_&&_, if_then_else_}
 use Rattle.base.specs.Bytes.{listOf}
 use Rattle.base.proofs.Indexed.{list-of-cong}
+use Rattle.base.proofs.Tests.{bit-set}
 use Rattle.state_array.specs.Layout.{WORDS, COUNT, TREE-COUNT, HOST, entryPlace, entry, place, word, childPlace, child, TREE-HIGH, TREE-LOW, TREE-ROOT, TREE-FOCUS, TREE-EXISTS, TREE, NODE, PARENT-TREE, PARENT-NODE, INDEX, LINKED, GRAFT-HIGH, GRAFT-LOW, FLAGS, FIRST-CHILD, CHILD-COUNT, ACTIVE, ROLE, LABEL-LENGTH, LABEL, FLOATS}
 use Rattle.state_array.specs.View.{slotsOf, treesOf, view, treeIn, entryIn, idIn, linkIn, linkOf, shapeIn, labelByte, labelIn, boundsIn, transformIn, childrenOf, bodyIn, nodeIn}
 use Rattle.state.specs.Focus.{stateFocus}
@@ -24,7 +25,7 @@ use Rattle.update_reports.specs.Reported.{HostReported}
 use Rattle.cartgravel.specs.declared.Reply.{Reply}
 use Rattle.cartgravel.specs.Replies.{isSet, HostFocuses}
 use Rattle.cartgravel.specs.Plain.{lengthsAre, acceptedReply, refusedReply, HostPut}
-use Rattle.cartgravel.proofs.Answers.{flag-back, refused-answers, accepted-answers}
+use Rattle.cartgravel.proofs.Answers.{refused-answers, accepted-answers}
 
 -- a node is what its words and the child entries say
 node-same : (s t : List ℕ) (i j : ℕ) → ((f : ℕ) → word s f i ≡ word t f j) → ((own k : ℕ) → child s own k ≡ child t own k) → nodeIn s i ≡ nodeIn t j
@@ -109,6 +110,6 @@ pub host-accepted : (s : List ℕ) (host : ℕ) → sound (view s .forest) ≡ t
 unfolding definition.hostFocus definition.withHostFocus noChanges lent changeWords words
 host-accepted s host e t h before after b a p said r q =
     let shown : view t ≡ definition.withHostFocus (view s) (isSet host) =
-    ap view (h .put) ∙ view-set-host s (if isSet host then 1 else 0) (h .long) ∙ rw (flag-back (isSet host)) in
+    ap view (h .put) ∙ view-set-host s (if isSet host then 1 else 0) (h .long) ∙ rw (bit-set (isSet host)) in
     let d : definition.hostFocus (view s) (isSet host) ≡ definition.accepted (view s) (definition.withHostFocus (view s) (isSet host)) noChanges [] = rw e in
     accepted-answers (view s) (definition.withHostFocus (view s) (isSet host)) noChanges [] s _ t (h .put) shown _ d p (said _ _ b (rw shown at a)) _ refl r q [] refl

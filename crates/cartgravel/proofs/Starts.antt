@@ -1,17 +1,16 @@
 -- A start: the state that its batch is applied to, and what each way out answers. Assumes nothing.
-use mathlib.Core.Bool.{Bool, true, false, not, true≢false}
+use mathlib.Core.Bool.{true, false, true≢false}
 use mathlib.Core.List.{List, []}
 use mathlib.Core.Option.{Option, none, some}
 use mathlib.Core.Path.{_≡_, refl, sym, ap, _∙_}
 use Prim.Native.Nat.{ℕ}
-use lib.Dec.{eqb}
-use lib.ListN.{getD, set, replicate}
+use lib.ListN.{set}
 use Rattle.base.specs.Tests.{_&&_, if_then_else_, isNone}
 use Rattle.base.specs.Bytes.{listOf}
+use Rattle.base.proofs.Tests.{bit-set}
 use Rattle.ids.specs.declared.NodeId.{NodeId}
-use Rattle.record.specs.Batch.{Batch}
 use Rattle.record_reader.specs.Reader.{batchIn, rootOrZero}
-use Rattle.state.specs.State.{Forest, State}
+use Rattle.state.specs.State.{State}
 use Rattle.state.specs.Focus.{stateFocus}
 use Rattle.state_array.specs.Layout.{entry}
 use Rattle.state_array.specs.Stored.{stored}
@@ -33,7 +32,7 @@ use Rattle.update_rows.proofs.Calls.{startState, start-first, start-later, star
 use Rattle.cartgravel.specs.declared.Reply.{Reply}
 use Rattle.cartgravel.specs.Replies.{isSet, Starts}
 use Rattle.cartgravel.specs.Plain.{lengthsAre, acceptedReply, refusedReply, seeded}
-use Rattle.cartgravel.proofs.Answers.{flag-back, refused-answers, started-answers}
+use Rattle.cartgravel.proofs.Answers.{refused-answers, started-answers}
 
 -- the forest that a start's batch is applied to
 pub seed-forest : (bytes : List ℕ) (host : ℕ) → seeded bytes host .forest ≡ seed (batchIn bytes)
@@ -52,7 +51,7 @@ seed-shows bytes host flag root focus passed f r o = go (batchIn bytes .root) re
   where
     go : (p : Option NodeId) → batchIn bytes .root ≡ p → view (seedWords flag (root .0) (focus .0)) ≡ seeded bytes host
     go none e = absurd (true≢false (sym (ap isNone e) ∙ start-begun bytes passed .rooted))
-    go (some x) e = rw (f, r, o, e, flag-back (isSet host))
+    go (some x) e = rw (f, r, o, e, bit-set (isSet host))
 
 -- the blank words show the blank state
 pub blank-shows : view blankWords ≡ definition.blank

@@ -9,7 +9,6 @@ use lib.ListN.{length}
 use Rattle.base.specs.Tests.{if_then_else_}
 use Rattle.base.proofs.Tests.{not-false, not-true}
 use Rattle.record_reader.specs.Reader.{batchIn}
-use Rattle.state.specs.State.{State}
 use Rattle.state_array.specs.Stored.{stored}
 use Rattle.state_array.specs.View.{view}
 use Rattle.update.specs.Outcome.{outcome}
@@ -24,7 +23,7 @@ use Rattle.update_reports.specs.declared.Lists.{Lists}
 use Rattle.update_reports.specs.declared.Report as reports
 use Rattle.update_reports.specs.Outcomes.{changesIn}
 use Rattle.update_reports.specs.Slice.{ListsWritten}
-use Rattle.update_reports.specs.Reported.{Reported, UpdateReported}
+use Rattle.update_reports.specs.Reported.{UpdateReported}
 use Rattle.update_rows.specs.Rows.{firstNumber}
 use Rattle.update_rows.proofs.Given.{asked-update}
 use Rattle.update_rows.proofs.Numbers.{passRows, laterRows, later-early}

@@ -84,7 +84,7 @@ wayEnds s = leb (length (wayDown s)) (length (s .nodes))
 unfoldable pub soundShape : Forest → Bool
 soundShape s = soundLinks s && soundTrees s && ascending (s .nodes) && wayEnds s
 
--- the effective focus is present, and no graft: a way through the grafts ends at none
+-- the effective focus is present; it is no graft, for the way through the grafts goes on from a graft that is present
 unfoldable pub focusPresent : Forest → Bool
 focusPresent s = elim (effectiveFocus s) [ none ↦ false | some x ↦ present (s .nodes) x ]
 

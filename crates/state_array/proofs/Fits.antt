@@ -63,7 +63,7 @@ module _ (s : List ℕ) (i : ℕ) where
 
 -- ## A node of a record
 
-bytes-take : (n : ℕ) (s : List ℕ) → areBytes s ≡ true → areBytes (take n s) ≡ true
+pub bytes-take : (n : ℕ) (s : List ℕ) → areBytes s ≡ true → areBytes (take n s) ≡ true
 bytes-take zero s b = refl
 bytes-take (suc n) [] b = refl
 bytes-take (suc n) (x ∷ s) b = joined (both b .0) (bytes-take n s (both b .1))

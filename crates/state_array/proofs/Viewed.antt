@@ -1,5 +1,5 @@
 -- The state that an image stands for is the one that it is the image of. Assumes nothing.
-use mathlib.Core.Bool.{Bool, true, false, not}
+use mathlib.Core.Bool.{true, not}
 use mathlib.Core.List.{List, [], _∷_}
 use mathlib.Core.Option.{Option, none, some}
 use mathlib.Core.Path.{_≡_, refl, ap, _∙_}
@@ -11,7 +11,7 @@ use lib.ListN.{length, getD}
 use borrow.Author.Tests.{lt-ltb}
 use Rattle.base.specs.Tests.{if_then_else_, all}
 use Rattle.base.specs.Bytes.{listOf}
-use Rattle.base.proofs.Tests.{both}
+use Rattle.base.proofs.Tests.{both, bit-set}
 use Rattle.base.proofs.Columns.{list-of-each}
 use Rattle.ids.specs.declared.NodeId.{NodeId}
 use Rattle.record.proofs.Batch.{field-rules}
@@ -184,9 +184,5 @@ module _ (a : State) (fit : Fits a) where
           nodes = (ap (λ m. listOf m (nodeIn (stored a))) nodes ∙ list-of-each noState (a .forest .nodes) (nodeIn (stored a)) node-stored) z;
           trees = (ap (λ m. listOf m (entryIn (stored a))) trees ∙ list-of-each noTree (a .forest .trees) (entryIn (stored a)) entry-stored) z;
         };
-        hostFocused = (ap (λ w. not (eqb w 0)) (stored-host a) ∙ flag (a .hostFocused)) z;
+        hostFocused = (ap (λ w. not (eqb w 0)) (stored-host a) ∙ bit-set (a .hostFocused)) z;
       }
-    where
-      flag : (b : Bool) → not (eqb (if b then 1 else 0) 0) ≡ b
-      flag true = refl
-      flag false = refl

@@ -1,5 +1,5 @@
 -- Ids in ascending order: neighbours in order are all in order, an id stands in one slot, and bisection finds it. Assumes nothing.
-use mathlib.Core.Bool.{Bool, true, false, false≢true}
+use mathlib.Core.Bool.{Bool, true, false}
 use mathlib.Core.List.{List}
 use mathlib.Core.Logic.{_⊎_, inl, inr}
 use mathlib.Core.Path.{_≡_, refl, sym, ap, _∙_}
@@ -10,24 +10,20 @@ use native.Mathlib.Numerals.{add-one}
 use native.Mathlib.Omega.{arith}
 use borrow.Author.Tests.{ltb-true, lt-ltb}
 use Rattle.base.specs.Tests.{position}
-use Rattle.base.specs.Bytes.{listOf}
 use Rattle.base.specs.Search.{First}
-use Rattle.base.proofs.Tests.{both, joined, iff}
-use Rattle.base.proofs.Bytes.{all-below-at, all-list-of}
-use Rattle.base.proofs.Indexed.{all-below-each, all-list-of-at}
+use Rattle.base.proofs.Tests.{both, joined, iff, clash}
+use Rattle.base.proofs.Bytes.{all-below-at}
+use Rattle.base.proofs.Indexed.{all-below-each}
 use Rattle.base.proofs.Search.{first-position}
 use Rattle.ids.specs.Ids.{sameId, before}
 use Rattle.ids.proofs.Ids.{same-id→≡, before-apart, before-trans}
 use Rattle.ids.specs.declared.FullNodeId.{FullNodeId}
-use Rattle.state.specs.State.{NodeState, idsOf}
+use Rattle.state.specs.State.{idsOf}
 use Rattle.state.specs.Sound.{ascending}
+use Rattle.state.proofs.Order.{ascending-list-of, ascending-at}
 use Rattle.state_array.specs.View.{idIn, nodeIn, slotsOf, view}
 use Rattle.state_array.proofs.View.{view-ids}
 use Rattle.state_lookup.specs.Lookup.{ascend, inOrder, inSlot, SlotAmong, SlotOf}
-
--- a test does not both hold and fail
-clash : {b : Bool} → b ≡ false → b ≡ true → ⊥
-clash p q = false≢true (sym p ∙ q)
 
 module _ (id : ℕ → FullNodeId) (n : ℕ) (up : ascend n id ≡ true) where
   -- neighbours are in order
@@ -124,34 +120,13 @@ module _ (id : ℕ → FullNodeId) (n : ℕ) (x : FullNodeId) where
 
 -- ## The order of nodes
 
-module _ (node : ℕ → NodeState) where
-  -- the first stands before all that follow
-  after-all : (n : ℕ) → ((i : ℕ) → i < n → before (node i .id) (node (suc i) .id) ≡ true) → (i : ℕ) → i < n → before (node 0 .id) (node (suc i) .id) ≡ true
-  after-all n h zero l = h zero l
-  after-all n h (suc i) l = before-trans (node 0 .id) (node (suc i) .id) (node (suc (suc i)) .id) (after-all n h i (omega arith)) (h (suc i) l)
-
--- neighbours in order are all in order
-ascending-each : (n : ℕ) (node : ℕ → NodeState) → ((i : ℕ) → suc i < n → before (node i .id) (node (suc i) .id) ≡ true) → ascending (listOf n node) ≡ true
-unfolding ascending listOf
-ascending-each zero node h = refl
-ascending-each (suc n) node h =
-    joined (all-list-of (λ k. before (node 0 .id) (k .id)) n (λ i. node (suc i)) (λ i l. after-all node n (λ k b. h k (omega arith)) i l))
-    (ascending-each n (λ i. node (suc i)) (λ i l. h (suc i) (omega arith)))
-
--- nodes in order have neighbours in order
-ascending-at : (n : ℕ) (node : ℕ → NodeState) → ascending (listOf n node) ≡ true → (i : ℕ) → suc i < n → before (node i .id) (node (suc i) .id) ≡ true
-unfolding ascending listOf
-ascending-at zero node e i l = absurd (omega arith)
-ascending-at (suc n) node e zero l = all-list-of-at (λ k. before (node 0 .id) (k .id)) n (λ i. node (suc i)) (both e .0) zero (omega arith)
-ascending-at (suc n) node e (suc i) l = ascending-at n (λ i. node (suc i)) (both e .1) i (omega arith)
-
 -- the nodes of a state ascend if and only if its ids do
 pub ordered-is : (s : List ℕ) → ascending (view s .forest .nodes) ≡ inOrder s
 unfolding view nodeIn ascend
 ordered-is s =
     let n : ℕ = slotsOf s in
-    iff (λ e. all-below-each _ (n - 1) (λ i l. rw (add-one i) (ascending-at n (nodeIn s) e i (omega arith))))
-    (λ e. ascending-each n (nodeIn s) (λ i l. rw (← add-one i) (all-below-at (λ k. before (idIn s k) (idIn s (k + 1))) (n - 1) i e (omega arith))))
+    iff (λ e. all-below-each _ (n - 1) (λ i l. ascending-at n (nodeIn s) e i (omega arith)))
+    (λ e. ascending-list-of n (nodeIn s) (λ i l. all-below-at (λ k. before (idIn s k) (idIn s (k + 1))) (n - 1) i e (omega arith)))
 
 -- where the nodes ascend, a search by bisection answers the id's place
 pub slot-of-place : (s : List ℕ) (x : FullNodeId) (r : ℕ) → ascending (view s .forest .nodes) ≡ true

@@ -1,6 +1,6 @@
 -- What the parts of the decider say of the definition: each law ties a contract over the words to a part of `soundShape` or `sound`.
 -- Assumes nothing.
-use mathlib.Core.Bool.{Bool, true, false, false≢true}
+use mathlib.Core.Bool.{Bool, true, false}
 use mathlib.Core.List.{List, [], _∷_, append-nil}
 use mathlib.Core.Option.{Option, none, some}
 use mathlib.Core.Path.{_≡_, refl, sym, ap, ap₂, _∙_}
@@ -11,7 +11,7 @@ use lib.ListN.{length}
 use borrow.Author.Tests.{eq-eqb, ne-eqb, le-leb, leb-true}
 use Rattle.base.specs.Tests.{_&&_, if_then_else_, all, sameOption}
 use Rattle.base.specs.Search.{First}
-use Rattle.base.proofs.Tests.{both, joined, iff, and-right}
+use Rattle.base.proofs.Tests.{both, joined, iff, and-right, clash}
 use Rattle.base.proofs.Bytes.{length-list-of}
 use Rattle.ids.specs.declared.FullNodeId.{FullNodeId}
 use Rattle.record.specs.Batch.{fieldsOk}
@@ -31,10 +31,6 @@ use Rattle.state_sound.specs.Parts.{soundGrafts, startIn, countedBelow, 
 use Rattle.state_sound.proofs.Pigeons.{links-counted}
 use Rattle.state_sound.proofs.Trees.{root-is}
 use Rattle.state_sound.proofs.Walks.{counted-refused, counted-on, recorded-absent, recorded-there, below-there}
-
--- a test cannot hold and fail
-pub clash : {b : Bool} → b ≡ false → b ≡ true → ⊥
-clash p q = false≢true (sym p ∙ q)
 
 -- a test that cannot hold fails
 refuted : {b : Bool} → (b ≡ true → ⊥) → b ≡ false

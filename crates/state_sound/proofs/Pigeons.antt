@@ -10,7 +10,7 @@ use lib.Dec.{eqb, leb, eqb·zero-suc, eqb·suc-zero, eqb·suc-suc}
 use lib.ListN.{length}
 use borrow.Author.Tests.{eqb-true, eq-eqb, le-leb, leb-true}
 use Rattle.base.specs.Tests.{_&&_, if_then_else_, isSome, all, count, sameOption}
-use Rattle.base.proofs.Tests.{both, joined, and-false, iff}
+use Rattle.base.proofs.Tests.{both, joined, and-false, iff, and-assoc}
 use Rattle.ids.specs.Ids.{sameId, before}
 use Rattle.ids.proofs.Ids.{same-id→≡, same-id-refl, before-apart}
 use Rattle.ids.specs.declared.FullNodeId.{FullNodeId}
@@ -20,11 +20,6 @@ use Rattle.state.specs.Sound.{metOnce, recorded, ascending, wayEnds}
 use Rattle.state.proofs.Down.{way-down-from}
 use Rattle.state_sound.specs.Counted.{counted}
 use Rattle.state_sound.proofs.Once.{meets, once}
-
-and-assoc : (a b c : Bool) → (a && b) && c ≡ a && (b && c)
-unfolding _&&_
-and-assoc true b c = refl
-and-assoc false b c = refl
 
 -- how many of the nodes have the id that is met
 hits : Met → List NodeState → ℕ

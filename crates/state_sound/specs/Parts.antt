@@ -1,12 +1,12 @@
 -- What the parts of the decider answer, over the words of a state. Assumes nothing.
 use mathlib.Core.Bool.{Bool, true, not, _||_}
 use mathlib.Core.List.{List, [], _∷_}
-use mathlib.Core.Option.{Option, none, some}
+use mathlib.Core.Option.{none}
 use mathlib.Core.Path.{_≡_}
 use Prim.Native.Nat.{ℕ, _+_, _-_, _%_, _<_}
 use lib.Dec.{eqb, ltb}
 use lib.ListN.{drop, getD}
-use Rattle.base.specs.Tests.{_&&_, if_then_else_, any, all}
+use Rattle.base.specs.Tests.{_&&_, any, all}
 use Rattle.base.specs.Bytes.{bit, allBelow, listOf}
 use Rattle.base.specs.Search.{First}
 use Rattle.ids.specs.Ids.{sameTree, sameId}

@@ -19,13 +19,13 @@ use Rattle.state.specs.Sound.{metOnce, recorded, graftIsBare, soundLinks, graft
 use Rattle.update.specs.Words.{listing, known, number, here, mine, old, listed, turn, naming, named, withTreeData, rootAfter, isRoot, claim, claimer, claimedFrom, letsGo}
 use Rattle.update.specs.Pass.{placedAtTurn, namings, events, fault, pass}
 use Rattle.update.specs.Gone.{goesIf, fares, replaced, fateHere, fateElsewhere, fate, goneWithin, gone}
-use Rattle.update.specs.Outcome.{renewed, write, writeAll, underGraft, written, paneRoot, linkIsCut, linkHere, linkElsewhere, linkAfter, relink, subtreeHere, subtreeElsewhere, entryAfter, entriesAfter, newEntry, outcome}
+use Rattle.update.specs.Outcome.{renewed, write, writeAll, underGraft, written, paneRoot, cutLasts, linkIsCut, linkHere, linkElsewhere, linkAfter, relink, subtreeHere, subtreeElsewhere, entryAfter, entriesAfter, newEntry, outcome}
 use Rattle.update.specs.Reports.{noChanges, added, removed, isUpdated, updated, isRelinked, relinked, changesWith, changesOf, lengthsOf, words, changeWords, lent, unlessIn, focusMoved, extraBefore, extraAfter}
 use Rattle.update.specs.Numbers.{absent, placeless, nowhere, updatedAndRemoved, rowsBeforePass, rowsAfterPass, batchNumber}
 use Rattle.update.specs.Calls.{Answer, refused, accepted, judged, updateNumber, updateBatch, update, blank, seed, withoutTreeData, startNumber, started, startBatch, start, withHostFocus, hostFocus}
 use Rattle.update.specs.ExampleCalls.{Case}
 use Rattle.update.specs.Cases.{startAccepted, childTwice, childDropped, focusDropped, childNowhere, nodeAlone, changedThenDropped, droppedThenChanged, graftWithChild, graftMade, paneStarted, paneWithoutTreeData, graftTwice, focusOnEmptyGraft, graftMoved, childOfItself, cases, caseNumbers}
-use Rattle.update.specs.Traps.{newRootUnderOldParent, newRootOfPane, newRootDropped, unchangedThenDropped, droppedThenUnchanged, graftGoesAndClaimed, graftKeptAndClaimed, rootGraftNeverPlaced, graftWithChildTwice, secondGraftPlacedFirst, rootGraftPlacedFirst, childNowhereAndGraftHeld, graftHeld, graftReleasedByGone, graftLetGo, graftUnchanged, nestedTreeMoved, newRootBelow, rootsInCircle, childrenSwapped, namedByTwo, paneRootKeepsLink, paneRootMarked, signOfZero, focusMovesOn, activeDescendantIsGraft, hostLeaves, treeWithoutGraft, listedTwice, sliceTooShort, stateUnsound, recordBroken, startBroken, startWithoutTreeData, startOfPane, traps}
+use Rattle.update.specs.Traps.{newRootUnderOldParent, newRootOfPane, newRootDropped, unchangedThenDropped, droppedThenUnchanged, graftGoesAndClaimed, graftKeptAndClaimed, rootGraftNeverPlaced, graftWithChildTwice, secondGraftPlacedFirst, rootGraftPlacedFirst, childNowhereAndGraftHeld, graftHeld, graftReleasedByGone, graftLetGo, graftUnchanged, nestedTreeMoved, newRootBelow, newRootNamedThenListed, newRootListedThenNamed, rootsInCircle, childrenSwapped, namedByTwo, paneRootKeepsLink, paneRootMarked, signOfZero, focusMovesOn, activeDescendantIsGraft, hostLeaves, treeWithoutGraft, listedTwice, sliceTooShort, stateUnsound, recordBroken, startBroken, startWithoutTreeData, startOfPane, traps}
 
 abbrev pub Right : Case → Type 0
 Right c = c .got ≡ c .says
@@ -36,7 +36,7 @@ AllRight (c ∷ cs) = Right c × AllRight cs
 
 -- `unfolding computed` unfolds every definition
 computed : Unit {0}
-unfolding ofBits toBits eq _&&_ first littleEndian le bytesOf allBelow zeros listOf sumOf zeroBytes sameValue sameTree sameIndex sameNode sameId before rectTest affineTest sameRect sameAffine activeDescendant? graft? bounds? transform? fieldsOk sameData listedIds namedIds headerOk childrenBefore labelsBefore recordOk wellFormed parse recordBytes recordsBytes entryBytes labels headerBytes encode sameLink find present graftAt linkAt parentAt holder subtreeState subtreeFrom subtreeOf metUnder childrenMet below belowId down rootOf wayDown climb throughGrafts effectiveFocus orActiveDescendant stateFocus metOnce recorded graftIsBare soundLinks graftsDiffer grafted allGrafted rootFirst oneIdEach soundTrees ascending wayEnds soundShape focusPresent sound listing known number here mine old listed turn naming named withTreeData rootAfter isRoot claim claimer claimedFrom letsGo placedAtTurn namings events fault pass goesIf fares replaced fateHere fateElsewhere fate goneWithin gone renewed write writeAll underGraft written paneRoot linkIsCut linkHere linkElsewhere linkAfter relink subtreeHere subtreeElsewhere entryAfter entriesAfter newEntry outcome noChanges idsOf added removed isUpdated updated isRelinked relinked changesWith changesOf lengthsOf words changeWords lent unlessIn focusMoved extraBefore extraAfter absent placeless nowhere updatedAndRemoved rowsBeforePass rowsAfterPass batchNumber refused accepted judged updateNumber updateBatch update blank seed withoutTreeData startNumber started startBatch start withHostFocus hostFocus
+unfolding ofBits toBits eq _&&_ first littleEndian le bytesOf allBelow zeros listOf sumOf zeroBytes sameValue sameTree sameIndex sameNode sameId before rectTest affineTest sameRect sameAffine activeDescendant? graft? bounds? transform? fieldsOk sameData listedIds namedIds headerOk childrenBefore labelsBefore recordOk wellFormed parse recordBytes recordsBytes entryBytes labels headerBytes encode sameLink find present graftAt linkAt parentAt holder subtreeState subtreeFrom subtreeOf metUnder childrenMet below belowId down rootOf wayDown climb throughGrafts effectiveFocus orActiveDescendant stateFocus metOnce recorded graftIsBare soundLinks graftsDiffer grafted allGrafted rootFirst oneIdEach soundTrees ascending wayEnds soundShape focusPresent sound listing known number here mine old listed turn naming named withTreeData rootAfter isRoot claim claimer claimedFrom letsGo placedAtTurn namings events fault pass goesIf fares replaced fateHere fateElsewhere fate goneWithin gone renewed write writeAll underGraft written paneRoot cutLasts linkIsCut linkHere linkElsewhere linkAfter relink subtreeHere subtreeElsewhere entryAfter entriesAfter newEntry outcome noChanges idsOf added removed isUpdated updated isRelinked relinked changesWith changesOf lengthsOf words changeWords lent unlessIn focusMoved extraBefore extraAfter absent placeless nowhere updatedAndRemoved rowsBeforePass rowsAfterPass batchNumber refused accepted judged updateNumber updateBatch update blank seed withoutTreeData startNumber started startBatch start withHostFocus hostFocus
 computed = tt
 
 start-accepted : Right startAccepted
@@ -175,6 +175,14 @@ new-root-below : Right newRootBelow
 unfolding computed newRootBelow
 new-root-below = refl
 
+new-root-named-then-listed : Right newRootNamedThenListed
+unfolding computed newRootNamedThenListed
+new-root-named-then-listed = refl
+
+new-root-listed-then-named : Right newRootListedThenNamed
+unfolding computed newRootListedThenNamed
+new-root-listed-then-named = refl
+
 roots-in-circle : Right rootsInCircle
 unfolding computed rootsInCircle
 roots-in-circle = refl
@@ -246,7 +254,7 @@ start-of-pane = refl
 -- cases 1 to 14, and the traps
 pub the-cases : AllRight (cases ++ traps)
 the-cases =
-    (start-accepted, (child-twice, (child-dropped, (focus-dropped, (child-nowhere, (node-alone, (changed-then-dropped, (dropped-then-changed, (graft-with-child, (graft-made, (pane-started, (pane-without-tree-data, (graft-twice, (focus-on-empty-graft, (graft-moved, (child-of-itself, (new-root-under-old-parent, (new-root-of-pane, (new-root-dropped, (unchanged-then-dropped, (dropped-then-unchanged, (graft-goes-and-claimed, (graft-kept-and-claimed, (root-graft-never-placed, (graft-with-child-twice, (second-graft-placed-first, (root-graft-placed-first, (child-nowhere-and-graft-held, (graft-held, (graft-released-by-gone, (graft-let-go, (graft-unchanged, (nested-tree-moved, (new-root-below, (roots-in-circle, (children-swapped, (named-by-two, (pane-root-keeps-link, (pane-root-marked, (sign-of-zero, (focus-moves-on, (active-descendant-is-graft, (host-leaves, (tree-without-graft, (listed-twice, (slice-too-short, (state-unsound, (record-broken, (start-broken, (start-without-tree-data, (start-of-pane, tt)))))))))))))))))))))))))))))))))))))))))))))))))))
+    (start-accepted, (child-twice, (child-dropped, (focus-dropped, (child-nowhere, (node-alone, (changed-then-dropped, (dropped-then-changed, (graft-with-child, (graft-made, (pane-started, (pane-without-tree-data, (graft-twice, (focus-on-empty-graft, (graft-moved, (child-of-itself, (new-root-under-old-parent, (new-root-of-pane, (new-root-dropped, (unchanged-then-dropped, (dropped-then-unchanged, (graft-goes-and-claimed, (graft-kept-and-claimed, (root-graft-never-placed, (graft-with-child-twice, (second-graft-placed-first, (root-graft-placed-first, (child-nowhere-and-graft-held, (graft-held, (graft-released-by-gone, (graft-let-go, (graft-unchanged, (nested-tree-moved, (new-root-below, (new-root-named-then-listed, (new-root-listed-then-named, (roots-in-circle, (children-swapped, (named-by-two, (pane-root-keeps-link, (pane-root-marked, (sign-of-zero, (focus-moves-on, (active-descendant-is-graft, (host-leaves, (tree-without-graft, (listed-twice, (slice-too-short, (state-unsound, (record-broken, (start-broken, (start-without-tree-data, (start-of-pane, tt)))))))))))))))))))))))))))))))))))))))))))))))))))))
 
 -- the numbers of cases 1 to 14, as they are said
 says-numbers : (cs : List Case) → AllRight cs → map (λ c. c .got .number) cs ≡ map (λ c. c .says .number) cs

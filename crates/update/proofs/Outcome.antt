@@ -1,9 +1,9 @@
 -- Laws of the outcome: which nodes it holds, what is found there, and that their data is old data or listed data. Assumes nothing.
-use mathlib.Core.Bool.{Bool, true, false, not, _||_, false≢true}
+use mathlib.Core.Bool.{Bool, true, false, not, _||_}
 use mathlib.Core.List.{List, [], _∷_, map}
 use mathlib.Core.Option.{Option, none, some}
 use mathlib.Core.Path.{_≡_, refl, sym, ap, _∙_}
-use Prim.Native.Nat.{ℕ, zero, suc, _+_, _≤_}
+use Prim.Native.Nat.{_+_, _≤_}
 use native.Mathlib.Omega.{arith}
 use lib.ListN.{length, length-map}
 use Rattle.base.specs.Tests.{_&&_, if_then_else_, isSome, any, all, keep, has, distinct}
@@ -19,7 +19,7 @@ use Rattle.state.specs.Sound.{ascending}
 use Rattle.state.proofs.State.{present-has, present-keep}
 use Rattle.state.proofs.Order.{find-keep, ascending-keep, find-map, ascending-map}
 use Rattle.update.specs.Words.{listing, number, mine, listed}
-use Rattle.update.specs.Gone.{replaced, fares, fate, goneWithin, gone}
+use Rattle.update.specs.Gone.{gone}
 use Rattle.update.specs.Outcome.{renewed, write, writeAll, written, linkAfter, relink, outcome}
 use Rattle.update.proofs.Write.{merged, listing-some, ascending-write-all, length-write-all, find-write-all}
 

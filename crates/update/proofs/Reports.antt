@@ -199,7 +199,7 @@ module _ (s : Forest) (b : Batch) where
 
 -- ## The lists are sorted, so a length is the number of ids in its set
 
-sorted-ids : (ns : List NodeState) → ascending ns ≡ true → sorted (idsOf ns) ≡ true
+pub sorted-ids : (ns : List NodeState) → ascending ns ≡ true → sorted (idsOf ns) ≡ true
 unfolding sorted ascending idsOf
 sorted-ids [] e = refl
 sorted-ids (n ∷ ns) e = joined (all-ids (before (n .id)) ns ∙ both e .0) (sorted-ids ns (both e .1))
@@ -208,7 +208,7 @@ sorted-ids (n ∷ ns) e = joined (all-ids (before (n .id)) ns ∙ both e .0) (so
     all-ids p [] = refl
     all-ids p (m ∷ ms) = ap {B = Bool} (λ c. p (m .id) && c) (all-ids p ms)
 
-sorted-keep : (q : FullNodeId → Bool) (xs : List FullNodeId) → sorted xs ≡ true → sorted (keep q xs) ≡ true
+pub sorted-keep : (q : FullNodeId → Bool) (xs : List FullNodeId) → sorted xs ≡ true → sorted (keep q xs) ≡ true
 unfolding sorted
 sorted-keep q [] e = refl
 sorted-keep q (x ∷ xs) e = go (q x) (sorted-keep q xs (both e .1))

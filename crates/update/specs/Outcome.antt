@@ -48,17 +48,18 @@ module _ (s : Forest) (b : Batch) where
   unfoldable pub paneRoot : FullNodeId → Bool
   paneRoot x = isRoot s b x && withTreeData s b && not (sameTree (b .tree) ROOT)
 
-  -- ROOT's root, if it is listed: the crate cuts its link at its turn. A node that names it later gives it a link again,
-  -- and so does any node that names a root that was not there before; neither is accepted (18, 19).
+  -- a link cut at x's turn stays cut: no node names x, or x is old and is named no later than its turn
+  unfoldable pub cutLasts : FullNodeId → Bool
+  cutLasts x = elim (naming s b x) [ none ↦ true | some l ↦ old s b x && leb (turn s b (l .parent)) (turn s b x) ]
+
+  -- ROOT's root, if it is listed: the crate cuts its link at its turn. Where the cut does not last, the root has the link under which
+  -- it is named, and is not accepted (18, 19).
   unfoldable pub linkIsCut : FullNodeId → Bool
-  linkIsCut x =
-      isRoot s b x
-      && sameTree (b .tree) ROOT
-      && listed s b x
-      && elim (naming s b x) [ none ↦ true | some l ↦ old s b x && leb (turn s b (l .parent)) (turn s b x) ]
+  linkIsCut x = isRoot s b x && sameTree (b .tree) ROOT && listed s b x && cutLasts x
 
   -- A node of the batch's tree that recorded `was`: the root that tree data gives a pane stands under the graft holder, a cut root under none,
-  -- any other node where it is named or else where it stood. (So a pane's root that is listed without tree data keeps its link: added.)
+  -- any other node where it is named or else where it stood. So a pane's root that is listed without tree data keeps its link (added).
+  -- Any other root that is named has a link to the node that names it. It never shows: the root is met twice, or that node goes (19 at the latest).
   unfoldable pub linkHere : FullNodeId → Option ParentAndIndex → Option ParentAndIndex
   linkHere x was =
       if paneRoot x then elim (holder (s .nodes) (b .tree)) [ none ↦ none | some g ↦ underGraft g ]

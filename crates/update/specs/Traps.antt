@@ -33,6 +33,13 @@ threeInT =
     ∷ [])
     (main ∷ tree T 1 1 ∷ [])
 
+-- ROOT's tree 1 → 2 → 3, focus 3
+abbrev pub chain : State
+chain =
+    state
+    (root 0 1 (parent (2 ∷ [])) ∷ under (id 0 1) 0 (id 0 2) (parent (3 ∷ [])) ∷ under (id 0 2) 0 (id 0 3) leaf ∷ [])
+    (tree ROOT 1 3 ∷ [])
+
 -- 2 → [4], and 4 grafts T, which does not exist yet
 abbrev pub fourGrafts : State
 fourGrafts =
@@ -183,6 +190,23 @@ newRootBelow = then threeInT (batchFor T (some 3) 3 (lists 2 (parent (3 ∷ []))
     none
     (1 ∷ 3 ∷ 1 ∷ 1 ∷ 1 ∷ 2 ∷ 1 ∷ 3 ∷ [])
 
+-- The same in ROOT, with 3 listed too. Named by 2 and then listed, 3 loses its link at its turn: 1 and 2 go, and 3 has no parent.
+-- Listed and then named by 2, it has a link to 2, which goes: 19.
+unfoldable pub newRootNamedThenListed : Case
+newRootNamedThenListed = then chain (batchFor ROOT (some 3) 3 (lists 2 (parent (3 ∷ [])) ∷ lists 3 leaf ∷ [])) gives
+    accepts
+    (state (root 0 3 leaf ∷ []) (tree ROOT 3 3 ∷ []))
+    (changes [] [] (id 0 1 ∷ id 0 2 ∷ []) (id 0 3 ∷ []))
+    (id 0 3)
+    (id 0 3)
+    none
+    none
+    (0 ∷ 1 ∷ 0 ∷ 2 ∷ 0 ∷ 3 ∷ [])
+
+unfoldable pub newRootListedThenNamed : Case
+newRootListedThenNamed = then chain (batchFor ROOT (some 3) 3 (lists 3 leaf ∷ lists 2 (parent (3 ∷ [])) ∷ [])) gives
+    refuses 19 chain
+
 -- T does not exist, and its root 1 and its node 2 name each other: 19
 unfoldable pub rootsInCircle : Case
 rootsInCircle = then grafted (batchFor T (some 1) 1 (lists 1 (parent (2 ∷ [])) ∷ lists 2 (parent (1 ∷ [])) ∷ [])) gives
@@ -317,6 +341,8 @@ traps =
     ∷ graftUnchanged
     ∷ nestedTreeMoved
     ∷ newRootBelow
+    ∷ newRootNamedThenListed
+    ∷ newRootListedThenNamed
     ∷ rootsInCircle
     ∷ childrenSwapped
     ∷ namedByTwo

@@ -1,6 +1,6 @@
 -- What applying a batch answers and writes: the outcome shows itself, and the number is that of rows 9 to 20. Assumes nothing.
 use mathlib.Core.List.{List}
-use mathlib.Core.Path.{_≡_, refl, sym, ap, _∙_}
+use mathlib.Core.Path.{_≡_, sym, ap, _∙_}
 use Prim.Native.Nat.{ℕ, _<_}
 use lib.ListN.{getD}
 use Rattle.state.specs.State.{State}

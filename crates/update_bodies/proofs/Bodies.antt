@@ -23,10 +23,10 @@ use Rattle.state_array.specs.Layout.{word, LABEL, FLOATS}
 use Rattle.state_array.specs.View.{labelByte, labelIn, boundsIn, transformIn, bodyIn}
 use Rattle.state_array.specs.Stored.{labelWord, floatsOf, bodyOf, DataFits}
 use Rattle.state_array.specs.declared.Body.{Body}
-use Rattle.state_array.proofs.Labels.{areBytes, le-below}
+use Rattle.state_array.proofs.Labels.{areBytes, le-below, bytes-drop}
+use Rattle.state_array.proofs.Fits.{bytes-take}
 use Rattle.update_bodies.specs.Bodies.{Bodied, patternsIn}
 use Rattle.update_bodies.proofs.Floats.{patterns-fit, patterns-back, floats-finite}
-use Rattle.update_bodies.proofs.Labels.{bytes-drop, bytes-take}
 
 module _ (bytes : List ℕ) (byte : areBytes bytes ≡ true) (formed : wellFormed bytes ≡ true) (i : ℕ) (h : i < length (batchIn bytes .nodes)) where
   within : i < nodeCount bytes

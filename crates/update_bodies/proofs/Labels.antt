@@ -2,10 +2,10 @@
 use mathlib.Core.Bool.{true}
 use mathlib.Core.List.{List, [], _∷_}
 use mathlib.Core.Path.{_≡_, refl, sym, ap, _∙_}
-use Prim.Native.Nat.{ℕ, zero, suc, _+_, _*_, _/_, _%_, _^_, _≤_, _<_}
+use Prim.Native.Nat.{ℕ, suc, _+_, _*_, _/_, _%_, _^_, _≤_, _<_}
 use native.Mathlib.Omega.{arith}
 use lib.Dec.{eqb}
-use lib.ListN.{length, getD, take, drop}
+use lib.ListN.{length, getD}
 use lib.Seq.{ext-getD}
 use borrow.Author.Tests.{eq-eqb, eqb-true, lt-ltb}
 use Rattle.base.specs.Tests.{_&&_, sameList}
@@ -23,17 +23,6 @@ use Rattle.update_bodies.specs.Bodies.{sameRun}
 pub bytes-all : (l : List ℕ) → ((k : ℕ) → getD l k 0 < 256) → areBytes l ≡ true
 bytes-all [] h = refl
 bytes-all (x ∷ l) h = joined (lt-ltb x 256 (h 0)) (bytes-all l (λ k. h (suc k)))
-
--- a part of them
-pub bytes-drop : (k : ℕ) (l : List ℕ) → areBytes l ≡ true → areBytes (drop k l) ≡ true
-bytes-drop zero l h = h
-bytes-drop (suc k) [] h = refl
-bytes-drop (suc k) (x ∷ l) h = bytes-drop k l (both h .1)
-
-pub bytes-take : (k : ℕ) (l : List ℕ) → areBytes l ≡ true → areBytes (take k l) ≡ true
-bytes-take zero l h = refl
-bytes-take (suc k) [] h = refl
-bytes-take (suc k) (x ∷ l) h = joined (both h .0) (bytes-take k l (both h .1))
 
 -- ## Labels
 

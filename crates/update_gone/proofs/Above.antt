@@ -4,7 +4,6 @@ use mathlib.Core.List.{List}
 use mathlib.Core.Option.{Option, none, some}
 use mathlib.Core.Path.{_≡_, sym, ap, _∙_}
 use Prim.Native.Nat.{ℕ, _<_}
-use native.Mathlib.Omega.{arith}
 use lib.ListN.{length}
 use borrow.Author.Tests.{eq-eqb, ne-eqb, lt-ltb, ltb-true}
 use Rattle.base.proofs.Tests.{joined}
@@ -20,7 +19,7 @@ use Rattle.update_notes.specs.declared.Scope.{Scope}
 use Rattle.update_notes.specs.Setting.{forest}
 use Rattle.update_notes.specs.Codes.{nodeAt, idAt, slotAt}
 use Rattle.update_notes.specs.Says.{slotAbove, aboveWord}
-use Rattle.update_notes.proofs.Places.{slot-present, slot-id, find-at, forest-length, forest-link}
+use Rattle.update_notes.proofs.Places.{slot-present, slot-id, find-at, forest-link}
 
 -- ## The nodes of a forest
 

@@ -13,7 +13,7 @@ use Rattle.update.specs.Gone.{Fate, stays, goes, asParent, goesIf, replaced, fa
 use Rattle.update.proofs.Gone.{within-parent, gone-top}
 use Rattle.update_notes.specs.declared.Scope.{Scope}
 use Rattle.update_notes.specs.Setting.{asked, forest, Kept}
-use Rattle.update_notes.specs.Codes.{nodeAt, idAt, flag}
+use Rattle.update_notes.specs.Codes.{idAt, flag}
 use Rattle.update_notes.specs.Says.{slotAbove, aboveWord, goesWord}
 use Rattle.update_notes.proofs.Places.{present-at, forest-length}
 use Rattle.update_gone.specs.Fates.{fateCode, fateBy, fateMark, fateWord}

@@ -1,11 +1,11 @@
 -- Laws of the memo: fates stand where it is to be told whether nodes go, and one after another they give way to that. Assumes nothing.
 use mathlib.Core.List.{List}
-use mathlib.Core.Logic.{_⊎_, inl, inr}
-use mathlib.Core.Path.{_≡_, refl, sym, ap, _∙_}
+use mathlib.Core.Logic.{inl, inr}
+use mathlib.Core.Path.{_≡_, sym, _∙_}
 use Prim.Native.Nat.{ℕ, _+_, _-_, _≤_, _<_}
 use native.Mathlib.Decide.{ℕ-discrete}
 use native.Mathlib.Omega.{arith}
-use lib.ListN.{length, getD, set}
+use lib.ListN.{getD, set}
 use lib.Seq.{getD-set-same, getD-set-other}
 use Rattle.state_array.specs.View.{slotsOf}
 use Rattle.update_notes.specs.Layout.{ABOVE, GOES}
@@ -17,7 +17,7 @@ use Rattle.update_notes.specs.Says.{goesWord, Told, GONE}
 use Rattle.update_notes.proofs.Told.{told-set, told-more}
 use Rattle.update.specs.Gone.{gone}
 use Rattle.update_gone.specs.Fates.{fateWord, ABOVE-TOLD, Cell, Fated}
-use Rattle.update_gone.proofs.Climb.{Climbing, climb-same, climb-step, fate-settled, flag-not-two}
+use Rattle.update_gone.proofs.Climb.{Climbing, climb-step, fate-settled, flag-not-two}
 
 module _ (state bytes : List ℕ) (c : Scope) where
   -- no slot's word is 2

@@ -1,7 +1,6 @@
 -- What the notes say of the node in a slot, and of its parent. Assumes nothing.
 use mathlib.Core.Bool.{Bool}
 use mathlib.Core.List.{List}
-use mathlib.Core.Option.{some}
 use mathlib.Core.Path.{_≡_, sym, ap, _∙_}
 use Prim.Native.Nat.{ℕ, _+_, _<_}
 use native.Mathlib.Omega.{arith}
@@ -12,7 +11,7 @@ use Rattle.base.proofs.Tests.{is-some-if}
 use Rattle.ids.specs.Ids.{sameTree}
 use Rattle.record.specs.Batch.{graft?}
 use Rattle.record_reader.specs.Reader.{batchIn, listedAt}
-use Rattle.state.specs.State.{linkAt, graftAt}
+use Rattle.state.specs.State.{graftAt}
 use Rattle.state_array.specs.View.{idIn, linkIn, linkOf, slotsOf}
 use Rattle.update.specs.Words.{here, claim, claimedFrom}
 use Rattle.update_notes.specs.Layout.{TURNS, NAMINGS, CLAIMS, ABOVE}
@@ -20,7 +19,7 @@ use Rattle.update_notes.specs.Columns.{Holds}
 use Rattle.update_notes.specs.declared.Scope.{Scope}
 use Rattle.update_notes.specs.Setting.{asked, forest}
 use Rattle.update_notes.specs.Codes.{idAt, slotAt, flag}
-use Rattle.update_notes.specs.Says.{turnMark, namingMark, graftBelow, ClaimedFromIs, slotAbove, turnWord, namingWord, claimWord, aboveWord, Told}
+use Rattle.update_notes.specs.Says.{turnMark, namingMark, graftBelow, ClaimedFromIs, slotAbove, turnWord, namingWord, claimWord, Told}
 use Rattle.update_notes.proofs.Places.{slot-self, forest-length, forest-id, forest-link}
 use Rattle.update_notes.proofs.Grafts.{graft-slot, claimed-from-is}
 use Rattle.update_notes.proofs.Setting.{batched-at}

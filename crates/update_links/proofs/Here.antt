@@ -23,7 +23,7 @@ use Rattle.state.specs.State.{ParentAndIndex, NodeState, Forest, holder}
 use Rattle.state_array.specs.Stored.{noState}
 use Rattle.state_array.specs.View.{idIn, graftIn, bodyIn, nodeIn, slotsOf}
 use Rattle.update.specs.Words.{here, mine, old, listed, turn, naming, isRoot}
-use Rattle.update.specs.Outcome.{underGraft, paneRoot, linkIsCut, linkHere, linkElsewhere, linkAfter}
+use Rattle.update.specs.Outcome.{underGraft, paneRoot, cutLasts, linkIsCut, linkHere, linkElsewhere, linkAfter}
 use Rattle.update_notes.specs.Layout.{LISTED, NAMED}
 use Rattle.update_notes.specs.declared.Scope.{Scope}
 use Rattle.update_notes.specs.Setting.{rootIn, Scoped, asked, forest}
@@ -85,12 +85,13 @@ module _ {s : Forest} {b : Batch} {c : Scope} (scoped : Scoped s b c) (x : FullN
       pub link-here-unnamed : (old s b x ≡ false → o ≡ none) → namingMark s b x ≡ 0 → {t : Bool}
           → bool._&&_ (bool._&&_ root (c .«is_root_tree»)) (ltb 0 mark) ≡ t
           → (if t then none else o) ≡ linkHere s b x o
-      unfolding linkHere linkIsCut cutMark turnMark
+      unfolding linkHere cutLasts linkIsCut cutMark turnMark
       link-here-unnamed new f is =
           rw (
             ← is,
             ← pane-is,
             e,
+            cutLasts,
             naming-none s b x f,
             q,
             is-root,
@@ -103,12 +104,13 @@ module _ {s : Forest} {b : Batch} {c : Scope} (scoped : Scoped s b c) (x : FullN
           → naming s b x ≡ some (namedLink s b r j) → {t : Bool}
           → bool._&&_ (bool._&&_ root (c .«is_root_tree»)) (ltb r mark) ≡ t
           → (if t then none else some (namedLink s b r j)) ≡ linkHere s b x o
-      unfolding linkHere linkIsCut cutMark turnMark namedLink
+      unfolding linkHere cutLasts linkIsCut cutMark turnMark namedLink
       link-here-named once r j h f is =
           rw (
             ← is,
             ← pane-is,
             e,
+            cutLasts,
             f,
             turn-self s b once r h,
             q,

@@ -1,13 +1,13 @@
 -- Laws of columns: one more is written, and those that are written stay. Each is stated once for every phase. Assumes nothing.
 use mathlib.Core.List.{List, [], _∷_}
 use mathlib.Core.Logic.{_⊎_, inl, inr}
-use mathlib.Core.Path.{_≡_, refl, sym, ap, _∙_}
+use mathlib.Core.Path.{_≡_, refl, _∙_}
 use Prim.Native.Nat.{ℕ, zero, suc, _+_, _≤_, _<_}
 use native.Mathlib.Nat.{eq-or-lt-of-le, le-of-suc-le-suc}
 use native.Mathlib.Numerals.{add-one}
 use native.Mathlib.Omega.{arith}
-use lib.ListN.{length, getD, set, length-set}
-use lib.Seq.{getD-set-same, getD-set-other}
+use lib.ListN.{length, set, length-set}
+use lib.Seq.{getD-set-other}
 use Rattle.base.specs.Regions.{fill, Part, startOf, partOf}
 use Rattle.update_notes.specs.Columns.{Holds, Column, Fit, Below}
 use Rattle.base.proofs.Regions.{fill-length, fill-kept, fill-put}

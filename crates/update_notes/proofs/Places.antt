@@ -13,6 +13,7 @@ use Rattle.base.specs.Tests.{if_then_else_, isSome, all, position}
 use Rattle.base.specs.Search.{First}
 use Rattle.base.proofs.Tests.{both, is-some-if}
 use Rattle.base.proofs.Bytes.{length-list-of, list-of-at}
+use Rattle.base.proofs.Search.{ltb-suc}
 use Rattle.ids.specs.Ids.{sameId, before}
 use Rattle.ids.proofs.Ids.{same-id→≡, same-id-refl, before-apart}
 use Rattle.ids.specs.declared.FullNodeId.{FullNodeId}
@@ -24,7 +25,7 @@ use Rattle.update.specs.Words.{old}
 use Rattle.update_notes.specs.Setting.{forest}
 use Rattle.state_array.specs.Stored.{noState}
 use Rattle.update_notes.specs.Codes.{nodeAt, idAt, slotAt}
-use Rattle.update_notes.proofs.Positions.{ltb-suc, first-unique, first-cong, position-first}
+use Rattle.update_notes.proofs.Positions.{first-unique, first-cong, position-first}
 
 -- ## Lists of nodes
 

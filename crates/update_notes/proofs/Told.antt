@@ -1,10 +1,9 @@
 -- Laws of what a phase is told: the batch that it is asked, and the columns of the notes. Assumes nothing.
 use mathlib.Core.List.{List}
 use mathlib.Core.Path.{_≡_, refl, ap, _∙_}
-use Prim.Native.Nat.{ℕ, zero, suc, _+_, _≤_, _<_, min}
+use Prim.Native.Nat.{ℕ, zero, suc, _+_, _≤_, _<_}
 use native.Mathlib.Omega.{arith}
-use lib.ListN.{length, set}
-use Rattle.state_array.specs.View.{slotsOf}
+use lib.ListN.{set}
 use Rattle.base.specs.Regions.{fill, startOf, partOf}
 use Rattle.update_notes.specs.Columns.{Column, Fit, Below}
 use Rattle.base.proofs.Regions.{fill-cong}

@@ -1,5 +1,4 @@
 -- What the notes of an update say of a forest s and a batch b: the table of their columns, and which of them are written. Assumes nothing.
-use mathlib.Core.Bool.{Bool}
 use mathlib.Core.List.{List, [], _∷_}
 use mathlib.Core.Option.{Option, none, some}
 use mathlib.Core.Path.{_≡_}
@@ -8,7 +7,7 @@ use lib.Dec.{eqb, ltb}
 use lib.ListN.{length, getD, take}
 use Rattle.base.specs.Tests.{_&&_, if_then_else_, isSome, sameOption, has, position}
 use Rattle.base.specs.Search.{First}
-use Rattle.ids.specs.Ids.{sameTree, sameNode, sameId}
+use Rattle.ids.specs.Ids.{sameTree, sameNode}
 use Rattle.ids.specs.declared.TreeId.{TreeId}
 use Rattle.ids.specs.declared.FullNodeId.{FullNodeId}
 use Rattle.record.specs.Batch.{Batch, namedIds}

@@ -11,11 +11,12 @@ use lib.ListN.{length, getD, take, set}
 use lib.Seq.{take-suc, getD-set-same, getD-set-other}
 use borrow.Author.Tests.{eqb-true, eqb-false}
 use Rattle.base.specs.Tests.{_&&_, if_then_else_, isSome, isNil, sameOption, has, given}
-use Rattle.base.specs.Tables.{found, first}
+use Rattle.base.specs.Tables.{first}
 use Rattle.base.proofs.Tests.{both, joined, iff, and-false, not-true}
 use Rattle.base.proofs.Lists.{any-append}
 use Rattle.base.proofs.Bytes.{all-below-at}
 use Rattle.base.proofs.Indexed.{all-below-each, all-below-cong}
+use Rattle.base.proofs.Tables.{found-alone}
 use Rattle.ids.specs.Ids.{ROOT, sameTree, sameNode}
 use Rattle.ids.specs.declared.TreeId.{TreeId}
 use Rattle.ids.specs.declared.NodeId.{NodeId}
@@ -28,15 +29,6 @@ use Rattle.update_notes.specs.Layout.{CLAIMS}
 use Rattle.update_pass.specs.Steps.{seen, isTaken, unclaimedIn}
 
 -- ## A child that is named
-
--- a number found elsewhere, alone
-first-found : (n : ℕ) → first (found n ∷ []) ≡ n
-unfolding first
-first-found n = go (eqb n 0) refl
-  where
-    go : (t : Bool) → eqb n 0 ≡ t → (if not t then n else 0) ≡ n
-    go true q = sym (eqb-true n 0 q)
-    go false q = refl
 
 -- one child more
 pub seen-more : (cs : List NodeId) (j : ℕ) → seen cs (j + 1) ≡ getD cs j noNode ∷ seen cs j
@@ -77,7 +69,7 @@ module _ (s : Forest) (b : Batch) (seen : List NodeId) (claimed : List TreeId) (
     -- named for the first time
     pub fault-once : has sameNode seen c ≡ false → fault s b seen claimed (names c ∷ es) ≡ fault s b (c ∷ seen) claimed es
     unfolding fault first
-    fault-once h = rw h (first-found (fault s b (c ∷ seen) claimed es))
+    fault-once h = rw h (found-alone (fault s b (c ∷ seen) claimed es))
 
   -- ## A node that is placed
 
@@ -91,7 +83,7 @@ module _ (s : Forest) (b : Batch) (seen : List NodeId) (claimed : List TreeId) (
       -- one that claims nothing
       pub fault-claimless : claim s b l ≡ none → fault s b seen claimed (places l ∷ es) ≡ fault s b seen claimed es
       unfolding fault first
-      fault-claimless e = rw (h, claims-none s b l e) (first-found (fault s b seen claimed es))
+      fault-claimless e = rw (h, claims-none s b l e) (found-alone (fault s b seen claimed es))
 
       module _ (t : TreeId) (e : claim s b l ≡ some t) where
         -- one that claims ROOT
@@ -107,7 +99,7 @@ module _ (s : Forest) (b : Batch) (seen : List NodeId) (claimed : List TreeId) (
         -- one that claims a tree first
         pub fault-claim : sameTree ROOT t ≡ false → has sameTree claimed t ≡ false → fault s b seen claimed (places l ∷ es) ≡ fault s b seen (t ∷ claimed) es
         unfolding fault first
-        fault-claim r k = rw (h, claims-some s b l t e, r, k) (first-found (fault s b seen (t ∷ claimed) es))
+        fault-claim r k = rw (h, claims-some s b l t e, r, k) (found-alone (fault s b seen (t ∷ claimed) es))
 
 -- ## The trees that are claimed
 

@@ -2,7 +2,7 @@
 use mathlib.Core.Bool.{Bool, true, false}
 use mathlib.Core.List.{List}
 use mathlib.Core.Option.{some}
-use mathlib.Core.Path.{_≡_, refl, sym, ap, ap₂, _∙_}
+use mathlib.Core.Path.{_≡_, sym, ap, ap₂, _∙_}
 use Prim.Native.Nat.{ℕ, suc, _+_, _≤_, _<_}
 use native.Mathlib.Omega.{arith}
 use lib.Dec.{eqb, ltb, leb}
@@ -10,7 +10,7 @@ use lib.ListN.{length, getD, take}
 use borrow.Author.Tests.{lt-ltb, le-ltb}
 use Rattle.base.specs.Tests.{_&&_, isSome, sameOption, has, position}
 use Rattle.base.specs.Search.{First}
-use Rattle.base.proofs.Tests.{has-at}
+use Rattle.base.proofs.Tests.{has-at, bit-is}
 use Rattle.ids.specs.Ids.{sameNode, sameId}
 use Rattle.ids.proofs.Ids.{same-node-refl}
 use Rattle.ids.specs.declared.NodeId.{NodeId}
@@ -23,7 +23,7 @@ use Rattle.update.specs.Words.{here, old, isRoot, claim}
 use Rattle.update_notes.specs.Layout.{LISTED, NAMED, ENDS, LISTED-SLOTS, NAMED-SLOTS, NAMINGS, CLAIMS}
 use Rattle.update_notes.specs.declared.Scope.{Scope}
 use Rattle.update_notes.specs.Setting.{asked, forest, rootIn}
-use Rattle.update_notes.specs.Codes.{idAt, slotAt, flag}
+use Rattle.update_notes.specs.Codes.{idAt, slotAt}
 use Rattle.update_notes.specs.Says.{namingMark, PositionIn, listedWord, namedWord, endWord, listedSlot, namedSlot, namingWord, claimWord, Told, READ}
 use Rattle.update_notes.proofs.Told.{few-listed, few-named}
 use Rattle.update_notes.proofs.Positions.{first-unique, position-first}
@@ -31,11 +31,6 @@ use Rattle.update_notes.proofs.Places.{slot-old, slot-id, forest-length}
 use Rattle.update_notes.proofs.Marks.{here-mine}
 use Rattle.update_pass.specs.Steps.{startOf}
 use Rattle.update_pass.proofs.Searches.{searched, search-has, has-before}
-
--- the test of a mark
-flag-one : (t : Bool) → eqb (flag t) 1 ≡ t
-flag-one true = refl
-flag-one false = refl
 
 -- as far as another number that is the same
 first-count : (f : ℕ → Bool) (m n r : ℕ) → m ≡ n → First f m r → First f n r
@@ -96,7 +91,7 @@ module _ {state bytes : List ℕ} {c : Scope} {notes : List ℕ} (told : Told RE
   pub claim-listed : (i : ℕ) → i < c .listed → eqb (getD notes (CLAIMS + i) 0) 1 ≡ isSome (claim (forest state) (asked bytes c) (listedAt (asked bytes c) i))
   unfolding claimWord
   claim-listed i h =
-      ap (λ w. eqb w 1) (told .written 7 (omega arith) i h) ∙ flag-one (isSome (claim (forest state) (asked bytes c) (listedAt (asked bytes c) i)))
+      ap (λ w. eqb w 1) (told .written 7 (omega arith) i h) ∙ bit-is (isSome (claim (forest state) (asked bytes c) (listedAt (asked bytes c) i)))
 
   -- a search among them
   listed-search : (x p : ℕ) → PositionIn notes LISTED (c .listed) x p

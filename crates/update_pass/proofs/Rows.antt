@@ -1,7 +1,7 @@
--- Laws of the rows 13 and 14: what the code asks of each listed node and each named child; and of tables of rows. Assumes nothing.
+-- Laws of the rows 13 and 14: what the code asks of each listed node and each named child. Assumes nothing.
 use mathlib.Core.Bool.{Bool, true, false, not}
-use mathlib.Core.List.{List, [], _∷_}
-use mathlib.Core.Path.{_≡_, refl, sym, ap, ap₂, _∙_}
+use mathlib.Core.List.{List}
+use mathlib.Core.Path.{_≡_, sym, ap, ap₂, _∙_}
 use Prim.Native.Nat.{ℕ, suc, _≤_, _<_}
 use native.Mathlib.Decide.{decLt}
 use native.Mathlib.Omega.{arith}
@@ -9,7 +9,6 @@ use lib.Dec.{eqb, ltb}
 use lib.ListN.{length, getD}
 use borrow.Author.Tests.{lt-ltb, le-ltb, eq-eqb, ne-eqb}
 use Rattle.base.specs.Tests.{_&&_, if_then_else_, has, position}
-use Rattle.base.specs.Tables.{Row, row, found, first}
 use Rattle.base.specs.Search.{First}
 use Rattle.base.proofs.Tests.{and-false}
 use Rattle.ids.specs.Ids.{sameNode}
@@ -95,28 +94,3 @@ pub placeless-column : {state bytes : List ℕ} {c : Scope} {notes : List ℕ} �
 unfolding listedAt
 placeless-column {state} {bytes} {c} told due d m h =
     ap (ltb (c .named)) (d m (omega (arith, told .given .scoped .listed))) ∙ placeless-is (forest state) (asked bytes c) m (c .named) (told .given .scoped .named)
-
--- ## Tables of rows
-
--- the first row holds
-pub first-holds : (k : ℕ) (t : Bool) (rs : List Row) → t ≡ true → first (row k t ∷ rs) ≡ k
-unfolding first
-first-holds k t rs e = rw e
-
--- it does not
-pub first-passes : (k : ℕ) (t : Bool) (rs : List Row) → t ≡ false → first (row k t ∷ rs) ≡ first rs
-unfolding first
-first-passes k t rs e = rw e
-
--- a number found elsewhere counts
-pub found-counts : (k : ℕ) (rs : List Row) → (k ≡ 0 → ⊥) → first (found k ∷ rs) ≡ k
-found-counts k rs h = first-holds k _ rs (ap not (ne-eqb k 0 h))
-
--- unless it is 0
-pub found-passes : (k : ℕ) (rs : List Row) → k ≡ 0 → first (found k ∷ rs) ≡ first rs
-found-passes k rs e = first-passes k _ rs (ap not (eq-eqb k 0 e))
-
--- no row is left
-pub first-none : first [] ≡ 0
-unfolding first
-first-none = refl

@@ -18,7 +18,7 @@ use Rattle.base.specs.Search.{First}
 use Rattle.base.specs.Regions.{fill}
 use Rattle.base.proofs.Regions.{fill-more, fill-put}
 use Rattle.base.proofs.Tests.{iff, or-right}
-use Rattle.base.proofs.Search.{first-here, first-end, first-any}
+use Rattle.base.proofs.Search.{first-here, first-end, first-any, ltb-suc}
 use Rattle.ids.specs.Ids.{sameNode}
 use Rattle.ids.proofs.Ids.{same-node-refl}
 use Rattle.ids.specs.declared.NodeId.{NodeId}
@@ -27,7 +27,7 @@ use Rattle.record_reader.specs.Reader.{noNode, blank, listedAt}
 use Rattle.state.specs.State.{Forest}
 use Rattle.update.specs.Words.{listing, here, old, isRoot}
 use Rattle.update.specs.Pass.{placedAtTurn}
-use Rattle.update_notes.proofs.Positions.{ltb-suc, first-cong, position-first, first-given-at}
+use Rattle.update_notes.proofs.Positions.{first-cong, position-first, first-given-at}
 use Rattle.update_pass.specs.Steps.{dueOf, Due}
 
 -- ## Numbers and nodes

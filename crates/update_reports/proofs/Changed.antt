@@ -9,7 +9,7 @@ use lib.Dec.{eqb, ltb}
 use lib.ListN.{length, getD}
 use borrow.Author.Tests.{lt-ltb, ltb-true}
 use Rattle.base.specs.Tests.{_&&_, if_then_else_, isSome, all, sameOption, distinct}
-use Rattle.base.proofs.Tests.{both}
+use Rattle.base.proofs.Tests.{both, bit-is}
 use Rattle.ids.specs.Ids.{sameNode, sameId}
 use Rattle.ids.specs.declared.FullNodeId.{FullNodeId}
 use Rattle.record.specs.Batch.{NodeData, fieldsOk, sameData, Batch, listedIds}
@@ -34,11 +34,6 @@ use Rattle.update_notes.proofs.Places.{slot-old, slot-id, find-at, forest-lengt
 use Rattle.update_notes.proofs.Marks.{turn-listed, turn-none, turn-within, turn-here, turn-listing}
 use Rattle.update_reports.specs.Outcomes.{Outcomes}
 use Rattle.update_reports.proofs.Outcomes.{shows, counted}
-
--- a mark by its test
-flag-is : (t : Bool) → eqb (flag t) 1 ≡ t
-flag-is true = refl
-flag-is false = refl
 
 -- ## Data
 
@@ -88,7 +83,7 @@ module _ {state bytes : List ℕ} {c : Scope} {notes : List ℕ} (told : Told PL
     unfolding differWord
     data-listed =
         ap (λ (m : ℕ). eqb m 1) (told .written 10 (omega arith) t turn-below)
-        ∙ flag-is (differs (forest state) (asked bytes c) (listedAt (asked bytes c) t))
+        ∙ bit-is (differs (forest state) (asked bytes c) (listedAt (asked bytes c) t))
         ∙ data-at (forest state) (asked bytes c) (told .given .kept) i within t (sym turn-word ∙ e)
 
 -- ## Codes

@@ -9,11 +9,11 @@ use native.Mathlib.Omega.{arith}
 use lib.Dec.{ltb}
 use lib.ListN.{length, getD}
 use borrow.Author.Tests.{ltb-true}
-use Rattle.base.specs.Tests.{_&&_, if_then_else_, isSome, all, keep, has}
+use Rattle.base.specs.Tests.{_&&_, if_then_else_, isSome, keep, has}
 use Rattle.base.specs.Bytes.{bit}
 use Rattle.base.proofs.Lists.{any-append}
-use Rattle.base.proofs.Tests.{both, joined, all-keep, has-keep}
-use Rattle.ids.specs.Ids.{sameId, before}
+use Rattle.base.proofs.Tests.{both, has-keep}
+use Rattle.ids.specs.Ids.{sameId}
 use Rattle.ids.specs.declared.FullNodeId.{FullNodeId}
 use Rattle.ids.proofs.Ids.{same-id→≡}
 use Rattle.record.specs.Batch.{Batch}
@@ -27,7 +27,7 @@ use Rattle.update.specs.Gone.{gone}
 use Rattle.update.specs.Outcome.{paneRoot, outcome}
 use Rattle.update.specs.Reports.{sorted, added, removed, isUpdated, updated, isRelinked, relinked, changesWith, changesOf}
 use Rattle.update.proofs.Outcome.{ascending-outcome}
-use Rattle.update.proofs.Reports.{removed-is}
+use Rattle.update.proofs.Reports.{removed-is, sorted-ids, sorted-keep}
 use Rattle.update.proofs.Sorted.{same-members}
 use Rattle.update_notes.specs.declared.Scope.{Scope}
 use Rattle.update_notes.specs.Layout.{GOES, CHANGED}
@@ -41,26 +41,6 @@ use Rattle.update_reports.proofs.Outcomes.{shows, counted}
 use Rattle.update_reports.proofs.Slots.{picked-ids}
 
 -- ## Sorted lists
-
--- the ids of nodes in order
-sorted-ids : (ns : List NodeState) → ascending ns ≡ true → sorted (idsOf ns) ≡ true
-unfolding sorted ascending idsOf
-sorted-ids [] e = refl
-sorted-ids (n ∷ ns) e = joined (all-ids (before (n .id)) ns ∙ both e .0) (sorted-ids ns (both e .1))
-  where
-    all-ids : (p : FullNodeId → Bool) (ms : List NodeState) → all p (idsOf ms) ≡ all (λ m. p (m .id)) ms
-    all-ids p [] = refl
-    all-ids p (m ∷ ms) = ap {B = Bool} (λ c. p (m .id) && c) (all-ids p ms)
-
--- and those of them that pass
-sorted-keep : (q : FullNodeId → Bool) (xs : List FullNodeId) → sorted xs ≡ true → sorted (keep q xs) ≡ true
-unfolding sorted
-sorted-keep q [] e = refl
-sorted-keep q (x ∷ xs) e = go (q x) (sorted-keep q xs (both e .1))
-  where
-    go : (c : Bool) → sorted (keep q xs) ≡ true → sorted (if c then x ∷ keep q xs else keep q xs) ≡ true
-    go true h = joined (all-keep (before x) q xs (both e .0)) h
-    go false h = h
 
 -- ## Which nodes stand in a list
 

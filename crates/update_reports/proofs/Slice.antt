@@ -26,7 +26,7 @@ length-words [] = refl
 length-words (x ∷ xs) = let h = length-words xs in omega arith
 
 -- the words of two lists
-words-append : (xs ys : List FullNodeId) → words (xs ++ ys) ≡ words xs ++ words ys
+pub words-append : (xs ys : List FullNodeId) → words (xs ++ ys) ≡ words xs ++ words ys
 unfolding words
 words-append [] ys = refl
 words-append (x ∷ xs) ys = ap (λ (l : List ℕ). x .tree .0 ∷ x .node .0 ∷ l) (words-append xs ys)

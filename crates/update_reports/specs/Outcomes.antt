@@ -5,9 +5,9 @@ use mathlib.Core.Path.{_≡_}
 use Prim.Native.Nat.{ℕ}
 use Rattle.ids.specs.declared.FullNodeId.{FullNodeId}
 use Rattle.record.specs.Batch.{Batch}
-use Rattle.state.specs.State.{Forest, State}
+use Rattle.state.specs.State.{Forest}
 use Rattle.state_array.specs.View.{view}
-use Rattle.update.specs.Outcome.{paneRoot, outcome}
+use Rattle.update.specs.Outcome.{paneRoot}
 use Rattle.update.specs.Reports.{Changes, changesOf}
 use Rattle.update_notes.specs.declared.Scope.{Scope}
 use Rattle.update_notes.specs.Setting.{Scoped, asked, forest}

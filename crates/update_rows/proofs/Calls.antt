@@ -8,6 +8,7 @@ use lib.Dec.{ltb}
 use lib.ListN.{length}
 use Rattle.base.specs.Tests.{isNone, distinct}
 use Rattle.base.specs.Tables.{row, found, first}
+use Rattle.base.proofs.Tables.{found-counts, found-passes, found-alone}
 use Rattle.ids.specs.Ids.{ROOT, sameTree, sameNode}
 use Rattle.record.specs.Batch.{Batch, listedIds}
 use Rattle.record.specs.Parse.{wellFormed, parse}
@@ -21,7 +22,6 @@ use Rattle.update.specs.Numbers.{rowsBeforePass, batchNumber}
 use Rattle.update.specs.Calls.{Answer, refused, accepted, judged, updateNumber, updateBatch, update, blank, seed, withoutTreeData, startNumber, started, startBatch, start}
 use Rattle.update.proofs.Calls.{update-is}
 use Rattle.update_rows.specs.Rows.{firstNumber, startRows}
-use Rattle.update_rows.proofs.Tables.{found-counts, found-passes, found-alone}
 use Rattle.update_rows.proofs.Numbers.{laterRows, batch-first, batch-later, first-passed, seed-before, start-begun, start-before}
 
 -- any number but 0 refuses

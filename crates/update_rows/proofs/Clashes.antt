@@ -9,7 +9,7 @@ use lib.Dec.{eqb}
 use lib.ListN.{length, getD}
 use borrow.Author.Tests.{ltb-true, eq-eqb, ne-eqb}
 use Rattle.base.specs.Tests.{_&&_, isSome, any}
-use Rattle.base.proofs.Tests.{and-false, and-right, or-right}
+use Rattle.base.proofs.Tests.{and-false, and-right, or-right, bit-is}
 use Rattle.record.specs.Batch.{sameData, Listed, Batch}
 use Rattle.ids.specs.declared.FullNodeId.{FullNodeId}
 use Rattle.record_reader.specs.Reader.{blank, listedAt}
@@ -21,14 +21,9 @@ use Rattle.update.specs.Numbers.{updatedAndRemoved}
 use Rattle.update_notes.specs.Layout.{LISTED-SLOTS, GOES, DIFFERS}
 use Rattle.update_notes.specs.declared.Scope.{Scope}
 use Rattle.update_notes.specs.Setting.{asked, forest}
-use Rattle.update_notes.specs.Codes.{slotAt, idAt, flag, differs}
+use Rattle.update_notes.specs.Codes.{slotAt, idAt, differs}
 use Rattle.update_notes.specs.Says.{listedSlot, goesWord, differWord, Told, COMPARED}
 use Rattle.update_notes.proofs.Places.{slot-present, slot-id, forest-length}
-
--- a mark by its test
-flag-is : (t : Bool) → eqb (flag t) 1 ≡ t
-flag-is true = refl
-flag-is false = refl
 
 -- ## A listed node
 
@@ -57,7 +52,7 @@ module _ (state bytes : List ℕ) (c : Scope) (notes : List ℕ) (told : Told CO
   -- the mark of a node that differs
   differs-is : eqb (getD notes (DIFFERS + i) 0) 1 ≡ differs s b (listedAt b i)
   unfolding differWord
-  differs-is = ap (λ (m : ℕ). eqb m 1) (told .written 10 (omega arith) i h) ∙ flag-is (differs s b (listedAt b i))
+  differs-is = ap (λ (m : ℕ). eqb m 1) (told .written 10 (omega arith) i h) ∙ bit-is (differs s b (listedAt b i))
 
   -- one that does not differ
   pub clash-same : (getD notes (DIFFERS + i) 0 ≡ 1 → ⊥) → false ≡ updatedAndRemoved s b (listedAt b i)
@@ -85,7 +80,7 @@ module _ (state bytes : List ℕ) (c : Scope) (notes : List ℕ) (told : Told CO
     unfolding goesWord
     clash-goes =
         ap (λ (m : ℕ). eqb m 1) (told .written 9 (omega arith) (getD notes (LISTED-SLOTS + i) 0) clash-within)
-        ∙ flag-is _
+        ∙ bit-is _
         ∙ ap (λ (k : ℕ). gone s b (idAt s k)) slot-is
         ∙ ap (gone s b) (slot-id s x (omega (arith, clash-within, slot-is, forest-length state)))
         ∙ sym (clash-is s b (listedAt b i) ∙ rw other (and-right _))

@@ -1,4 +1,3 @@
-pub mod Tables
 pub mod Listed
 pub mod Trees
 pub mod Scopes

@@ -11,7 +11,7 @@ use lib.ListN.{length}
 use borrow.Author.Tests.{lt-ltb, leb-false}
 use Rattle.base.specs.Tests.{_&&_, isNone, any, distinct}
 use Rattle.base.specs.Tables.{row, found, first}
-use Rattle.base.proofs.Tables.{first-zero, first-found-zero}
+use Rattle.base.proofs.Tables.{first-zero, first-found-zero, found-counts, found-passes, found-alone, first-append, first-append-none}
 use Rattle.base.proofs.Tests.{not-false}
 use Rattle.ids.specs.Ids.{ROOT, sameTree, sameNode}
 use Rattle.record.specs.Batch.{Batch, listedIds, namedIds}
@@ -26,7 +26,6 @@ use Rattle.update.specs.Outcome.{outcome}
 use Rattle.update.specs.Numbers.{placeless, nowhere, updatedAndRemoved, rowsBeforePass, rowsAfterPass, batchNumber}
 use Rattle.update.specs.Calls.{seed, withoutTreeData}
 use Rattle.update_rows.specs.Rows.{firstNumber, startRows, lastNumber}
-use Rattle.update_rows.proofs.Tables.{found-counts, found-passes, found-alone, first-append, first-append-none}
 
 -- ## Rows 9 to 20
 

@@ -10,6 +10,7 @@ use lib.ListN.{length}
 use Rattle.base.specs.Tests.{isNone}
 use Rattle.base.specs.Tables.{Row, row, found, first}
 use Rattle.base.specs.Search.{First}
+use Rattle.base.proofs.Tables.{first-holds, first-passes, first-none, found-counts, found-passes}
 use Rattle.ids.specs.Ids.{ROOT}
 use Rattle.ids.specs.declared.FullNodeId.{FullNodeId}
 use Rattle.state.specs.State.{Forest, present, subtreeOf}
@@ -29,7 +30,6 @@ use Rattle.update.specs.Numbers.{absent}
 use Rattle.update_notes.specs.Setting.{forest}
 use Rattle.update_rows.specs.Rows.{lastNumber}
 use Rattle.update_rows.specs.Parts.{focusNumber}
-use Rattle.update_rows.proofs.Tables.{first-holds, first-passes, first-none, found-counts, found-passes}
 use Rattle.update_rows.proofs.Trees.{not-below}
 
 -- ## Rows 15 to 17

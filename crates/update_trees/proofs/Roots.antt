@@ -1,7 +1,7 @@
 -- Laws of a tree's root: whether it goes, by its slot. Assumes nothing.
-use mathlib.Core.Bool.{Bool, true, false}
+use mathlib.Core.Bool.{false}
 use mathlib.Core.List.{List}
-use mathlib.Core.Path.{_≡_, refl, sym, ap, _∙_}
+use mathlib.Core.Path.{_≡_, sym, ap, _∙_}
 use Prim.Native.Nat.{ℕ, _+_, _≤_, _<_}
 use native.Mathlib.Omega.{arith}
 use lib.Dec.{eqb}
@@ -13,15 +13,11 @@ use Rattle.update.specs.Gone.{gone}
 use Rattle.update_notes.specs.declared.Scope.{Scope}
 use Rattle.update_notes.specs.Layout.{GOES}
 use Rattle.update_notes.specs.Setting.{asked, forest}
-use Rattle.update_notes.specs.Codes.{idAt, slotAt, flag}
+use Rattle.update_notes.specs.Codes.{idAt, slotAt}
 use Rattle.update_notes.specs.Says.{Told, PLANNED, goesWord}
 use Rattle.update_outcome.proofs.Codes.{gone-absent}
 use Rattle.update_notes.proofs.Places.{slot-present, slot-id, forest-length}
-
--- a mark of 1 says that a test holds
-flag-one : (t : Bool) → eqb (flag t) 1 ≡ t
-flag-one true = refl
-flag-one false = refl
+use Rattle.base.proofs.Tests.{bit-is}
 
 module _ (state bytes : List ℕ) (c : Scope) (notes : List ℕ) (told : Told PLANNED state bytes c notes) (x : FullNodeId) (i : ℕ)
     (slot : i ≡ slotAt (forest state) x) where
@@ -36,5 +32,5 @@ module _ (state bytes : List ℕ) (c : Scope) (notes : List ℕ) (told : Told PL
   unfolding goesWord
   mark-tells h =
       ap (λ (w : ℕ). eqb w 1) (told .written 9 (omega arith) i h)
-      ∙ flag-one (gone (forest state) (asked bytes c) (idAt (forest state) i))
+      ∙ bit-is (gone (forest state) (asked bytes c) (idAt (forest state) i))
       ∙ ap (gone (forest state) (asked bytes c)) (ap (idAt (forest state)) slot ∙ slot-id (forest state) x (omega (arith, slot, forest-length state)))

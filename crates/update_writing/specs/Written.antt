@@ -8,7 +8,7 @@ use Rattle.base.specs.Regions.{fill, Region, fills}
 use Rattle.ids.specs.declared.NodeId.{NodeId}
 use Rattle.ids.specs.declared.FullNodeId.{FullNodeId}
 use Rattle.record_reader.specs.Reader.{batchIn, listedAt}
-use Rattle.state.specs.State.{NodeState, State}
+use Rattle.state.specs.State.{NodeState}
 use Rattle.state_array.specs.declared.LinkRow.{LinkRow}
 use Rattle.state_array.specs.declared.Body.{Body}
 use Rattle.state_array.specs.Layout.{SLOTS, place, childPlace, child, GRAFT-HIGH, FIRST-CHILD, CHILD-COUNT, LABEL, FLOATS}

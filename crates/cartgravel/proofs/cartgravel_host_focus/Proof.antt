@@ -1,7 +1,7 @@
 -- `cartgravel::cartgravel_host_focus` meets its contract: a law for each way out. Assumes nothing.
 use borrow.Author.Needs.{needs}
 use denote.Ref.{now}
-use mathlib.Core.Path.{_≡_, sym, _∙_}
+use mathlib.Core.Path.{sym, _∙_}
 use Rattle.base.proofs.Tests.{not-true, not-false}
 use Rattle.cartgravel.proofs.Host.{host-refused, host-accepted}
 use Rattle.cartgravel.proofs.cartgravel_host_focus.Statement.{statement}

@@ -1,6 +1,6 @@
 -- `cartgravel::cartgravel_start` meets its contract: a law for each way out. Assumes nothing.
 use borrow.Author.Needs.{needs}
-use mathlib.Core.Path.{_≡_, sym, ap, _∙_}
+use mathlib.Core.Path.{sym, ap, _∙_}
 use Rattle.update_notes.specs.declared.Refusal.{Refusal}
 use Rattle.cartgravel.proofs.Starts.{first-refused}
 use Rattle.cartgravel.proofs.cartgravel_start.Statement.{statement}

@@ -1,7 +1,7 @@
 -- `cartgravel::started` meets its contract: a law for each way out. Assumes nothing.
 use borrow.Author.Needs.{needs}
 use mathlib.Core.Option.{Option}
-use mathlib.Core.Path.{_≡_, refl, sym, ap, _∙_, subst}
+use mathlib.Core.Path.{refl, sym, ap, _∙_, subst}
 use Rattle.ids.specs.declared.FullNodeId.{FullNodeId}
 use Rattle.update_reports.specs.Reported.{OnlyAfter}
 use Rattle.state.specs.State.{State}

@@ -1,6 +1,6 @@
 -- `cartgravel::updated` meets its contract: a law for each way out. Assumes nothing.
 use borrow.Author.Needs.{needs}
-use mathlib.Core.Path.{_≡_, refl, sym, ap, _∙_}
+use mathlib.Core.Path.{refl, sym, ap, _∙_}
 use Rattle.base.proofs.Tests.{not-true, not-false}
 use Rattle.update_notes.specs.declared.Refusal.{Refusal}
 use Rattle.update_rows.proofs.Given.{told-update}

@@ -1,6 +1,5 @@
 -- `update_apply::apply` meets its contract: a law for each way out. Assumes nothing.
 use borrow.Author.Needs.{needs}
-use native.Mathlib.Omega.{arith}
 use Rattle.update_pass.specs.Rows.{passNumber}
 use Rattle.update_writing.proofs.Plan.{told-compared}
 use Rattle.update_apply.proofs.Applied.{applied-early, applied-last}

@@ -1,6 +1,6 @@
 -- `gone::climbed` meets its contract. Assumes nothing.
 use denote.Ref.{now}
-use mathlib.Core.Path.{_≡_, sym, _∙_}
+use mathlib.Core.Path.{_∙_}
 use Prim.Native.Nat.{_+_, _-_, _<_}
 use lib.ListN.{getD}
 use Rattle.state_array.specs.View.{slotsOf}

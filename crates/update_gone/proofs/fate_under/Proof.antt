@@ -5,7 +5,6 @@ use borrow.Author.Tests.{lt-ltb, le-ltb}
 use Rattle.update_notes.proofs.Told.{few-listed}
 use Rattle.update_gone.proofs.Fates.{elsewhere-claimed, elsewhere-unlisted, elsewhere-held, elsewhere-let-go}
 use Rattle.update_gone.proofs.Slots.{turn-at, claimed-is, held-is}
-use native.Mathlib.Omega.{arith}
 use borrow.Author.Needs.{needs}
 use borrow.Author.Needs.{needs}
 use Rattle.update_gone.proofs.fate_under.Statement.{statement}

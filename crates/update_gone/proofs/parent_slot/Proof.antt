@@ -2,7 +2,6 @@
 use denote.Ref.{now}
 use mathlib.Core.Path.{sym, _∙_}
 use Rattle.update_gone.proofs.Above.{slot-top, slot-under, slot-near}
-use native.Mathlib.Omega.{arith}
 use borrow.Author.Needs.{needs}
 use borrow.Author.Needs.{needs}
 use Rattle.update_gone.proofs.parent_slot.Statement.{statement}

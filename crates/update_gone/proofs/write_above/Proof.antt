@@ -1,8 +1,8 @@
 -- `gone::write_above` meets its contract. Assumes nothing.
 use denote.Ref.{now}
-use mathlib.Core.Path.{_≡_, sym, ap, _∙_}
+use mathlib.Core.Path.{_≡_, sym}
 use Prim.Native.Nat.{_-_, _≤_}
-use Rattle.state_array.specs.View.{linkOf, linkIn, slotsOf}
+use Rattle.state_array.specs.View.{linkOf, linkIn}
 use Rattle.update_notes.specs.Layout.{ABOVE}
 use Rattle.base.specs.Regions.{fill}
 use Rattle.base.proofs.Regions.{fill-none, fill-more}

@@ -1,6 +1,6 @@
 -- `gone::write_fates` meets its contract. Assumes nothing.
 use denote.Ref.{now}
-use mathlib.Core.Path.{_≡_, sym, ap, _∙_}
+use mathlib.Core.Path.{_≡_, sym}
 use Prim.Native.Nat.{_-_, _≤_}
 use Rattle.state_array.specs.View.{slotsOf}
 use Rattle.update_notes.specs.Layout.{GOES}

@@ -1,6 +1,6 @@
 -- `gone::write_goes` meets its contract. Assumes nothing.
 use denote.Ref.{now}
-use mathlib.Core.Path.{_≡_, refl}
+use mathlib.Core.Path.{refl}
 use Prim.Native.Nat.{_-_, _≤_, _<_}
 use Rattle.state_array.specs.View.{slotsOf}
 use Rattle.update_gone.specs.Fates.{Fated}

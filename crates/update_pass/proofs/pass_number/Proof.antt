@@ -3,9 +3,9 @@ use mathlib.Core.Path.{sym, _∙_}
 use borrow.Author.Needs.{needs}
 use Rattle.update_pass.specs.Rows.{passNumber}
 use Rattle.update_pass.proofs.Firsts.{due-room}
-use Rattle.update_pass.proofs.Rows.{first-holds, first-passes, first-none, found-counts, found-passes}
 use Rattle.update_pass.proofs.pass_number.Statement.{statement}
 use Rattle.update_pass.proofs.pass_number.Tie as tie
+use Rattle.base.proofs.Tables.{first-holds, first-passes, first-none, found-counts, found-passes}
 
 firsts-of-requires : tie.Need-firsts-of-requires
 firsts-of-requires c κs = due-room (c .before .before .before .pre) (c .before .dues .ensures)

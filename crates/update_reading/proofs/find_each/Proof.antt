@@ -3,8 +3,6 @@ use denote.Ref.{now}
 use mathlib.Core.Path.{_≡_, sym, ap, _∙_}
 use Prim.Native.Nat.{_+_, _-_, _≤_}
 use lib.ListN.{getD}
-use Rattle.base.specs.Tests.{position}
-use Rattle.ids.specs.Ids.{sameId}
 use Rattle.base.specs.Regions.{fill}
 use Rattle.base.proofs.Regions.{fill-none, fill-more, fill-kept}
 use Rattle.update_notes.specs.Setting.{forest}

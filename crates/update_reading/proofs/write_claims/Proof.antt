@@ -4,15 +4,11 @@ use mathlib.Core.Bool.{Bool, not}
 use mathlib.Core.Path.{_≡_, sym, ap, ap₂, _∙_}
 use Prim.Native.Nat.{_+_, _-_, _≤_}
 use lib.ListN.{getD}
-use Rattle.base.specs.Tests.{_&&_, sameOption}
-use Rattle.ids.specs.Ids.{sameTree}
-use Rattle.record.specs.Batch.{graft?}
-use Rattle.record_reader.specs.Reader.{batchIn, listedAt}
+use Rattle.base.specs.Tests.{_&&_}
 use Rattle.update_notes.specs.Layout.{CLAIMS, LISTED-SLOTS}
 use Rattle.base.specs.Regions.{fill}
 use Rattle.base.proofs.Regions.{fill-none, fill-more, fill-kept}
 use Rattle.update_notes.specs.Codes.{flag}
-use Rattle.update_notes.specs.Says.{graftBelow}
 use Rattle.update_notes.proofs.Told.{few-listed, told-filled}
 use Rattle.update_reading.specs.Reading.{claimOf}
 use Rattle.update_reading.proofs.Reading.{claim-is}

@@ -1,10 +1,9 @@
 -- `reading::write_ends` meets its contract. Assumes nothing.
 use denote.Ref.{now}
-use mathlib.Core.Path.{_≡_, sym, ap, ap₂, _∙_}
+use mathlib.Core.Path.{_≡_, sym, ap₂}
 use Prim.Native.Nat.{ℕ, _+_, _-_, _≤_, _<_}
 use lib.ListN.{length, getD}
-use Rattle.ids.specs.declared.NodeId.{NodeId}
-use Rattle.record_reader.specs.Reader.{batchIn, noNode, listedAt, fieldAt, entriesOf}
+use Rattle.record_reader.specs.Reader.{batchIn, listedAt, fieldAt}
 use Rattle.update_notes.specs.Layout.{ENDS}
 use Rattle.base.specs.Regions.{fill}
 use Rattle.base.proofs.Regions.{fill-none, fill-more}

@@ -1,10 +1,9 @@
 -- `reading::write_listed` meets its contract. Assumes nothing.
 use denote.Ref.{now}
-use mathlib.Core.Path.{_≡_, sym, ap, ap₂, _∙_}
-use Prim.Native.Nat.{ℕ, _+_, _-_, _≤_, _<_}
-use lib.ListN.{length, getD}
+use mathlib.Core.Path.{_≡_, sym, ap}
+use Prim.Native.Nat.{_-_, _≤_}
 use Rattle.ids.specs.declared.NodeId.{NodeId}
-use Rattle.record_reader.specs.Reader.{batchIn, noNode, listedAt, fieldAt, entriesOf}
+use Rattle.record_reader.specs.Reader.{batchIn, listedAt}
 use Rattle.update_notes.specs.Layout.{LISTED}
 use Rattle.base.specs.Regions.{fill}
 use Rattle.base.proofs.Regions.{fill-none, fill-more}

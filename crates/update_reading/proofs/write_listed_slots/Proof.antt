@@ -4,7 +4,6 @@ use mathlib.Core.Path.{refl}
 use Rattle.update_notes.proofs.Told.{few-listed, told-filled}
 use Rattle.update_reading.proofs.Reading.{listed-slot-is}
 use native.Mathlib.Omega.{arith}
-use borrow.Author.Needs.{needs}
 use Rattle.update_reading.proofs.write_listed_slots.Statement.{statement}
 use Rattle.update_reading.proofs.write_listed_slots.Tie as tie
 
