@@ -1,6 +1,6 @@
 -- Transforms and boxes: document 01, section "Boxes", in its order. Each operation is binary64's and rounds once, left to right.
 -- Assumes nothing.
-use mathlib.Core.Bool.{Bool, false}
+use mathlib.Core.Bool.{Bool, false, not}
 use mathlib.Core.List.{List, [], _∷_, _++_}
 use lib.Ieee.{Float, binary64, add, sub, mul, lt, eq, ofBits}
 use Rattle.base.specs.Tests.{_&&_, if_then_else_, all}
@@ -159,3 +159,9 @@ unfoldable pub apart : BoundingBox → BoundingBox → Bool
 apart (Box x0 y0 x1 y1) (Box u0 v0 u1 v1) = isEmpty (overlap x0 x1 u0 u1) (overlap y0 y1 v0 v1)
 apart (Box x0 y0 x1 y1) None = false
 apart None c = false
+
+-- both are boxes, and their intersection is not empty
+unfoldable pub meet : BoundingBox → BoundingBox → Bool
+meet (Box x0 y0 x1 y1) (Box u0 v0 u1 v1) = not (isEmpty (overlap x0 x1 u0 u1) (overlap y0 y1 v0 v1))
+meet (Box x0 y0 x1 y1) None = false
+meet None c = false

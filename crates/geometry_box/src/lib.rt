@@ -1,6 +1,6 @@
 // Boxes: document 01, section "Boxes". Transforms and boxes are passed by value, and each operation on f64 rounds once, left to right.
 ghost use mathlib.Core.Path.{_≡_};
-ghost use Rattle.geometry_box.specs.Boxes.{identity, product, image, boxOf, apart, finitePoint, finitePoints, boxOfPoints, least, greatest, leastOf, greatestOf, withPlusZero, overlap};
+ghost use Rattle.geometry_box.specs.Boxes.{identity, product, image, boxOf, apart, meet, finitePoint, finitePoints, boxOfPoints, least, greatest, leastOf, greatestOf, withPlusZero, overlap};
 use geometry::Affine;
 use geometry::Rect;
 
@@ -75,6 +75,21 @@ pub fn are_apart(b: BoundingBox, c: BoundingBox) -> bool
         BoundingBox::Box(x0, y0, x1, y1) => match c {
             BoundingBox::Box(u0, v0, u1, v1) => {
                 overlap(x0, x1, u0, u1) * overlap(y0, y1, v0, v1) == 0.0
+            }
+            BoundingBox::None => false,
+        },
+        BoundingBox::None => false,
+    }
+}
+
+// Whether both are boxes and their intersection is not empty.
+pub fn do_meet(b: BoundingBox, c: BoundingBox) -> bool
+    ensures { λ z. ⌜ z ≡ meet b c ⌝ }
+{
+    match b {
+        BoundingBox::Box(x0, y0, x1, y1) => match c {
+            BoundingBox::Box(u0, v0, u1, v1) => {
+                !(overlap(x0, x1, u0, u1) * overlap(y0, y1, v0, v1) == 0.0)
             }
             BoundingBox::None => false,
         },
