@@ -1,1 +1,6 @@
 pub mod Links
+pub mod Flat
+pub mod Walks
+pub mod Ahead
+pub mod Shown
+pub mod Deepest

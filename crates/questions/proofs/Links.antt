@@ -211,3 +211,11 @@ module _ (s : Forest) (h : Shape s) where
   ancestors-few x there =
       let z = climb-ends s h x there in
       omega (arith, z .1, within-few (s .nodes) (length (s .nodes)) (z .0) x (z .2))
+
+  -- a child is present, and its ancestors are its parent and the parent's
+  pub member-child : (x y : FullNodeId) → present (s .nodes) x ≡ true → List·Memᴰ y (childIds s x)
+      → (present (s .nodes) y ≡ true) × (ancestors s y ≡ x ∷ ancestors s x)
+  member-child x y there i =
+      let z = place-of (childIds s x) y y i in
+      let linked = ap (linkAt (s .nodes)) (sym (z .2)) ∙ child-link x (z .0) y there (z .1) in
+      (linked-present (s .nodes) y _ linked, ancestors-step y _ linked)

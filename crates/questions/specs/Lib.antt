@@ -1,5 +1,6 @@
 pub mod Links
 pub mod Boxes
 pub mod Walks
+pub mod Ahead
 pub mod Filters
 pub mod Answers

@@ -24,6 +24,16 @@ unfoldable pub leading : (FullNodeId → Bool) → List FullNodeId → List Full
 leading p [] = []
 leading p (x ∷ xs) = if p x then x ∷ leading p xs else []
 
+-- d, or c where there is none
+abbrev pub orElse : FullNodeId → Option FullNodeId → Option FullNodeId
+orElse c none = some c
+orElse c (some d) = some d
+
+-- where steps from x end, if there is one: at most `room` of them
+unfoldable pub deepestWithin : ℕ → (FullNodeId → Option FullNodeId) → FullNodeId → Option FullNodeId
+deepestWithin zero step x = none
+deepestWithin (suc room) step x = elim (step x) [ none ↦ none | some c ↦ orElse c (deepestWithin room step c) ]
+
 module _ (filter : FullNodeId → FilterResult) where
   -- ## Filtered children
 
@@ -53,12 +63,6 @@ module _ (filter : FullNodeId → FilterResult) where
   lastFilteredChild s x = head? (reverse (filteredChildren s x))
 
   -- ## The deepest filtered child: the first (or last) filtered child, that of it, and so on while there is one
-
-  -- at most `room` of them are gone down to
-  unfoldable pub deepestWithin : ℕ → (FullNodeId → Option FullNodeId) → FullNodeId → Option FullNodeId
-  deepestWithin zero next x = none
-  deepestWithin (suc room) next x =
-      elim (next x) [ none ↦ none | some c ↦ elim (deepestWithin room next c) [ none ↦ some c | some d ↦ some d ] ]
 
   unfoldable pub deepestFirstFilteredChild : Forest → FullNodeId → Option FullNodeId
   deepestFirstFilteredChild s x = deepestWithin (length (s .nodes)) (firstFilteredChild s) x
