@@ -1,6 +1,6 @@
 -- Laws of links in a sound shape: a node's link and the children of its parent say the same, and each climb is one step nearer the root.
 -- Assumes nothing.
-use mathlib.Core.Bool.{true}
+use mathlib.Core.Bool.{Bool, true, false, _||_}
 use mathlib.Core.List.{List, [], _∷_, map, List·Memᴰ, List·Memᴰ·head, List·Memᴰ·tail}
 use mathlib.Core.Option.{Option, none, some, Option·none-ne-some, Option·some-injective}
 use mathlib.Core.Path.{_≡_, refl, sym, ap, _∙_, subst}
@@ -17,7 +17,7 @@ use Rattle.state.proofs.State.{find-id}
 use Rattle.state.proofs.Sound.{Shape, Root, root-of-shape}
 use Rattle.state.proofs.Down.{Descent, descent, some-met, below-met}
 use Rattle.state.proofs.Family.{Child, child, parent-present, climb-ends, linked-present}
-use Rattle.questions.specs.Links.{childIds, ancestorsWithin, ancestors}
+use Rattle.questions.specs.Links.{childIds, ancestorsWithin, ancestors, hiddenAt, isHidden}
 
 -- ## Places in lists
 
@@ -219,3 +219,18 @@ module _ (s : Forest) (h : Shape s) where
       let z = place-of (childIds s x) y y i in
       let linked = ap (linkAt (s .nodes)) (sym (z .2)) ∙ child-link x (z .0) y there (z .1) in
       (linked-present (s .nodes) y _ linked, ancestors-step y _ linked)
+
+  -- ## The hidden flag
+
+  -- a node is hidden if it is itself or its parent is
+  pub hidden-parent : (x : FullNodeId) (l : ParentAndIndex) → linkAt (s .nodes) x ≡ some l → isHidden s x ≡ (hiddenAt s x || isHidden s (l .parent))
+  unfolding isHidden
+  hidden-parent x l q = rw (ancestors-step x l q) refl
+
+  pub hidden-top : (x : FullNodeId) → linkAt (s .nodes) x ≡ none → isHidden s x ≡ hiddenAt s x
+  unfolding isHidden
+  hidden-top x q = rw (ancestors-end x q) (or-nothing (hiddenAt s x))
+    where
+      or-nothing : (b : Bool) → (b || false) ≡ b
+      or-nothing true = refl
+      or-nothing false = refl
