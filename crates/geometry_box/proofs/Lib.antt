@@ -1,4 +1,4 @@
+pub mod Examples
 pub mod Boxes
 pub mod Whole
 pub mod Exact
-pub mod Examples

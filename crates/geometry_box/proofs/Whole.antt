@@ -116,7 +116,6 @@ unfolding ofInt
 of-int-value (pos n) h = round-whole binary64 false n h
 of-int-value (negsuc n) h = round-whole binary64 true (suc n) h
 
--- what equals a number by value is that number, with some sign where it is 0
 factor-zero : (n c : ℕ) → 0 < c → n * c ≡ 0 → n ≡ 0
 factor-zero zero c h e = refl
 factor-zero (suc n) c h e = let p : 0 < suc n * c = mul-pos (zero-lt-suc n) h in omega arith
@@ -127,6 +126,7 @@ same-signed false false n c h e = refl
 same-signed true false n c h e = rw (factor-zero n c h (eqb-true (n * c) 0 e))
 same-signed false true n c h e = rw (factor-zero n c h (eqb-true (n * c) 0 e))
 
+-- what equals a number by value is that number, with some sign where it is 0
 same-valued : (x y : Float) (t : Bool) (n : ℕ) → eq x y ≡ true → HasValue y t n 1 → Valued x (signed t n) n
 unfolding eq
 same-valued nan y t n e v = absurd (false≢true e)

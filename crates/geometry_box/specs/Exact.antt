@@ -48,6 +48,7 @@ ltℤ (pos a) (negsuc b) = false
 ltℤ (negsuc a) (pos b) = true
 ltℤ (negsuc a) (negsuc b) = ltb b a
 
+-- the lesser and the greater of two
 abbrev pub leastℤ : ℤ → ℤ → ℤ
 leastℤ z w = if ltℤ w z then w else z
 
