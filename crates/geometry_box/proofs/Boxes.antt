@@ -98,7 +98,7 @@ way-of-product p q = simp (all-append, way-of-linear, way-of-shifted)
 
 -- ## The way to a box
 
--- a transform is finite where the corners under it are, and where its product is
+-- a transform is finite where the corners under it are, where its product is, and where the numbers on the way are
 corners-fine : (t : Affine) (r : Rect) → ofCorners finitePoints t r ≡ true → finiteAffine t ≡ true
 unfolding finitePoints finitePoint image affineTest
 corners-fine t r e =
@@ -121,10 +121,11 @@ product-fine p q e =
     let ef = linear-fine (p .a) (q .e) (p .c) (q .f) (shifted-fine (p .a) (q .e) (p .c) (q .f) (p .e) (four .1) .0) in
     joined (joined (joined (joined (joined (ab .0 .1) (ab .1 .1)) (cd .0 .1)) (cd .1 .1)) (ef .0 .1)) (ef .1 .1)
 
-chain-fine : (t : Affine) (ps : List Affine) → finiteAffine (chain t ps) ≡ true → finiteAffine t ≡ true
-unfolding chain
-chain-fine t [] e = e
-chain-fine t (p ∷ ps) e = product-fine p t (chain-fine (product p t) ps e)
+way-fine : (t : Affine) (ps : List Affine) (r : Rect) → all isFinite (way t ps r) ≡ true → finiteAffine t ≡ true
+unfolding way
+way-fine t [] r e = corners-fine t r (sym (way-of-corners t r) ∙ e)
+way-fine t (p ∷ ps) r e =
+    product-fine p t (sym (way-of-product p t) ∙ both (sym (all-append isFinite (wayOfProduct p t) (way (product p t) ps r)) ∙ e) .0)
 
 -- every number on the way is finite where the eight coordinates of the corners are
 pub way-is-corners : (t : Affine) (ps : List Affine) (r : Rect) → all isFinite (way t ps r) ≡ ofCorners finitePoints (chain t ps) r
@@ -132,8 +133,8 @@ unfolding way chain
 way-is-corners t [] r = way-of-corners t r
 way-is-corners t (p ∷ ps) r =
     all-append isFinite (wayOfProduct p t) (way (product p t) ps r)
-    ∙ rw (way-of-product p t, way-is-corners (product p t) ps r)
-    (iff (λ e. both e .1) (λ e. joined (chain-fine (product p t) ps (corners-fine (chain (product p t) ps) r e)) e))
+    ∙ iff (λ e. both e .1) (λ e. joined (way-of-product p t ∙ way-fine (product p t) ps r e) e)
+    ∙ way-is-corners (product p t) ps r
 
 -- so the box under a list of transforms is the box by the corners alone
 pub box-under : (t : Affine) (ps : List Affine) (r : Rect) → boxUnder t ps r ≡ boxOf (chain t ps) r

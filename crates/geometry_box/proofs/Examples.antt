@@ -48,7 +48,15 @@ scale k = record { a = k; b = nought; c = nought; d = k; e = nought; f = nought 
 abbrev quarter : Affine
 quarter = record { a = nought; b = one; c = neg one; d = nought; e = nought; f = nought }
 
--- the box of a turned rectangle has all four corners in it
+-- (x, y) goes to (x - y, x + y)
+abbrev tilt : Affine
+tilt = record { a = one; b = one; c = neg one; d = one; e = nought; f = nought }
+
+-- each of the four corners has a coordinate of the box that no other has
+tilted : boxUnder tilt [] (bounds (pos 0) (pos 0) (pos 2) (pos 1)) ≡ box (negsuc 0) (pos 0) (pos 2) (pos 3)
+unfolding computed
+tilted = refl
+
 turned : boxUnder quarter [] (bounds (pos 0) (pos 0) (pos 2) (pos 1)) ≡ box (negsuc 0) (pos 0) (pos 0) (pos 2)
 unfolding computed
 turned = refl

@@ -1,2 +1,4 @@
-pub mod Boxes
 pub mod Examples
+pub mod Boxes
+pub mod Whole
+pub mod Exact

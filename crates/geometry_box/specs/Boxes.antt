@@ -18,6 +18,7 @@ nought = ofBits binary64 0
 abbrev pub one : Float
 one = ofBits binary64 0x3ff0000000000000
 
+-- the operations, each rounding once
 abbrev pub plus : Float → Float → Float
 plus x y = add binary64 x y
 
@@ -41,7 +42,7 @@ shifted u x v y w = plus (linear u x v y) w
 unfoldable pub image : Affine → Float → Float → Point
 image t x y = record { x = shifted (t .a) x (t .c) y (t .e); y = shifted (t .b) x (t .d) y (t .f) }
 
--- of a node without a transform
+-- the transform of a node that has none
 unfoldable pub identity : Affine
 identity = record { a = one; b = nought; c = nought; d = one; e = nought; f = nought }
 
@@ -63,6 +64,7 @@ chain t (p ∷ ps) = chain (product p t) ps
 
 -- ## The box
 
+-- the lesser and the greater of two
 unfoldable pub least : Float → Float → Float
 least x y = if lt y x then y else x
 
@@ -73,13 +75,14 @@ greatest x y = if lt x y then y else x
 unfoldable pub withPlusZero : Float → Float
 withPlusZero x = if eq x nought then nought else x
 
+-- the least and the greatest of four, a zero as +0
 unfoldable pub leastOf : Float → Float → Float → Float → Float
 leastOf p q r s = withPlusZero (least (least p q) (least r s))
 
 unfoldable pub greatestOf : Float → Float → Float → Float → Float
 greatestOf p q r s = withPlusZero (greatest (greatest p q) (greatest r s))
 
--- the least and greatest of four points
+-- the box of four points: their least and greatest coordinates
 unfoldable pub boxOfPoints : Point → Point → Point → Point → BoundingBox
 boxOfPoints p q r s =
     Box
@@ -129,14 +132,16 @@ way t (p ∷ ps) r = wayOfProduct p t ++ way (product p t) ps r
 unfoldable pub boxUnder : Affine → List Affine → Rect → BoundingBox
 boxUnder t ps r = if all isFinite (way t ps r) then ofCorners boxOfPoints (chain t ps) r else None
 
--- ## The box by its corners alone, which is the same box
+-- ## The box by its corners alone, which is the same: proofs/Boxes `box-under`
 
+-- both coordinates of a point are finite, and of four points
 unfoldable pub finitePoint : Point → Bool
 finitePoint p = isFinite (p .x) && isFinite (p .y)
 
 unfoldable pub finitePoints : Point → Point → Point → Point → Bool
 finitePoints p q r s = finitePoint p && finitePoint q && finitePoint r && finitePoint s
 
+-- the box of the bounds r under t: none if one of the eight coordinates of the corners is not finite
 unfoldable pub boxOf : Affine → Rect → BoundingBox
 boxOf t r = if ofCorners finitePoints t r then ofCorners boxOfPoints t r else None
 

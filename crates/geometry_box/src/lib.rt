@@ -4,6 +4,7 @@ ghost use Rattle.geometry_box.specs.Boxes.{identity, product, image, box
 use geometry::Affine;
 use geometry::Rect;
 
+// A point of the plane.
 pub struct Point {
     pub x: f64,
     pub y: f64,
@@ -104,13 +105,14 @@ fn point_is_finite(p: Point) -> bool
     geometry::is_finite(p.x) & geometry::is_finite(p.y)
 }
 
+// Whether all coordinates of four points are finite.
 fn are_finite(p: Point, q: Point, r: Point, s: Point) -> bool
     ensures { λ z. ⌜ z ≡ finitePoints p q r s ⌝ }
 {
     point_is_finite(p) & point_is_finite(q) & point_is_finite(r) & point_is_finite(s)
 }
 
-// The least and greatest coordinates of four points.
+// The box of four points: their least and greatest coordinates.
 fn box_of_points(p: Point, q: Point, r: Point, s: Point) -> BoundingBox
     ensures { λ z. ⌜ z ≡ boxOfPoints p q r s ⌝ }
 {
@@ -122,12 +124,14 @@ fn box_of_points(p: Point, q: Point, r: Point, s: Point) -> BoundingBox
     )
 }
 
+// The least of four, a zero as +0.
 fn least_of(p: f64, q: f64, r: f64, s: f64) -> f64
     ensures { λ z. ⌜ z ≡ leastOf p q r s ⌝ }
 {
     with_plus_zero(lesser(lesser(p, q), lesser(r, s)))
 }
 
+// The greatest of four, a zero as +0.
 fn greatest_of(p: f64, q: f64, r: f64, s: f64) -> f64
     ensures { λ z. ⌜ z ≡ greatestOf p q r s ⌝ }
 {
