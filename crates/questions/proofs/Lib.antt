@@ -4,3 +4,4 @@ pub mod Walks
 pub mod Ahead
 pub mod Shown
 pub mod Deepest
+pub mod Exact

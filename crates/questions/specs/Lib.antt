@@ -1,5 +1,6 @@
 pub mod Links
 pub mod Boxes
+pub mod Exact
 pub mod Walks
 pub mod Ahead
 pub mod Filters
