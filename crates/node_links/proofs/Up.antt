@@ -1,11 +1,10 @@
 -- What a node has from its ancestors, one climb at a time: the hidden flag, the transform, the box. Assumes nothing.
 use mathlib.Core.Bool.{true, false}
 use mathlib.Core.List.{List, [], _∷_}
-use mathlib.Core.Path.{_≡_, refl, sym, ap}
+use mathlib.Core.Path.{_≡_, refl, ap}
 use Prim.Native.Nat.{ℕ, _-_, _/_, _%_, _≤_, _<_}
 use native.Mathlib.Nat.{div-one}
 use native.Mathlib.Omega.{arith}
-use lib.Dec.{eqb}
 use lib.ListN.{length}
 use borrow.Author.Tests.{eq-eqb, ne-eqb}
 use Rattle.base.proofs.Bytes.{length-list-of}
@@ -42,9 +41,13 @@ module _ (s : List ℕ) (h : Sound s) (i : ℕ) (there : i < slotsOf s) where
 
   module _ (w : ℕ) (read : w ≡ word s FLAGS i) where
     -- its own hidden flag
-    pub hidden-is : eqb (w % 2) 1 ≡ hiddenAt f x
+    pub hidden-own : w % 2 ≡ 1 → hiddenAt f x ≡ true
     unfolding hiddenAt nodeIn bodyIn shapeIn
-    hidden-is = sym (rw (slot-found s h i there, hiddenAt, ← read, div-one) refl)
+    hidden-own e = rw (slot-found s h i there, hiddenAt, ← read, div-one) (eq-eqb (w % 2) 1 e)
+
+    pub hidden-not : (w % 2 ≡ 1 → ⊥) → hiddenAt f x ≡ false
+    unfolding hiddenAt nodeIn bodyIn shapeIn
+    hidden-not e = rw (slot-found s h i there, hiddenAt, ← read, div-one) (ne-eqb (w % 2) 1 e)
 
     -- its own transform, or none
     pub direct-own : w / 32 % 2 ≡ 1 → directTransform f x ≡ transformIn s i
@@ -67,10 +70,10 @@ module _ (s : List ℕ) (h : Sound s) (i : ℕ) (there : i < slotsOf s) where
 
   -- ## By the parent's slot
 
-  -- a hidden node is hidden
-  pub hidden-own : hiddenAt f x ≡ true → isHidden f x ≡ true
+  -- a node that is hidden itself
+  pub hidden-here : hiddenAt f x ≡ true → isHidden f x ≡ true
   unfolding isHidden
-  hidden-own e = rw e refl
+  hidden-here e = rw e refl
 
   module _ (p : ℕ) (up : slotId s p ≡ parentAt (f .nodes) x) where
     top : slotsOf s ≤ p → ancestors f x ≡ []
