@@ -3,3 +3,8 @@ pub mod Boxes
 pub mod Walks
 pub mod Filters
 pub mod Answers
+pub mod ExampleTrees
+pub mod ExampleQuestions
+pub mod LinkCases
+pub mod FilterCases
+pub mod WalkCases
