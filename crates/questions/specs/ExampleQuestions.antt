@@ -20,16 +20,21 @@ use Rattle.questions.specs.Filters.{filterOf}
 -- ## Questions and answers
 
 pub data Question : Type 0 where
+  -- module 6: the parent, the children, the siblings on one side
   Parent : Question
   Children : Question
   Siblings : Side → Question
+  -- the inherited hidden flag, the transform, the bounding box
   IsHidden : Question
   Transform : Question
   BoxOf : Question
+  -- module 7: what a filter says of the node
   Filtered : Filter → Question
+  -- module 8, under a filter: the filtered parent, children, and siblings on one side
   FilteredParent : Filter → Question
   FilteredChildren : Filter → Question
   FilteredSiblings : Filter → Side → Question
+  -- the first and the last filtered child, and the deepest
   FirstFilteredChild : Filter → Question
   LastFilteredChild : Filter → Question
   DeepestFirstFilteredChild : Filter → Question

@@ -2,10 +2,11 @@
 -- Assumes nothing.
 use mathlib.Core.Bool.{false}
 use mathlib.Core.List.{List, [], _∷_}
-use Prim.Native.Nat.{ℕ, _+_, _^_}
+use Prim.Native.Nat.{ℕ, _+_}
 use lib.IntN.{pos}
 use lib.Ieee.{Float, neg, ofInt, binary64}
 use Rattle.ids.specs.Ids.{ROOT}
+use Rattle.ids.specs.declared.NodeId.{NodeId}
 use Rattle.geometry.specs.declared.Rect.{Rect}
 use Rattle.geometry.specs.declared.Affine.{Affine}
 use Rattle.geometry_box.specs.Boxes.{nought, one}
@@ -18,12 +19,12 @@ use Rattle.state.specs.ExampleStates.{id, root, under, tree, state}
 
 -- ## Numbers, bounds and transforms
 
--- n and -n in f64; `less 0` is -0
-abbrev pub plus : ℕ → Float
-plus n = ofInt binary64 (pos n)
+-- n and -n in f64; `negative 0` is -0
+abbrev pub whole : ℕ → Float
+whole n = ofInt binary64 (pos n)
 
-abbrev pub less : ℕ → Float
-less n = neg (plus n)
+abbrev pub negative : ℕ → Float
+negative n = neg (whole n)
 
 -- bounds from (x0, y0) to (x1, y1)
 abbrev pub rect : Float → Float → Float → Float → Rect
@@ -31,12 +32,13 @@ rect x0 y0 x1 y1 = record { x0 = x0; y0 = y0; x1 = x1; y1 = y1 }
 
 -- a box between whole numbers
 abbrev pub wholeBox : ℕ → ℕ → ℕ → ℕ → BoundingBox
-wholeBox x0 y0 x1 y1 = Box (plus x0) (plus y0) (plus x1) (plus y1)
+wholeBox x0 y0 x1 y1 = Box (whole x0) (whole y0) (whole x1) (whole y1)
 
 -- x goes to a·x + c·y + e, y to b·x + d·y + f
 abbrev pub sends : Float → Float → Float → Float → Float → Float → Affine
 sends a b c d e f = record { a = a; b = b; c = c; d = d; e = e; f = f }
 
+-- a shift by (e, f), and a scale by k
 abbrev pub shift : Float → Float → Affine
 shift e f = sends one nought nought one e f
 
@@ -49,31 +51,22 @@ quarter = sends nought one (neg one) nought nought nought
 
 -- ## Nodes
 
--- with another role
-abbrev pub ofRole : ℕ → NodeData → NodeData
-ofRole r d = record {
-  activeDescendant = d .activeDescendant;
+-- d with this role, the flags of this weight besides, which were clear, and these fields
+abbrev pub altered : NodeData → ℕ → ℕ → NodeId → Rect → Affine → NodeData
+altered d role weight active bounds transform = record {
+  activeDescendant = active;
   graft = d .graft;
   children = d .children;
   label = d .label;
-  role = r;
-  flags = d .flags;
-  bounds = d .bounds;
-  transform = d .transform;
+  role = role;
+  flags = d .flags + weight;
+  bounds = bounds;
+  transform = transform;
 }
 
--- with the flag of this weight, which was clear
-abbrev pub flagged : ℕ → NodeData → NodeData
-flagged weight d = record {
-  activeDescendant = d .activeDescendant;
-  graft = d .graft;
-  children = d .children;
-  label = d .label;
-  role = d .role;
-  flags = d .flags + weight;
-  bounds = d .bounds;
-  transform = d .transform;
-}
+-- with another role
+abbrev pub ofRole : ℕ → NodeData → NodeData
+ofRole r d = altered d r 0 (d .activeDescendant) (d .bounds) (d .transform)
 
 -- a GenericContainer and a TextRun, with these children
 abbrev pub container : List ℕ → NodeData
@@ -81,6 +74,10 @@ container cs = ofRole 0 (parent cs)
 
 abbrev pub textRun : List ℕ → NodeData
 textRun cs = ofRole 1 (parent cs)
+
+-- with a flag besides
+abbrev pub flagged : ℕ → NodeData → NodeData
+flagged weight d = altered d (d .role) weight (d .activeDescendant) (d .bounds) (d .transform)
 
 -- hidden; clipping its children
 abbrev pub hides : NodeData → NodeData
@@ -91,46 +88,19 @@ clips d = flagged 2 d
 
 -- with an active descendant
 abbrev pub activates : ℕ → NodeData → NodeData
-activates n d = record {
-  activeDescendant = node n;
-  graft = d .graft;
-  children = d .children;
-  label = d .label;
-  role = d .role;
-  flags = d .flags + 4;
-  bounds = d .bounds;
-  transform = d .transform;
-}
+activates n d = altered d (d .role) 4 (node n) (d .bounds) (d .transform)
 
 -- with bounds
 abbrev pub bounded : Rect → NodeData → NodeData
-bounded r d = record {
-  activeDescendant = d .activeDescendant;
-  graft = d .graft;
-  children = d .children;
-  label = d .label;
-  role = d .role;
-  flags = d .flags + 16;
-  bounds = r;
-  transform = d .transform;
-}
+bounded r d = altered d (d .role) 16 (d .activeDescendant) r (d .transform)
 
 -- with a transform
 abbrev pub moved : Affine → NodeData → NodeData
-moved t d = record {
-  activeDescendant = d .activeDescendant;
-  graft = d .graft;
-  children = d .children;
-  label = d .label;
-  role = d .role;
-  flags = d .flags + 32;
-  bounds = d .bounds;
-  transform = t;
-}
+moved t d = altered d (d .role) 32 (d .activeDescendant) (d .bounds) t
 
 -- bounds between whole numbers
 abbrev pub spans : ℕ → ℕ → ℕ → ℕ → NodeData → NodeData
-spans x0 y0 x1 y1 d = bounded (rect (plus x0) (plus y0) (plus x1) (plus y1)) d
+spans x0 y0 x1 y1 d = bounded (rect (whole x0) (whole y0) (whole x1) (whole y1)) d
 
 -- bounds of 10 by 10 at (0, 0), and apart from these at (20, 0)
 abbrev pub inside : NodeData → NodeData

@@ -7,7 +7,7 @@ use Rattle.record.specs.ExampleNodes.{T, parent, leaf, grafts}
 use Rattle.state.specs.ExampleStates.{id, root, under, tree, state}
 use Rattle.questions.specs.declared.FilterResult.the-variants.{Include, ExcludeNode, ExcludeSubtree}
 use Rattle.questions.specs.declared.Filter.the-variants.{Common, WithRootException, WithoutParentChecks}
-use Rattle.questions.specs.ExampleTrees.{plus, rect, shift, container, textRun, hides, clips, activates, bounded, spans, moved, inside, outside, window, below, alone, unfocused, buttons, clippedAway}
+use Rattle.questions.specs.ExampleTrees.{whole, rect, shift, container, textRun, hides, clips, activates, bounded, spans, moved, inside, outside, window, below, alone, unfocused, buttons, clippedAway}
 use Rattle.questions.specs.ExampleQuestions.{Filtered, result, _asked_says_, Worked}
 
 -- ## Focused, hidden, transparent
@@ -307,7 +307,7 @@ clippedPane = record {
   state =
       state
       (root 0 1 (window (2 ∷ []))
-      ∷ below 1 0 2 (moved (shift (plus 20) (plus 0)) (grafts T))
+      ∷ below 1 0 2 (moved (shift (whole 20) (whole 0)) (grafts T))
       ∷ under (id 0 2) 0 (id 1 1) (inside leaf)
       ∷ [])
       (tree ROOT 1 1 ∷ tree T 1 1 ∷ []);
@@ -339,8 +339,8 @@ unfoldable pub notANumber : Worked
 notANumber = record {
   state =
       alone 1
-      (root 0 1 (clips (bounded (rect (neg huge) (plus 0) huge (plus 1)) (parent (2 ∷ []))))
-      ∷ below 1 0 2 (bounded (rect (neg huge) (plus 0) huge (plus 0)) leaf)
+      (root 0 1 (clips (bounded (rect (neg huge) (whole 0) huge (whole 1)) (parent (2 ∷ []))))
+      ∷ below 1 0 2 (bounded (rect (neg huge) (whole 0) huge (whole 0)) leaf)
       ∷ []);
   cases =
       -- an infinite width times a height of 0 is not a number, and not empty

@@ -2,7 +2,7 @@
 -- "Modules", "The update" (a graft's only child) and "Boxes". Assumes nothing.
 use mathlib.Core.Bool.{true, false}
 use mathlib.Core.List.{List, [], _∷_}
-use Prim.Native.Nat.{_^_}
+use Prim.Native.Nat.{_*_, _^_}
 use lib.Ieee.{inf}
 use Rattle.ids.specs.Ids.{ROOT}
 use Rattle.geometry_box.specs.Boxes.{nought}
@@ -10,7 +10,7 @@ use Rattle.geometry_box.specs.declared.BoundingBox.the-variants.{Box, None}
 use Rattle.record.specs.ExampleNodes.{T, U, parent, leaf, grafts}
 use Rattle.state.specs.ExampleStates.{id, root, under, tree, state}
 use Rattle.questions.specs.declared.Side.the-variants.{Following, Preceding}
-use Rattle.questions.specs.ExampleTrees.{plus, less, rect, wholeBox, sends, shift, scale, quarter, hides, bounded, spans, moved, below, alone}
+use Rattle.questions.specs.ExampleTrees.{whole, negative, rect, wholeBox, sends, shift, scale, quarter, hides, bounded, spans, moved, below, alone}
 use Rattle.questions.specs.ExampleQuestions.{Parent, Children, Siblings, IsHidden, Transform, BoxOf, many, flag, affine, box, is, nothing, _asked_says_, Worked}
 
 -- ## Links
@@ -87,24 +87,24 @@ hiddenAbove = record {
 
 -- ## Transforms
 
--- 1 doubles, 2 shifts by (3, 5), 3 turns by 90 degrees
+-- 1 trebles, 2 shifts by (3, 5), 3 turns by 90 degrees
 unfoldable pub twoLevels : Worked
 twoLevels = record {
   state =
       alone 1
-      (root 0 1 (moved (scale (plus 2)) (parent (2 ∷ [])))
-      ∷ below 1 0 2 (moved (shift (plus 3) (plus 5)) (parent (3 ∷ [])))
+      (root 0 1 (moved (scale (whole 3)) (parent (2 ∷ [])))
+      ∷ below 1 0 2 (moved (shift (whole 3) (whole 5)) (parent (3 ∷ [])))
       ∷ below 2 0 3 (moved quarter (spans 0 0 2 1 leaf))
       ∷ []);
   cases =
       -- the root's own
-      id 0 1 asked Transform says affine (scale (plus 2))
-      -- the parent's on the left: x goes to x + 3, then to 2x + 6; the other way round it would be 2x + 3
-      ∷ id 0 2 asked Transform says affine (sends (plus 2) (plus 0) (plus 0) (plus 2) (plus 6) (plus 10))
-      -- (x, y) goes to (-y, x), then to (3 - y, x + 5), then to (6 - 2y, 2x + 10)
-      ∷ id 0 3 asked Transform says affine (sends (plus 0) (plus 2) (less 2) (plus 0) (plus 6) (plus 10))
-      -- so (0, 0), (0, 1), (2, 0), (2, 1) go to (6, 10), (4, 10), (6, 14), (4, 14)
-      ∷ id 0 3 asked BoxOf says box (wholeBox 4 10 6 14)
+      id 0 1 asked Transform says affine (scale (whole 3))
+      -- the parent's on the left: x goes to x + 3, then to 3x + 9; the other way round it would be 3x + 3
+      ∷ id 0 2 asked Transform says affine (sends (whole 3) (whole 0) (whole 0) (whole 3) (whole 9) (whole 15))
+      -- (x, y) goes to (-y, x), then to (3 - y, x + 5), then to (9 - 3y, 3x + 15)
+      ∷ id 0 3 asked Transform says affine (sends (whole 0) (whole 3) (negative 3) (whole 0) (whole 9) (whole 15))
+      -- so (0, 0), (0, 1), (2, 0), (2, 1) go to (9, 15), (6, 15), (9, 21), (6, 21)
+      ∷ id 0 3 asked BoxOf says box (wholeBox 6 15 9 21)
       -- no bounds: no box
       ∷ id 0 2 asked BoxOf says box None
       ∷ [];
@@ -115,14 +115,14 @@ unfoldable pub throughGraft : Worked
 throughGraft = record {
   state =
       state
-      (root 0 1 (moved (shift (plus 1) (plus 2)) (parent (2 ∷ [])))
-      ∷ below 1 0 2 (moved (scale (plus 2)) (grafts T))
-      ∷ under (id 0 2) 0 (id 1 1) (moved (shift (plus 10) (plus 20)) (spans 0 0 1 1 leaf))
+      (root 0 1 (moved (shift (whole 1) (whole 2)) (parent (2 ∷ [])))
+      ∷ below 1 0 2 (moved (scale (whole 2)) (grafts T))
+      ∷ under (id 0 2) 0 (id 1 1) (moved (shift (whole 10) (whole 20)) (spans 0 0 1 1 leaf))
       ∷ [])
       (tree ROOT 1 1 ∷ tree T 1 1 ∷ []);
   cases =
       -- the parents go on through the graft: x goes to x + 10, to 2x + 20, to 2x + 21
-      id 1 1 asked Transform says affine (sends (plus 2) (plus 0) (plus 0) (plus 2) (plus 21) (plus 42))
+      id 1 1 asked Transform says affine (sends (whole 2) (whole 0) (whole 0) (whole 2) (whole 21) (whole 42))
       -- 0 and 1 go to 21 and 23, and to 42 and 44
       ∷ id 1 1 asked BoxOf says box (wholeBox 21 42 23 44)
       ∷ [];
@@ -136,7 +136,7 @@ turnedRoot = record {
   state = alone 1 (root 0 1 (moved quarter (spans 0 0 2 1 leaf)) ∷ []);
   cases =
       -- (0, 0), (0, 1), (2, 0), (2, 1) go to (0, 0), (-1, 0), (0, 2), (-1, 2)
-      id 0 1 asked BoxOf says box (Box (less 1) (plus 0) (plus 0) (plus 2))
+      id 0 1 asked BoxOf says box (Box (negative 1) (whole 0) (whole 0) (whole 2))
       ∷ [];
 }
 
@@ -158,23 +158,23 @@ plainBoxes = record {
       -- the least and greatest of the four corners
       ∷ id 0 4 asked BoxOf says box (wholeBox 3 0 5 2)
       -- where no node has a transform, it is the identity
-      ∷ id 0 2 asked Transform says affine (scale (plus 1))
+      ∷ id 0 2 asked Transform says affine (scale (whole 1))
       ∷ [];
 }
 
--- 1, 2 and 3 scale by 2 ^ 400 each
+-- 1, 2 and 3 scale by 3 · 2 ^ 400 each
 unfoldable pub overflowing : Worked
 overflowing = record {
   state =
       alone 1
-      (root 0 1 (moved (scale (plus (2 ^ 400))) (parent (2 ∷ [])))
-      ∷ below 1 0 2 (moved (scale (plus (2 ^ 400))) (spans 0 0 1 1 (parent (3 ∷ []))))
-      ∷ below 2 0 3 (moved (scale (plus (2 ^ 400))) (spans 0 0 1 1 leaf))
+      (root 0 1 (moved (scale (whole (3 * 2 ^ 400))) (parent (2 ∷ [])))
+      ∷ below 1 0 2 (moved (scale (whole (3 * 2 ^ 400))) (spans 0 0 1 1 (parent (3 ∷ []))))
+      ∷ below 2 0 3 (moved (scale (whole (3 * 2 ^ 400))) (spans 0 0 1 1 leaf))
       ∷ []);
   cases =
-      -- 2 ^ 800 is an f64
-      id 0 2 asked BoxOf says box (wholeBox 0 0 (2 ^ 800) (2 ^ 800))
-      -- 2 ^ 1200 is past the greatest: a number on the way is not finite
+      -- 9 · 2 ^ 800 is an f64
+      id 0 2 asked BoxOf says box (wholeBox 0 0 (9 * 2 ^ 800) (9 * 2 ^ 800))
+      -- 27 · 2 ^ 1200 is past the greatest: a number on the way is not finite
       ∷ id 0 3 asked BoxOf says box None
       -- the transform itself is what the products give
       ∷ id 0 3 asked Transform says affine (scale (inf false))
@@ -186,17 +186,17 @@ unfoldable pub minusZero : Worked
 minusZero = record {
   state =
       alone 1
-      (root 0 1 (moved (shift (less 0) (less 0)) (bounded (rect (less 0) (less 0) (less 0) (less 0)) (parent (2 ∷ 3 ∷ []))))
-      ∷ below 1 0 2 (moved (shift (less 0) (less 0)) (bounded (rect (less 0) (less 0) (plus 1) (less 0)) leaf))
+      (root 0 1 (moved (shift (negative 0) (negative 0)) (bounded (rect (negative 0) (negative 0) (negative 0) (negative 0)) (parent (2 ∷ 3 ∷ []))))
+      ∷ below 1 0 2 (moved (shift (negative 0) (negative 0)) (bounded (rect (negative 0) (negative 0) (whole 1) (negative 0)) leaf))
       ∷ below 1 1 3 (parent (4 ∷ []))
-      ∷ below 3 0 4 (moved (shift (less 0) (less 0)) leaf)
+      ∷ below 3 0 4 (moved (shift (negative 0) (negative 0)) leaf)
       ∷ []);
   cases =
       -- 1·-0 + 0·-0 + -0 is -0; a zero in the box is handed out as +0
       id 0 1 asked BoxOf says box (Box nought nought nought nought)
-      ∷ id 0 2 asked BoxOf says box (Box nought nought (plus 1) nought)
+      ∷ id 0 2 asked BoxOf says box (Box nought nought (whole 1) nought)
       -- in a transform it stays: 1·-0 + 0·-0 + -0 is -0
-      ∷ id 0 2 asked Transform says affine (shift (less 0) (less 0))
+      ∷ id 0 2 asked Transform says affine (shift (negative 0) (negative 0))
       -- the identity of 3 is multiplied too: 1·-0 + 0·-0 + 0 is +0, and so it stays
       ∷ id 0 4 asked Transform says affine (shift nought nought)
       ∷ [];
