@@ -1,13 +1,13 @@
 -- Laws of answers: which number a question answers, what it answers after 0 and after another number, and a slice that is written element by
 -- element. Assumes nothing.
 use mathlib.Core.Bool.{true, false, not}
-use mathlib.Core.List.{List, [], _∷_, _++_}
+use mathlib.Core.List.{List, [], _∷_}
 use mathlib.Core.Path.{_≡_, refl, sym, ap, _∙_}
 use Prim.Native.Nat.{ℕ, zero, suc, _+_, _≤_, _<_}
 use native.Mathlib.Numerals.{add-one}
 use native.Mathlib.Omega.{arith}
 use lib.Dec.{ltb}
-use lib.ListN.{length, drop, set, length-append, length-drop}
+use lib.ListN.{length, set, length-append, length-drop}
 use lib.Seq.{drop-cons, append-snoc, set-at}
 use borrow.Author.Tests.{lt-ltb, le-ltb}
 use Rattle.base.specs.Tests.{_&&_}
