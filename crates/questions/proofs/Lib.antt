@@ -9,3 +9,4 @@ pub mod Ahead
 pub mod Shown
 pub mod Deepest
 pub mod Exact
+pub mod Answers
