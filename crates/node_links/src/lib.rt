@@ -180,7 +180,7 @@ fn hidden_up(state: &State, i: usize, room: usize) -> bool
 }
 
 // The node's own hidden flag.
-fn hidden_at(state: &State, i: usize) -> bool
+pub fn hidden_at(state: &State, i: usize) -> bool
     ensures { λ r. ⌜ OfSlot (now (state .entry)) i (λ f x. r ≡ hiddenAt f x) ⌝ }
 {
     state_array::word_at(state, state_array::FLAGS, i) % 2 == 1

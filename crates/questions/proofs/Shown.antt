@@ -1,9 +1,8 @@
 -- What is still to be listed of a walk, and how each step of it changes that. Assumes nothing.
 use mathlib.Core.Bool.{Bool, true, false}
-use mathlib.Core.List.{List, [], _∷_, _++_, reverse, flatMap, head?}
-use mathlib.Core.Option.{Option, none, some}
+use mathlib.Core.List.{List, [], _∷_, _++_, reverse, flatMap}
 use mathlib.Core.Path.{_≡_, refl, sym, ap, _∙_}
-use Prim.Native.Nat.{ℕ, zero, suc, _+_, _≤_, _<_}
+use Prim.Native.Nat.{ℕ, zero, suc, _<_}
 use native.Mathlib.Omega.{arith}
 use lib.ListN.{length, length-append, take}
 use Rattle.base.specs.Tests.{if_then_else_}
@@ -15,7 +14,7 @@ use Rattle.questions.specs.declared.Side.the-variants.{Following, Preced
 use Rattle.questions.specs.declared.FilterResult.{FilterResult}
 use Rattle.questions.specs.declared.FilterResult.the-variants.{Include, ExcludeNode, ExcludeSubtree}
 use Rattle.questions.specs.Links.{childIds, siblings, ancestors}
-use Rattle.questions.specs.Walks.{turned, leading, shownWithin, shown, filteredChildren, lastFilteredChild, isExcludedNode, climbed}
+use Rattle.questions.specs.Walks.{turned, leading, shownWithin, shown, filteredChildren, isExcludedNode, climbed}
 use Rattle.questions.specs.Ahead.{ahead}
 use Rattle.questions.proofs.Flat.{flat-append, flat-cong, flat-reverse}
 use Rattle.questions.proofs.Walks.{gather, gather-step, turned-member, shown-include, shown-node, shown-subtree}
