@@ -36,12 +36,12 @@ unfolding isHidden
 clear-unhidden f x e = or-false (hiddenAt f x) e
 
 -- by the flag that is asked: focused, then hidden, then transparent
-abbrev byFlag : State → FullNodeId → Bool → FilterResult
+unfoldable pub byFlag : State → FullNodeId → Bool → FilterResult
 byFlag v x flag =
     if isFocused v x then Include else if flag then ExcludeSubtree else if isTransparent (v .forest) x then ExcludeNode else Include
 
-checks-by-flag : (v : State) (x : FullNodeId) → withoutParentChecks v x ≡ byFlag v x (isHidden (v .forest) x)
-unfolding withoutParentChecks commonFilterBase
+pub checks-by-flag : (v : State) (x : FullNodeId) → withoutParentChecks v x ≡ byFlag v x (isHidden (v .forest) x)
+unfolding withoutParentChecks commonFilterBase byFlag
 checks-by-flag v x = go (isFocused v x) (isHidden (v .forest) x) (isTransparent (v .forest) x)
   where
     orInclude : Option FilterResult → FilterResult
@@ -73,14 +73,18 @@ ancestors-cons f h x p up e = go (linkAt (f .nodes) x) refl
         let above : ancestors f (l .parent) ≡ up = cc in
         record { link = l; linked = q; parent-is = parent-is; above = rw (← parent-is) above }
 
+pub own-by-flag : (v : State) (x : FullNodeId) → ownFilter v x ≡ byFlag v x (hiddenAt (v .forest) x)
+unfolding ownFilter byFlag
+own-by-flag v x = refl
+
 module _ (v : State) where
   abbrev f : Forest
   f = v .forest
 
   -- the two filters agree
   pub own-filter : (x : FullNodeId) → Clear f x → withoutParentChecks v x ≡ ownFilter v x
-  unfolding ownFilter isHidden
-  own-filter x clear = checks-by-flag v x ∙ ap (byFlag v x) (ap (λ (b : Bool). hiddenAt f x || b) clear ∙ nothing (hiddenAt f x))
+  unfolding isHidden
+  own-filter x clear = checks-by-flag v x ∙ ap (byFlag v x) (ap (λ (b : Bool). hiddenAt f x || b) clear ∙ nothing (hiddenAt f x)) ∙ sym (own-by-flag v x)
     where
       nothing : (b : Bool) → (b || false) ≡ b
       nothing true = refl

@@ -1,10 +1,61 @@
-// Module 7 over the state in memory, a node by its slot: what `common_filter` asks of a node and of its neighbours. The slot of the focused
-// node is worked out once for a question and handed on.
+// Module 7 over the state in memory, a node by its slot: what `common_filter` asks of a node, of its ancestors and of its neighbours. The slot
+// of the focused node is worked out once for a question and handed on.
+ghost use mathlib.Core.Bool.{false};
+ghost use mathlib.Core.List.{head?, flatMap};
 ghost use mathlib.Core.Path.{_≡_};
+ghost use Prim.Native.Nat.{_<_};
+ghost use Rattle.state_array.specs.View.{slotsOf, idIn, view};
+ghost use Rattle.questions.specs.Ahead.{ahead};
+ghost use Rattle.questions.specs.Filters.{activeDescendantAt, isTransparent, withoutParentChecks};
+ghost use Rattle.questions.specs.Links.{isHidden};
+ghost use Rattle.questions.specs.Walks.{shown};
 ghost use Rattle.node_links.specs.Slots.{Sound, slotId, OfSlot};
-ghost use Rattle.filters_plain.specs.Plain.{Focused, ownFilter};
-ghost use Rattle.questions.specs.Filters.{isTransparent};
+ghost use Rattle.iterators_steps.specs.Places.{metFrom};
+ghost use Rattle.filters_plain.specs.Plain.{Focused, ownFilter, Above, listedFrom};
+use ids::FullNodeId;
+use iterators_steps::Place;
+use questions::FilterResult;
+use questions::Side;
 use state_array::State;
+use state_focus::FoundNode;
+
+// The slot of the node that is focused for the filters; past the last slot where none is.
+pub fn focused_slot(state: &State) -> usize
+    ensures { λ r. ⌜ (Sound (now (state .entry)) → Focused (now (state .entry)) r) ⌝ }
+{
+    let n = state_array::slots(state);
+    if state_array::host(state) == 0 {
+        return n;
+    }
+    let FoundNode::At(x) = state_focus::effective_focus(state) else {
+        return n;
+    };
+    let i = state_lookup::slot_of(state, x);
+    let a = active_descendant_slot(state, i);
+    if n <= a {
+        return i;
+    }
+    if a == i {
+        return n;
+    }
+    a
+}
+
+// The slot of the active descendant, looked up in the same tree, if present.
+fn active_descendant_slot(state: &State, i: usize) -> usize
+    ensures { λ r. ⌜ OfSlot (now (state .entry)) i (λ f x. slotId (now (state .entry)) r ≡ activeDescendantAt (f .nodes) x) ⌝ }
+{
+    if state_array::word_at(state, state_array::FLAGS, i) / 4 % 2 != 1 {
+        return state_array::slots(state);
+    }
+    let x = state_array::id_at(state, i);
+    let tree = x.tree;
+    let y = FullNodeId {
+        tree,
+        node: state_array::active_descendant_at(state, i),
+    };
+    state_lookup::slot_near(state, i, y)
+}
 
 // Whether its children stand in its place: a graft, a GenericContainer or a TextRun.
 pub fn is_transparent(state: &State, i: usize) -> bool
@@ -13,4 +64,38 @@ pub fn is_transparent(state: &State, i: usize) -> bool
     let flags = state_array::word_at(state, state_array::FLAGS, i);
     let role = state_array::role_at(state, i);
     state_array::is_graft(flags) | (role == 0) | (role == 1)
+}
+
+// `common_filter_without_parent_checks` of a node none of whose ancestors is hidden.
+pub fn own_filter_at(state: &State, focused: usize, i: usize) -> FilterResult
+    requires { ⌜ Focused (now state) focused ⌝ }
+    ensures { λ r. ⌜ OfSlot (now (state .entry)) i (λ f x. r ≡ ownFilter (view (now (state .entry))) x) ⌝ }
+{
+    if i == focused {
+        return FilterResult::Include;
+    }
+    if node_links::hidden_at(state, i) {
+        return FilterResult::ExcludeSubtree;
+    }
+    if is_transparent(state, i) {
+        return FilterResult::ExcludeNode;
+    }
+    FilterResult::Include
+}
+
+// `common_filter_without_parent_checks`
+pub fn without_parent_checks_at(state: &State, focused: usize, i: usize) -> FilterResult
+    requires { ⌜ Focused (now state) focused ⌝ }
+    ensures { λ r. ⌜ OfSlot (now (state .entry)) i (λ f x. r ≡ withoutParentChecks (view (now (state .entry))) x) ⌝ }
+{
+    if i == focused {
+        return FilterResult::Include;
+    }
+    if node_links::is_hidden(state, i) {
+        return FilterResult::ExcludeSubtree;
+    }
+    if is_transparent(state, i) {
+        return FilterResult::ExcludeNode;
+    }
+    FilterResult::Include
 }
