@@ -1,3 +1,5 @@
 pub mod Own
 pub mod Focus
 pub mod Rows
+pub mod Above
+pub mod Listed

@@ -1,6 +1,6 @@
 -- Where no ancestor of a node is hidden, the filter without parent checks asks the node's own hidden flag alone, and so it is for all that
 -- stands for the node and for what is ahead of it. Assumes nothing.
-use mathlib.Core.Bool.{Bool, true, false, _||_, false≢true}
+use mathlib.Core.Bool.{Bool, true, false, _||_, true≢false, false≢true}
 use mathlib.Core.List.{List, [], _∷_, _++_, flatMap, List·Memᴰ, List·Memᴰ·head, List·Memᴰ·tail, List·Memᴰ·not-nil, nil≢cons}
 use mathlib.Core.Option.{Option, none, some}
 use mathlib.Core.Path.{_≡_, refl, sym, ap, _∙_}
@@ -24,7 +24,7 @@ use Rattle.questions.proofs.Links.{member-child, ancestors-step, ancestors-end}
 use Rattle.questions.proofs.Flat.{flat-cong, flat-member, member-reverse}
 use Rattle.questions.proofs.Walks.{turned-member}
 use Rattle.questions.proofs.Ahead.{siblings-of, siblings-none}
-use Rattle.filters_plain.specs.Plain.{ownFilter}
+use Rattle.filters_plain.specs.Plain.{ownFilter, isInclude}
 
 -- no ancestor is hidden
 abbrev pub Clear : Forest → FullNodeId → Type 0
@@ -104,6 +104,17 @@ module _ (v : State) where
       go true b c e = absurd (false≢true (ap number e))
       go false true c e = absurd (false≢true (ap number e))
       go false false c e = refl
+
+  -- of a node that is not hidden: included, or its children stand in its place
+  pub own-included : (x : FullNodeId) → hiddenAt f x ≡ false → isInclude (ownFilter v x) ≡ false → ownFilter v x ≡ ExcludeNode
+  unfolding ownFilter isInclude
+  own-included x own e = go (isFocused v x) (isTransparent f x) (rw own at e)
+    where
+      go : (a c : Bool) → isInclude (if a then Include else if c then ExcludeNode else Include) ≡ false
+          → (if a then Include else if hiddenAt f x then ExcludeSubtree else if c then ExcludeNode else Include) ≡ ExcludeNode
+      go true c e = absurd (true≢false e)
+      go false true e = rw own refl
+      go false false e = absurd (true≢false e)
 
   module _ (h : Shape f) where
     -- a child of a node that is not hidden, and that no ancestor of is

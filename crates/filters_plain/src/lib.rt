@@ -11,7 +11,7 @@ ghost use Rattle.questions.specs.Links.{isHidden};
 ghost use Rattle.questions.specs.Walks.{shown};
 ghost use Rattle.node_links.specs.Slots.{Sound, slotId, OfSlot};
 ghost use Rattle.iterators_steps.specs.Places.{metFrom};
-ghost use Rattle.filters_plain.specs.Plain.{Focused, ownFilter, Above, listedFrom};
+ghost use Rattle.filters_plain.specs.Plain.{Focused, ownFilter, Above, Lists, unlisted, shownAhead, isInclude};
 use ids::FullNodeId;
 use iterators_steps::Place;
 use questions::FilterResult;
@@ -98,4 +98,78 @@ pub fn without_parent_checks_at(state: &State, focused: usize, i: usize) -> Filt
         return FilterResult::ExcludeNode;
     }
     FilterResult::Include
+}
+
+// The filtered parent of a node that is not hidden, and how many ancestors before it are passed over; past the last slot where there is none.
+// No ancestor of such a node is hidden.
+pub fn included_above(state: &State, focused: usize, i: usize) -> Place
+    requires { ⌜ Sound (now state) ⌝ }
+    requires { ⌜ Focused (now state) focused ⌝ }
+    ensures { λ r. ⌜ OfSlot (now (state .entry)) i (λ f x. (isHidden f x ≡ false → Above (withoutParentChecks (view (now (state .entry)))) (now (state .entry)) x r)) ⌝ }
+{
+    let n = state_array::slots(state);
+    let mut p = node_links::parent_slot(state, i);
+    let mut level = 0usize;
+    while p < n {
+        if is_include(own_filter_at(state, focused, p)) {
+            return Place { slot: p, level };
+        }
+        p = node_links::parent_slot(state, p);
+        level += 1;
+    }
+    Place { slot: n, level }
+}
+
+// From where a walk stands to the first node that is listed.
+pub fn shown_from(state: &State, focused: usize, side: Side, at: Place) -> Place
+    requires { ⌜ Sound (now state) ⌝ }
+    requires { ⌜ Focused (now state) focused ⌝ }
+    ensures { λ r. ⌜ Lists (ownFilter (view (now (state .entry)))) side (now (state .entry)) at r ⌝ }
+{
+    let n = state_array::slots(state);
+    let mut here = at;
+    loop {
+        let i = here.slot;
+        if n <= i {
+            return here;
+        }
+        let result = own_filter_at(state, focused, i);
+        if is_include(result) {
+            return here;
+        }
+        here = unlisted(state, side, here, result);
+    }
+}
+
+// The nearest node that is listed of what is ahead of a node on one side.
+pub fn neighbour(state: &State, focused: usize, side: Side, at: Place) -> usize
+    requires { ⌜ Sound (now state) ⌝ }
+    requires { ⌜ Focused (now state) focused ⌝ }
+    ensures { λ r. ⌜ OfSlot (now (state .entry)) (at .slot) (λ f x. slotId (now (state .entry)) r ≡ head? (shownAhead (view (now (state .entry))) side (at .level) x)) ⌝ }
+{
+    let next = iterators_steps::after(state, side, at);
+    let found = shown_from(state, focused, side, next);
+    found.slot
+}
+
+// Where a walk goes on from a node that is not listed: into it for ExcludeNode, else past it.
+fn unlisted(state: &State, side: Side, at: Place, result: FilterResult) -> Place
+    ensures { λ r. ⌜ OfSlot (now (state .entry)) (at .slot) (λ f x. metFrom side (now (state .entry)) r ≡ unlisted side f (at .level) x result) ⌝ }
+{
+    match result {
+        FilterResult::Include => iterators_steps::after(state, side, at),
+        FilterResult::ExcludeNode => iterators_steps::into(state, side, at),
+        FilterResult::ExcludeSubtree => iterators_steps::after(state, side, at),
+    }
+}
+
+// Whether the node is listed.
+pub fn is_include(result: FilterResult) -> bool
+    ensures { λ r. ⌜ r ≡ isInclude result ⌝ }
+{
+    match result {
+        FilterResult::Include => true,
+        FilterResult::ExcludeNode => false,
+        FilterResult::ExcludeSubtree => false,
+    }
 }
