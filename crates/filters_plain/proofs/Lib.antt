@@ -3,3 +3,4 @@ pub mod Focus
 pub mod Rows
 pub mod Above
 pub mod Listed
+pub mod Neighbours
