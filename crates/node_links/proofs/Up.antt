@@ -76,10 +76,11 @@ module _ (s : List ℕ) (h : Sound s) (i : ℕ) (there : i < slotsOf s) where
   hidden-here e = rw e refl
 
   module _ (p : ℕ) (up : slotId s p ≡ parentAt (f .nodes) x) where
-    top : slotsOf s ≤ p → ancestors f x ≡ []
+    -- the ancestors
+    pub top : slotsOf s ≤ p → ancestors f x ≡ []
     top m = ancestors-end f (slot-shape s h) x (unlinked s h i there p up m)
 
-    more : p < slotsOf s → ancestors f x ≡ idIn s p ∷ ancestors f (idIn s p)
+    pub more : p < slotsOf s → ancestors f x ≡ idIn s p ∷ ancestors f (idIn s p)
     more m = ancestors-step f (slot-shape s h) x _ (linked s h i there p up m)
 
     -- the parent has one ancestor less

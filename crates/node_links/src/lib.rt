@@ -180,6 +180,13 @@ fn hidden_up(state: &State, i: usize, room: usize) -> bool
     hidden_up(state, p, room - 1)
 }
 
+// The node's own hidden flag.
+pub fn hidden_at(state: &State, i: usize) -> bool
+    ensures { λ r. ⌜ OfSlot (now (state .entry)) i (λ f x. r ≡ hiddenAt f x) ⌝ }
+{
+    state_array::word_at(state, state_array::FLAGS, i) % 2 == 1
+}
+
 // The bounding box: that of the node's bounds under its transform, if it has bounds.
 pub fn bounding_box(state: &State, i: usize) -> BoundingBox
     ensures { λ r. ⌜ OfSlot (now (state .entry)) i (λ f x. r ≡ boundingBox f x) ⌝ }
