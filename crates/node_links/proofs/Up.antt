@@ -1,10 +1,11 @@
 -- What a node has from its ancestors, one climb at a time: the hidden flag, the transform, the box. Assumes nothing.
 use mathlib.Core.Bool.{true, false}
 use mathlib.Core.List.{List, [], _∷_}
-use mathlib.Core.Path.{_≡_, refl, ap}
+use mathlib.Core.Path.{_≡_, refl, sym, ap}
 use Prim.Native.Nat.{ℕ, _-_, _/_, _%_, _≤_, _<_}
 use native.Mathlib.Nat.{div-one}
 use native.Mathlib.Omega.{arith}
+use lib.Dec.{eqb}
 use lib.ListN.{length}
 use borrow.Author.Tests.{eq-eqb, ne-eqb}
 use Rattle.base.proofs.Bytes.{length-list-of}
@@ -41,13 +42,9 @@ module _ (s : List ℕ) (h : Sound s) (i : ℕ) (there : i < slotsOf s) where
 
   module _ (w : ℕ) (read : w ≡ word s FLAGS i) where
     -- its own hidden flag
-    pub hidden-own : w % 2 ≡ 1 → hiddenAt f x ≡ true
+    pub hidden-is : eqb (w % 2) 1 ≡ hiddenAt f x
     unfolding hiddenAt nodeIn bodyIn shapeIn
-    hidden-own e = rw (slot-found s h i there, hiddenAt, ← read, div-one) (eq-eqb (w % 2) 1 e)
-
-    pub hidden-not : (w % 2 ≡ 1 → ⊥) → hiddenAt f x ≡ false
-    unfolding hiddenAt nodeIn bodyIn shapeIn
-    hidden-not e = rw (slot-found s h i there, hiddenAt, ← read, div-one) (ne-eqb (w % 2) 1 e)
+    hidden-is = sym (rw (slot-found s h i there, hiddenAt, ← read, div-one) refl)
 
     -- its own transform, or none
     pub direct-own : w / 32 % 2 ≡ 1 → directTransform f x ≡ transformIn s i
@@ -70,10 +67,10 @@ module _ (s : List ℕ) (h : Sound s) (i : ℕ) (there : i < slotsOf s) where
 
   -- ## By the parent's slot
 
-  -- a node that is hidden itself
-  pub hidden-here : hiddenAt f x ≡ true → isHidden f x ≡ true
+  -- a hidden node is hidden
+  pub hidden-own : hiddenAt f x ≡ true → isHidden f x ≡ true
   unfolding isHidden
-  hidden-here e = rw e refl
+  hidden-own e = rw e refl
 
   module _ (p : ℕ) (up : slotId s p ≡ parentAt (f .nodes) x) where
     -- the ancestors
