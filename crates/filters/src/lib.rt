@@ -61,7 +61,13 @@ pub fn filter_at(state: &State, focused: usize, filter: Filter, i: usize) -> Fil
 }
 
 // Whether the nearest filtered sibling on a side lies inside the parent's box.
-fn is_first_sibling_in_parent_bbox(state: &State, focused: usize, side: Side, at: Place, bbox: BoundingBox) -> bool
+fn is_first_sibling_in_parent_bbox(
+    state: &State,
+    focused: usize,
+    side: Side,
+    at: Place,
+    bbox: BoundingBox,
+) -> bool
     requires { ⌜ Sound (now state) ⌝ }
     requires { ⌜ Focused (now state) focused ⌝ }
     ensures { λ r. ⌜ OfSlot (now (state .entry)) (at .slot) (λ f x. r ≡ nearestInside (view (now (state .entry))) side (at .level) x bbox) ⌝ }
