@@ -1,11 +1,11 @@
--- `node::own::root` meets its contract: a law for each way out. Assumes nothing.
+-- `node::tree_state::found_root` meets its contract: a law for each way out. Assumes nothing.
 use denote.Ref.{now}
 use Rattle.state_array.specs.View.{view}
 use Rattle.state_focus.specs.Focus.{foundOf}
-use Rattle.node.proofs.Whole.{root-none, root-at}
+use Rattle.node.proofs.TreeState.{root-none, root-at}
 use borrow.Author.Needs.{needs}
-use Rattle.node.proofs.own.root.Statement.{statement}
-use Rattle.node.proofs.own.root.Tie as tie
+use Rattle.node.proofs.tree_state.found_root.Statement.{statement}
+use Rattle.node.proofs.tree_state.found_root.Tie as tie
 
 enum-told : tie.Need-enum-told
 enum-told c = search needs
@@ -20,5 +20,5 @@ returns-2 c =
     let t = c .before .before .before .before in
     root-at (view (now (t .before .args .state)) .forest) _ (t .tree-of .ensures) _ (c .before .before .e .given .1)
 
-pub root-spec : {M : Type 1} → statement M
-root-spec = tie.close (tie.spec (λ c κs. search needs) (λ c. search needs) enum-told returns returns-2)
+pub found-root-spec : {M : Type 1} → statement M
+found-root-spec = tie.close (tie.spec (λ c κs. search needs) (λ c. search needs) enum-told returns returns-2)

@@ -1,10 +1,10 @@
--- `node::own::tree_ends` meets its contract: a law for each way out. Assumes nothing.
+-- `node::tree_state::found_ends` meets its contract: a law for each way out. Assumes nothing.
 use denote.Ref.{now}
 use native.Mathlib.Omega.{arith}
-use Rattle.node.proofs.Whole.{no-ends, unborn-ends, ends-are}
+use Rattle.node.proofs.TreeState.{no-ends, unborn-ends, ends-are}
 use borrow.Author.Needs.{needs}
-use Rattle.node.proofs.own.tree_ends.Statement.{statement}
-use Rattle.node.proofs.own.tree_ends.Tie as tie
+use Rattle.node.proofs.tree_state.found_ends.Statement.{statement}
+use Rattle.node.proofs.tree_state.found_ends.Tie as tie
 
 returns : tie.Need-returns
 returns c =
@@ -25,5 +25,5 @@ returns-3 c =
     let a = n .before .before .args in
     ends-are (now (a .state)) (a .index) (omega (arith, n .trees .ensures)) _ (t .tree-at .ensures) (c .before .before .if2 .left)
 
-pub tree-ends-spec : {M : Type 1} → statement M
-tree-ends-spec = tie.close (tie.spec (λ c. search needs) (λ c κs. search needs) returns (λ c κs. search needs) returns-2 returns-3)
+pub found-ends-spec : {M : Type 1} → statement M
+found-ends-spec = tie.close (tie.spec (λ c. search needs) (λ c κs. search needs) returns (λ c κs. search needs) returns-2 returns-3)

@@ -1,13 +1,13 @@
--- `node::counts` meets its contract: a law for each way out. Assumes nothing.
+-- `node::tree_state::counts` meets its contract: a law for each way out. Assumes nothing.
 use denote.Ref.{now}
 use mathlib.Core.Path.{sym, _∙_}
 use Rattle.base.proofs.Tests.{call-false, call-true}
 use Rattle.base.proofs.Bytes.{length-list-of}
 use Rattle.state_array.specs.View.{nodeIn, entryIn, slotsOf, treesOf, view}
-use Rattle.node.proofs.Whole.{counts-unsound, counts-sound}
+use Rattle.node.proofs.TreeState.{counts-unsound, counts-sound}
 use borrow.Author.Needs.{needs}
-use Rattle.node.proofs.counts.Statement.{statement}
-use Rattle.node.proofs.counts.Tie as tie
+use Rattle.node.proofs.tree_state.counts.Statement.{statement}
+use Rattle.node.proofs.tree_state.counts.Tie as tie
 
 returns : tie.Need-returns
 returns c = counts-unsound (view (now (c .before .before .args .state))) (call-false (c .before .sound .ensures) (c .if1 .taken))

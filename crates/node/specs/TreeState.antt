@@ -3,51 +3,27 @@
 use mathlib.Core.Bool.{false}
 use mathlib.Core.List.{map}
 use mathlib.Core.Option.{Option, none, some}
-use Prim.Native.Nat.{ℕ}
 use lib.Dec.{ltb}
 use lib.ListN.{length, getElem?}
 use Rattle.base.specs.Tests.{if_then_else_, position}
 use Rattle.ids.specs.Ids.{sameTree}
 use Rattle.ids.specs.declared.TreeId.{TreeId}
 use Rattle.ids.specs.declared.TreeIndex.{TreeIndex}
-use Rattle.ids.specs.declared.FullNodeId.{FullNodeId}
 use Rattle.state.specs.State.{Forest, State, SubtreeState, subtreeState}
 use Rattle.state.specs.Down.{rootOf}
 use Rattle.state.specs.Focus.{stateFocus}
-use Rattle.state_lookup.specs.declared.FoundTree.{FoundTree}
 use Rattle.state_lookup.specs.declared.FoundTree.the-variants as ends
-use Rattle.state_focus.specs.declared.FoundNode.{FoundNode}
-use Rattle.state_focus.specs.declared.FoundNode.the-variants as node
 use Rattle.questions.specs.Answers.{stateNumber, after}
 use Rattle.node.specs.declared.OptionalTree.the-variants as tree
-use Rattle.node.specs.declared.OptionalIndex.{OptionalIndex}
 use Rattle.node.specs.declared.OptionalIndex.the-variants as index
 use Rattle.node.specs.declared.NodeAnswer.{NodeAnswer}
 use Rattle.node.specs.declared.TreeIdAnswer.{TreeIdAnswer}
 use Rattle.node.specs.declared.TreeIndexAnswer.{TreeIndexAnswer}
 use Rattle.node.specs.declared.TreeEndsAnswer.{TreeEndsAnswer}
 use Rattle.node.specs.declared.CountsAnswer.{CountsAnswer}
-use Rattle.node.specs.Reading.{optionalTree}
-
--- ## What may be missing, as the code has it
-
-unfoldable pub foundNode : Option FullNodeId → FoundNode
-foundNode none = node.Nothing
-foundNode (some x) = node.At x
-
-unfoldable pub foundTree : Option SubtreeState → FoundTree
-foundTree none = ends.Nothing
-foundTree (some u) = ends.At (record { root = u .root; focus = u .focus })
-
-unfoldable pub optionalIndex : Option TreeIndex → OptionalIndex
-optionalIndex none = index.None
-optionalIndex (some k) = index.Given k
+use Rattle.node.specs.Answers.{optionalTree, optionalIndex, foundTree, nodeAnswer}
 
 -- ## Nodes of the state
-
--- a number, and after 0 the node
-unfoldable pub nodeAnswer : ℕ → Option FullNodeId → NodeAnswer
-nodeAnswer k o = record { number = k; node = after k node.Nothing (foundNode o) }
 
 -- the answer of `TreeState::focus`
 unfoldable pub focusAnswer : State → NodeAnswer

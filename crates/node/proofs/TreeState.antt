@@ -2,7 +2,7 @@
 use mathlib.Core.Bool.{Bool, true, false}
 use mathlib.Core.List.{List, map}
 use mathlib.Core.Option.{Option, none, some}
-use mathlib.Core.Path.{_≡_, refl, sym, ap, _∙_}
+use mathlib.Core.Path.{_≡_, sym, ap, _∙_}
 use Prim.Native.Nat.{ℕ, _≤_, _<_}
 use lib.Dec.{eqb, ltb}
 use lib.ListN.{length, getElem?}
@@ -26,9 +26,6 @@ use Rattle.state_lookup.specs.declared.Ends.{Ends}
 use Rattle.state_lookup.specs.declared.FoundTree.{FoundTree}
 use Rattle.state_lookup.specs.declared.FoundTree.the-variants as ends
 use Rattle.state_lookup.proofs.Trees.{stateOf}
-use Rattle.state_focus.specs.declared.FoundNode.{FoundNode}
-use Rattle.state_focus.specs.declared.FoundNode.the-variants as node
-use Rattle.state_focus.specs.Focus.{foundOf}
 use Rattle.questions.specs.Answers.{stateNumber, after}
 use Rattle.questions.proofs.Answers.{state-number-unsound, state-number-sound}
 use Rattle.node_links.proofs.Places.{place-at, place-past}
@@ -36,8 +33,8 @@ use Rattle.node.specs.declared.OptionalTree.{OptionalTree}
 use Rattle.node.specs.declared.OptionalTree.the-variants as tree
 use Rattle.node.specs.declared.OptionalIndex.{OptionalIndex}
 use Rattle.node.specs.declared.OptionalIndex.the-variants as index
-use Rattle.node.specs.Reading.{optionalTree}
-use Rattle.node.specs.Whole.{foundNode, foundTree, optionalIndex, nodeAnswer, treeIdAt, treeIndexAt, treeEnds, treeIdAnswer, treeIndexAnswer, treeEndsAnswer, countsAnswer}
+use Rattle.node.specs.Answers.{optionalTree, optionalIndex, foundTree}
+use Rattle.node.specs.TreeState.{treeIdAt, treeIndexAt, treeEnds, treeIdAnswer, treeIndexAnswer, treeEndsAnswer, countsAnswer}
 
 -- ## A row of the table of trees
 
@@ -127,21 +124,11 @@ module _ (s : List ℕ) (t : TreeId) (k : ℕ) (found : First (λ j. sameTree t 
 
 -- ## What is answered
 
--- a node as the code found it
-found-again : (r : FoundNode) → foundNode (foundOf r) ≡ r
-unfolding foundNode foundOf
-found-again (node.At x) = refl
-found-again node.Nothing = refl
-
 module _ (a : State) where
   -- of a state that is not sound
   module _ (e : sound (a .forest) ≡ false) where
     one : stateNumber (a .forest) ≡ 1
     one = state-number-unsound (a .forest) e
-
-    pub node-unsound : (o : Option FullNodeId) → record { number = 1; node = node.Nothing } ≡ nodeAnswer (stateNumber (a .forest)) o
-    unfolding nodeAnswer after
-    node-unsound o = rw one
 
     pub tree-id-unsound : (i : TreeIndex) → record { number = 1; tree = tree.None } ≡ treeIdAnswer (a .forest) i
     unfolding treeIdAnswer after
@@ -163,10 +150,6 @@ module _ (a : State) where
   module _ (e : sound (a .forest) ≡ true) where
     zero : stateNumber (a .forest) ≡ 0
     zero = state-number-sound (a .forest) e
-
-    pub node-sound : (o : Option FullNodeId) (r : FoundNode) → foundOf r ≡ o → record { number = 0; node = r } ≡ nodeAnswer (stateNumber (a .forest)) o
-    unfolding nodeAnswer after
-    node-sound o r q = rw (zero, ← q, found-again r)
 
     pub tree-id-sound : (i : TreeIndex) (r : OptionalTree) → r ≡ optionalTree (treeIdAt (a .forest) i) → record { number = 0; tree = r } ≡ treeIdAnswer (a .forest) i
     unfolding treeIdAnswer after

@@ -1,10 +1,10 @@
--- `node::own::tree_id` meets its contract: a law for each way out. Assumes nothing.
+-- `node::tree_state::found_id` meets its contract: a law for each way out. Assumes nothing.
 use denote.Ref.{now}
 use native.Mathlib.Omega.{arith}
-use Rattle.node.proofs.Whole.{no-id, tree-id-is}
+use Rattle.node.proofs.TreeState.{no-id, tree-id-is}
 use borrow.Author.Needs.{needs}
-use Rattle.node.proofs.own.tree_id.Statement.{statement}
-use Rattle.node.proofs.own.tree_id.Tie as tie
+use Rattle.node.proofs.tree_state.found_id.Statement.{statement}
+use Rattle.node.proofs.tree_state.found_id.Tie as tie
 
 returns : tie.Need-returns
 returns c =
@@ -17,5 +17,5 @@ returns-2 c =
     let a = n .before .before .args in
     tree-id-is (now (a .state)) (a .index) (omega (arith, n .trees .ensures)) _ (c .before .tree-at .ensures)
 
-pub tree-id-spec : {M : Type 1} → statement M
-tree-id-spec = tie.close (tie.spec (λ c. search needs) (λ c κs. search needs) returns (λ c κs. search needs) returns-2)
+pub found-id-spec : {M : Type 1} → statement M
+found-id-spec = tie.close (tie.spec (λ c. search needs) (λ c κs. search needs) returns (λ c κs. search needs) returns-2)
