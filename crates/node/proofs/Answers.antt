@@ -1,7 +1,7 @@
 -- Laws of the forms of the answers, one for each way out. Assumes nothing.
 use mathlib.Core.List.{List}
 use mathlib.Core.Option.{Option}
-use mathlib.Core.Path.{_≡_, refl, sym, _∙_}
+use mathlib.Core.Path.{_≡_, refl, sym, ap, _∙_}
 use Prim.Native.Nat.{ℕ, _≤_, _<_}
 use native.Mathlib.Omega.{arith}
 use lib.ListN.{length}
@@ -11,7 +11,7 @@ use Rattle.state_array.specs.View.{view}
 use Rattle.state_focus.specs.declared.FoundNode.{FoundNode}
 use Rattle.state_focus.specs.declared.FoundNode.the-variants as found
 use Rattle.state_focus.specs.Focus.{foundOf}
-use Rattle.questions.specs.Answers.{askNumber, written}
+use Rattle.questions.specs.Answers.{askNumber, after, written}
 use Rattle.questions.proofs.Answers.{list-number-refused, list-number-short, list-number-fits, after-refused, after-answered}
 use Rattle.node_asked.specs.Asks.{NodeAt}
 use Rattle.node_links.specs.Slots.{OfSlot}
@@ -45,7 +45,7 @@ module _ (s : Forest) (x : FullNodeId) (n : ℕ) (words lent : List ℕ) where
   unfolding listAnswer
   unanswered k e h = record {
     answer-is = rw (← e, after-refused 0 n k h);
-    slice-is = rw (← e) (sym (after-refused lent (written words lent) k h));
+    slice-is = sym (after-refused lent (written words lent) k h) ∙ ap (λ (j : ℕ). after j lent (written words lent)) e;
   }
 
   -- the node is not there
