@@ -19,7 +19,12 @@ use Rattle.node.specs.declared.OptionalNode.the-variants as node
 use Rattle.node.specs.declared.OptionalIndex.{OptionalIndex}
 use Rattle.node.specs.declared.OptionalIndex.the-variants as index
 use Rattle.node.specs.declared.NodeAnswer.{NodeAnswer}
-use Rattle.node.specs.declared.LabelAnswer.{LabelAnswer}
+use Rattle.node.specs.declared.ListAnswer.{ListAnswer}
+use Rattle.node.specs.declared.HiddenAnswer.{HiddenAnswer}
+use Rattle.node.specs.declared.TransformAnswer.{TransformAnswer}
+use Rattle.node.specs.declared.BoxAnswer.{BoxAnswer}
+use Rattle.geometry_box.specs.declared.BoundingBox.{BoundingBox}
+use Rattle.geometry_box.specs.declared.BoundingBox.the-variants as box
 use Rattle.node.specs.declared.TreeIdAnswer.{TreeIdAnswer}
 use Rattle.node.specs.declared.TreeIndexAnswer.{TreeIndexAnswer}
 use Rattle.node.specs.declared.TreeEndsAnswer.{TreeEndsAnswer}
@@ -27,6 +32,9 @@ use Rattle.node.specs.declared.CountsAnswer.{CountsAnswer}
 use Rattle.node.specs.declared.NodeReading.{NodeReading}
 use Rattle.cartgravel_plain.specs.declared.FoundId.{FoundId}
 use Rattle.cartgravel_plain.specs.declared.Listed.{Listed}
+use Rattle.cartgravel_plain.specs.declared.Flag.{Flag}
+use Rattle.cartgravel_plain.specs.declared.PlainTransform.{PlainTransform}
+use Rattle.cartgravel_plain.specs.declared.PlainBox.{PlainBox}
 use Rattle.cartgravel_plain.specs.declared.PlainTreeId.{PlainTreeId}
 use Rattle.cartgravel_plain.specs.declared.PlainIndex.{PlainIndex}
 use Rattle.cartgravel_plain.specs.declared.PlainEnds.{PlainEnds}
@@ -45,8 +53,23 @@ nought = ofBits binary64 0
 abbrev pub plainFound : NodeAnswer → FoundId
 plainFound a = record { id = plainId (foundOf (a .node)); number = a .number }
 
-abbrev pub plainLabel : LabelAnswer → Listed
-plainLabel a = record { length = a .length; number = a .number }
+abbrev pub plainList : ListAnswer → Listed
+plainList a = record { length = a .length; number = a .number }
+
+-- ## Flags, transforms and boxes
+
+abbrev pub plainFlag : HiddenAnswer → Flag
+plainFlag a = record { value = if a .hidden then 1 else 0; number = a .number }
+
+abbrev pub plainTransform : TransformAnswer → PlainTransform
+plainTransform a = record { transform = a .transform; number = a .number }
+
+abbrev pub boxIs : ℕ → BoundingBox → PlainBox
+boxIs k (box.Box p q r s) = record { rect = record { x0 = p; y0 = q; x1 = r; y1 = s }; kind = 1; number = k }
+boxIs k box.None = record { rect = record { x0 = nought; y0 = nought; x1 = nought; y1 = nought }; kind = 0; number = k }
+
+abbrev pub plainBox : BoxAnswer → PlainBox
+plainBox a = boxIs (a .number) (a .«bounding_box»)
 
 -- ## Trees and counts
 

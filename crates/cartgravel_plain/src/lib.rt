@@ -1,13 +1,17 @@
 // The answers of the questions as plain numbers and structs, for C: enums become a number and fields that are 0 where there is nothing.
 ghost use mathlib.Core.Path.{_≡_};
 ghost use Rattle.base.specs.Tests.{if_then_else_};
-ghost use Rattle.cartgravel_plain.specs.Plain.{plainFound, plainLabel, plainTreeId, plainIndex, plainEnds, plainCounts, rectField, affineField, treeField, numberField, plainNode};
+ghost use Rattle.cartgravel_plain.specs.Plain.{plainFound, plainList, plainFlag, plainTransform, boxIs, plainBox, plainTreeId, plainIndex, plainEnds, plainCounts, rectField, affineField, treeField, numberField, plainNode};
 use calls::OptionalId;
 use geometry::Affine;
 use geometry::Rect;
+use geometry_box::BoundingBox;
 use ids::TreeId;
 use node::CountsAnswer;
-use node::LabelAnswer;
+use node::BoxAnswer;
+use node::HiddenAnswer;
+use node::ListAnswer;
+use node::TransformAnswer;
 use node::NodeAnswer;
 use node::NodeReading;
 use node::OptionalAffine;
@@ -32,6 +36,28 @@ pub struct FoundId {
 #[repr(C)]
 pub struct Listed {
     pub length: usize,
+    pub number: u32,
+}
+
+// A flag, 0 or 1.
+#[repr(C)]
+pub struct Flag {
+    pub value: u32,
+    pub number: u32,
+}
+
+// A transform.
+#[repr(C)]
+pub struct PlainTransform {
+    pub transform: Affine,
+    pub number: u32,
+}
+
+// A box: `kind` is 0 where there is none.
+#[repr(C)]
+pub struct PlainBox {
+    pub rect: Rect,
+    pub kind: u32,
     pub number: u32,
 }
 
@@ -92,12 +118,55 @@ pub fn found(a: NodeAnswer) -> FoundId
     }
 }
 
-pub fn label(a: LabelAnswer) -> Listed
-    ensures { λ r. ⌜ r ≡ plainLabel a ⌝ }
+pub fn listed(a: ListAnswer) -> Listed
+    ensures { λ r. ⌜ r ≡ plainList a ⌝ }
 {
     Listed {
         length: a.length,
         number: a.number as u32,
+    }
+}
+
+pub fn hidden(a: HiddenAnswer) -> Flag
+    ensures { λ r. ⌜ r ≡ plainFlag a ⌝ }
+{
+    Flag {
+        value: flag(1, a.hidden) as u32,
+        number: a.number as u32,
+    }
+}
+
+pub fn transform(a: TransformAnswer) -> PlainTransform
+    ensures { λ r. ⌜ r ≡ plainTransform a ⌝ }
+{
+    let transform = a.transform;
+    PlainTransform {
+        transform,
+        number: a.number as u32,
+    }
+}
+
+pub fn bounding_box(a: BoxAnswer) -> PlainBox
+    ensures { λ r. ⌜ r ≡ plainBox a ⌝ }
+{
+    let number = a.number as u32;
+    let b = a.bounding_box;
+    match b {
+        BoundingBox::Box(x0, y0, x1, y1) => PlainBox {
+            rect: Rect { x0, y0, x1, y1 },
+            kind: 1,
+            number,
+        },
+        BoundingBox::None => PlainBox {
+            rect: Rect {
+                x0: 0.0,
+                y0: 0.0,
+                x1: 0.0,
+                y1: 0.0,
+            },
+            kind: 0,
+            number,
+        },
     }
 }
 
