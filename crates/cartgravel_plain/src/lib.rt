@@ -1,7 +1,7 @@
 // The answers of the questions as plain numbers and structs, for C: enums become a number and fields that are 0 where there is nothing.
 ghost use mathlib.Core.Path.{_≡_};
 ghost use Rattle.base.specs.Tests.{if_then_else_};
-ghost use Rattle.cartgravel_plain.specs.Plain.{plainFound, plainList, plainFlag, plainTransform, boxIs, plainBox, plainTreeId, plainIndex, plainEnds, plainCounts, rectField, affineField, treeField, numberField, plainNode};
+ghost use Rattle.cartgravel_plain.specs.Plain.{plainFound, plainList, plainFlag, plainTransform, plainBox, plainTreeId, plainIndex, plainEnds, plainCounts, rectField, affineField, treeField, numberField, plainNode};
 use calls::OptionalId;
 use geometry::Affine;
 use geometry::Rect;
@@ -118,7 +118,7 @@ pub fn found(a: NodeAnswer) -> FoundId
     }
 }
 
-pub fn listed(a: ListAnswer) -> Listed
+pub fn list(a: ListAnswer) -> Listed
     ensures { λ r. ⌜ r ≡ plainList a ⌝ }
 {
     Listed {
@@ -131,7 +131,7 @@ pub fn hidden(a: HiddenAnswer) -> Flag
     ensures { λ r. ⌜ r ≡ plainFlag a ⌝ }
 {
     Flag {
-        value: flag(1, a.hidden) as u32,
+        value: weighed(1, a.hidden) as u32,
         number: a.number as u32,
     }
 }
@@ -237,7 +237,7 @@ pub fn counts(a: CountsAnswer) -> PlainCounts
     PlainCounts {
         nodes: a.nodes,
         trees: a.trees,
-        host_focused: flag(1, a.host_focused) as u32,
+        host_focused: weighed(1, a.host_focused) as u32,
         number: a.number as u32,
     }
 }
@@ -253,8 +253,8 @@ pub fn node(a: NodeReading) -> PlainNode
     let transform = plain_affine(own_transform);
     let graft = plain_tree(own_graft);
     let active = plain_number(descendant);
-    let hidden = flag(1, a.hidden);
-    let clips = flag(2, a.clips_children);
+    let hidden = weighed(1, a.hidden);
+    let clips = weighed(2, a.clips_children);
     let rect = bounds.value;
     let affine = transform.value;
     let tree = graft.value;
@@ -358,7 +358,7 @@ fn plain_number(o: OptionalNode) -> NumberField
 }
 
 // The weight of a flag that is set, else 0.
-fn flag(weight: u8, set: bool) -> u8
+fn weighed(weight: u8, set: bool) -> u8
     ensures { λ r. ⌜ r ≡ (if set then weight else 0) ⌝ }
 {
     if set { weight } else { 0 }
