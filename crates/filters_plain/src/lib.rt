@@ -74,7 +74,8 @@ pub fn own_filter_at(state: &State, focused: usize, i: usize) -> FilterResult
     if i == focused {
         return FilterResult::Include;
     }
-    if node_links::hidden_at(state, i) {
+    let flags = state_array::word_at(state, state_array::FLAGS, i);
+    if flags % 2 == 1 {
         return FilterResult::ExcludeSubtree;
     }
     if is_transparent(state, i) {

@@ -1,0 +1,22 @@
+-- `node::own::tree_index` meets its contract: a law for each way out. Assumes nothing.
+use denote.Ref.{now}
+use native.Mathlib.Omega.{arith}
+use Rattle.node.proofs.Whole.{no-index, index-is}
+use borrow.Author.Needs.{needs}
+use Rattle.node.proofs.own.tree_index.Statement.{statement}
+use Rattle.node.proofs.own.tree_index.Tie as tie
+
+returns : tie.Need-returns
+returns c =
+    let k = c .before .before in
+    let a = k .before .args in
+    no-index (now (a .state)) (a .id) _ (k .find-tree .ensures) (omega (arith, c .before .trees .ensures))
+
+returns-2 : tie.Need-returns-2
+returns-2 c =
+    let k = c .before .before in
+    let a = k .before .args in
+    index-is (now (a .state)) (a .id) _ (k .find-tree .ensures) (omega (arith, c .before .trees .ensures))
+
+pub tree-index-spec : {M : Type 1} → statement M
+tree-index-spec = tie.close (tie.spec (λ c κs. search needs) (λ c κs. search needs) returns (λ c. search needs) returns-2)
