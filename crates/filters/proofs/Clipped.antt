@@ -1,23 +1,21 @@
 -- The clip test, by slots: a law for each way out of the code. Assumes nothing.
 use mathlib.Core.Bool.{Bool, true, false, not, _||_}
 use mathlib.Core.List.{List, head?}
-use mathlib.Core.Option.{Option, none, some}
-use mathlib.Core.Path.{_≡_, refl, sym, ap, _∙_}
+use mathlib.Core.Option.{some}
+use mathlib.Core.Path.{_≡_, refl, sym, _∙_}
 use Prim.Native.Nat.{ℕ, _/_, _%_, _≤_, _<_}
 use lib.Dec.{eqb}
-use lib.ListN.{length}
-use Rattle.base.specs.Tests.{_&&_, if_then_else_}
+use Rattle.base.specs.Tests.{_&&_}
 use Rattle.ids.specs.declared.FullNodeId.{FullNodeId}
 use Rattle.geometry_box.specs.declared.BoundingBox.{BoundingBox}
 use Rattle.geometry_box.specs.Boxes.{apart, meet}
-use Rattle.state.specs.State.{Forest, State}
+use Rattle.state.specs.State.{State}
 use Rattle.state_array.specs.Layout.{word, FLAGS}
 use Rattle.state_array.specs.View.{idIn, shapeIn, bodyIn, nodeIn, slotsOf, view}
 use Rattle.questions.specs.declared.Side.{Side}
 use Rattle.questions.specs.declared.Side.the-variants.{Following, Preceding}
-use Rattle.questions.specs.declared.FilterResult.{FilterResult}
 use Rattle.questions.specs.Boxes.{boundingBox}
-use Rattle.questions.specs.Walks.{filteredParent, filteredSiblings}
+use Rattle.questions.specs.Walks.{filteredParent}
 use Rattle.questions.specs.Filters.{isTransparent, clipsAt, withoutParentChecks, neighbourInside, clippedBy, isClipped}
 use Rattle.node_links.specs.Slots.{Sound, slotId}
 use Rattle.node_links.proofs.Slots.{slot-id-some, slot-id-none, slot-shape, slot-found, slot-present}

@@ -1,12 +1,12 @@
 -- `common_filter`, case by case: what it says of a node by the first test that holds, and by what it says of the parent. Assumes nothing.
-use mathlib.Core.Bool.{Bool, true, false}
+use mathlib.Core.Bool.{true, false}
 use mathlib.Core.List.{List, [], _∷_}
-use mathlib.Core.Option.{Option, none, some}
+use mathlib.Core.Option.{none, some}
 use mathlib.Core.Path.{_≡_, refl, sym, ap, _∙_}
 use Prim.Native.Nat.{ℕ, _≤_, _<_}
 use native.Mathlib.Omega.{arith}
 use lib.ListN.{length}
-use Rattle.base.specs.Tests.{if_then_else_, sameOption}
+use Rattle.base.specs.Tests.{sameOption}
 use Rattle.ids.specs.Ids.{ROOT, sameId}
 use Rattle.ids.specs.declared.FullNodeId.{FullNodeId}
 use Rattle.state.specs.State.{State, parentAt, subtreeOf}

@@ -1,6 +1,5 @@
 -- `filters::is_clipped` meets its contract: a law for each way out. Assumes nothing.
 use mathlib.Core.Path.{sym, _∙_}
-use native.Mathlib.Omega.{arith}
 use Rattle.base.proofs.Tests.{call-true, call-false}
 use Rattle.filters.proofs.Clipped.{clipped-none, clipped-open, clipped-inside, clipped-next, clipped-last}
 use borrow.Author.Needs.{needs}

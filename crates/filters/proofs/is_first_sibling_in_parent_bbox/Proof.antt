@@ -1,6 +1,5 @@
 -- `filters::is_first_sibling_in_parent_bbox` meets its contract: no sibling, or its box. Assumes nothing.
 use mathlib.Core.Path.{_∙_, ap}
-use native.Mathlib.Omega.{arith}
 use Rattle.geometry_box.specs.Boxes.{meet}
 use Rattle.filters.proofs.Clipped.{nearest-none, nearest-some}
 use borrow.Author.Needs.{needs}

@@ -1,6 +1,5 @@
 -- `filters::is_root` meets its contract: ROOT's root, if ROOT exists. Assumes nothing.
-use mathlib.Core.Path.{refl, sym, _∙_}
-use Rattle.base.specs.Tests.{sameOption}
+use mathlib.Core.Path.{_∙_}
 use Rattle.filters.proofs.Common.{root-none, root-some}
 use borrow.Author.Needs.{needs}
 use Rattle.filters.proofs.is_root.Statement.{statement}

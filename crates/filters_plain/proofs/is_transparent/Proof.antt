@@ -1,5 +1,5 @@
+-- `filters_plain::is_transparent` meets its contract: a bit of the flags, or one of two roles. Assumes nothing.
 use borrow.Author.Needs.{needs}
-use mathlib.Core.Path.{_∙_, sym}
 use Rattle.filters_plain.proofs.Rows.{transparent-at}
 use Rattle.filters_plain.proofs.is_transparent.Statement.{statement}
 use Rattle.filters_plain.proofs.is_transparent.Tie as tie
