@@ -243,7 +243,7 @@ fn plain_report(r: update_reports::Report) -> Report
 }
 
 // An enum as a plain id.
-fn plain_id(found: FoundNode) -> OptionalId
+pub fn plain_id(found: FoundNode) -> OptionalId
     ensures { λ r. ⌜ r ≡ plainId (foundOf found) ⌝ }
 {
     let FoundNode::At(x) = found else {

@@ -22,7 +22,7 @@ use Rattle.questions.specs.Links.{ancestors, isHidden}
 use Rattle.questions.specs.Walks.{filteredParent}
 use Rattle.questions.specs.Filters.{isFocused, isTransparent, commonFilterBase, withoutParentChecks, isClipped, isExcludeSubtree, ordinary, commonFilterFrom, commonFilter, withRootException}
 use Rattle.node_links.specs.Slots.{Sound, slotId}
-use Rattle.node_links.proofs.Up.{ancestors-end-at, ancestors-step-at, hidden-more}
+use Rattle.node_links.proofs.Up.{top, more, hidden-more}
 use Rattle.filters_plain.specs.Plain.{Focused}
 use Rattle.filters_plain.proofs.Own.{clear-unhidden}
 use Rattle.filters_plain.proofs.Above.{firstIncluded}
@@ -102,11 +102,11 @@ module _ (s : List ℕ) (h : Sound s) (k : ℕ) (focus : Focused s k) (i : ℕ) 
 
         -- ROOT's root
         pub common-root : slotsOf s ≤ p → Include ≡ commonFilter v x
-        common-root l = sym (common-top v x none-holds (ancestors-end-at s h i there p up l))
+        common-root l = sym (common-top v x none-holds (top s h i there p up l))
 
         module _ (l : p < slotsOf s) (r : FilterResult) (is : r ≡ commonFilter v (idIn s p)) where
           by-parent : commonFilter v x ≡ ordinary v x (isExcludeSubtree r)
-          by-parent = common-more v x none-holds (idIn s p) (ancestors-step-at s h i there p up l) ∙ ap (λ (q : FilterResult). ordinary v x (isExcludeSubtree q)) (sym is)
+          by-parent = common-more v x none-holds (idIn s p) (more s h i there p up l) ∙ ap (λ (q : FilterResult). ordinary v x (isExcludeSubtree q)) (sym is)
 
           -- dropped with its parent
           pub common-dropped : isExcludeSubtree r ≡ true → ExcludeSubtree ≡ commonFilter v x
@@ -133,7 +133,7 @@ module _ (s : List ℕ) (k i : ℕ) (u : Unhidden s k i) (p : ℕ) (up : slotId 
   }
 
   pub parent-nearer : length (ancestors (view s .forest) (idIn s p)) < length (ancestors (view s .forest) (idIn s i))
-  parent-nearer = omega (arith, ap length (ancestors-step-at s (u .is-sound) i (u .within) p up l))
+  parent-nearer = omega (arith, ap length (more s (u .is-sound) i (u .within) p up l))
 
 -- ## The root exception
 

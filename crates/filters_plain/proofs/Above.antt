@@ -19,7 +19,7 @@ use Rattle.questions.specs.Walks.{leading, isIncluded, isExcludedNode, filtered
 use Rattle.questions.specs.Filters.{withoutParentChecks}
 use Rattle.node_links.specs.Slots.{Sound, slotId}
 use Rattle.node_links.proofs.Slots.{slot-id-some, slot-id-none}
-use Rattle.node_links.proofs.Up.{few-ancestors, ancestors-end-at, ancestors-step-at}
+use Rattle.node_links.proofs.Up.{few-ancestors, top, more}
 use Rattle.filters_plain.specs.Plain.{ownFilter, isInclude, Above}
 use Rattle.filters_plain.proofs.Own.{Clear, clear-unhidden, own-filter, own-included}
 
@@ -85,8 +85,8 @@ module _ (s : List ℕ) where
     ancestors-up i p there up = go (decLt p (slotsOf s))
       where
         go : Dec (p < slotsOf s) → ancestors (view s .forest) (idIn s i) ≡ upFrom s p
-        go (yes l) = ancestors-step-at s h i there p up l ∙ sym (up-some p l)
-        go (no l) = ancestors-end-at s h i there p up (omega arith) ∙ sym (up-none p (omega arith))
+        go (yes l) = more s h i there p up l ∙ sym (up-some p l)
+        go (no l) = top s h i there p up (omega arith) ∙ sym (up-none p (omega arith))
 
     -- one climb
     pub up-next : (p q : ℕ) → p < slotsOf s → slotId s q ≡ parentAt (view s .forest .nodes) (idIn s p) → upFrom s p ≡ idIn s p ∷ upFrom s q

@@ -71,8 +71,7 @@ pub fn own_filter_at(state: &State, focused: usize, i: usize) -> FilterResult
     if i == focused {
         return FilterResult::Include;
     }
-    let flags = state_array::word_at(state, state_array::FLAGS, i);
-    if flags % 2 == 1 {
+    if node_links::hidden_at(state, i) {
         return FilterResult::ExcludeSubtree;
     }
     if is_transparent(state, i) {

@@ -1,2 +1,5 @@
+pub mod Answers
 pub mod Reading
-pub mod Whole
+pub mod Links
+pub mod TreeState
+pub mod Examples

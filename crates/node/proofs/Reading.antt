@@ -2,9 +2,8 @@
 use mathlib.Core.Bool.{Bool, true, false}
 use mathlib.Core.List.{List, []}
 use mathlib.Core.Option.{Option, none, some}
-use mathlib.Core.Path.{_≡_, refl, sym, ap, _∙_}
-use Prim.Native.Nat.{ℕ, _≤_, _<_}
-use native.Mathlib.Omega.{arith}
+use mathlib.Core.Path.{_≡_, sym, ap}
+use Prim.Native.Nat.{ℕ, _<_}
 use lib.ListN.{length}
 use Rattle.base.specs.Bytes.{bit}
 use Rattle.base.proofs.Bytes.{length-list-of}
@@ -20,9 +19,9 @@ use Rattle.state.proofs.State.{all-find}
 use Rattle.state_array.specs.Layout.{word, FLAGS, ACTIVE, ROLE, LABEL-LENGTH}
 use Rattle.state_array.specs.View.{idIn, shapeIn, boundsIn, transformIn, labelIn, bodyIn, nodeIn, view}
 use Rattle.state_array.specs.declared.ShapeRow.{ShapeRow}
-use Rattle.questions.specs.Answers.{askNumber, written}
+use Rattle.questions.specs.Answers.{askNumber}
 use Rattle.questions.specs.Links.{childIds}
-use Rattle.questions.proofs.Answers.{list-number-refused, list-number-short, list-number-fits, after-refused, after-answered}
+use Rattle.questions.proofs.Answers.{after-refused, after-answered}
 use Rattle.node_asked.specs.Asks.{NodeAt}
 use Rattle.node_asked.proofs.Asks.{asked-found}
 use Rattle.node.specs.declared.OptionalRect.{OptionalRect}
@@ -33,7 +32,8 @@ use Rattle.node.specs.declared.OptionalNode.{OptionalNode}
 use Rattle.node.specs.declared.OptionalNode.the-variants as node
 use Rattle.node.specs.declared.OptionalTree.{OptionalTree}
 use Rattle.node.specs.declared.OptionalTree.the-variants as tree
-use Rattle.node.specs.Reading.{optionalRect, optionalAffine, optionalNode, optionalTree, readingOf, noReading, reading, labelAt, labelNumber, labelAnswer, labelSlice, Labels}
+use Rattle.node.specs.Answers.{optionalRect, optionalAffine, optionalNode, optionalTree}
+use Rattle.node.specs.Reading.{readingOf, noReading, reading, labelAt}
 
 -- ## What a slot says
 
@@ -121,38 +121,7 @@ module _ (s : List ℕ) (x : FullNodeId) where
   unfolding reading nodeIn
   reading-given i e h = rw (h .id-is, asked-found s x i h) (sym (after-answered _ _ (askNumber f x) e))
 
-  module _ (lent : List ℕ) where
-    unanswered : (k : ℕ) → labelNumber f x (length lent) ≡ k → (k ≡ 0 → ⊥) → Labels f x lent (record { number = k; length = 0 }) lent
-    unfolding labelAnswer labelSlice
-    unanswered k e h = record {
-      answer-is = rw (e, after-refused 0 (length (labelAt f x)) k h);
-      slice-is = rw e (sym (after-refused lent _ k h));
-    }
-
-    -- a label that cannot be read
-    pub label-refused : (k : ℕ) → k ≡ askNumber f x → (k ≡ 0 → ⊥) → Labels f x lent (record { number = k; length = 0 }) lent
-    unfolding labelNumber
-    label-refused k e h = unanswered k (list-number-refused f x (length lent) _ (λ z. h (e ∙ z)) ∙ sym e) h
-
-    module _ (i : ℕ) (e : askNumber f x ≡ 0) (h : NodeAt s x i) (n : ℕ) (long : n ≡ word s LABEL-LENGTH i) where
-      label-is : labelAt f x ≡ labelIn s i
-      unfolding labelAt nodeIn bodyIn
-      label-is = ap (λ (o : Option NodeState). elim o as (λ _. List ℕ) [ none ↦ [] | some n ↦ n .body .label ]) (asked-found s x i h)
-
-      wanted : length (labelAt f x) ≡ n
-      wanted = ap length label-is ∙ label-long s i ∙ sym long
-
-      -- one that the slice is too short for
-      pub label-short : length lent < n → Labels f x lent (record { number = 21; length = 0 }) lent
-      unfolding labelNumber
-      label-short l = unanswered 21 (list-number-short f x (length lent) _ e (rw wanted l)) (λ z. omega arith)
-
-      -- one that is written
-      pub label-written : n ≤ length lent → (slice : List ℕ) → slice ≡ written (labelIn s i) lent → Labels f x lent (record { number = 0; length = n }) slice
-      unfolding labelAnswer labelSlice labelNumber
-      label-written l slice put =
-          let k = list-number-fits f x (length lent) (length (labelAt f x)) e (rw wanted l) in
-          record {
-            answer-is = rw (k, after-answered 0 (length (labelAt f x)) 0 refl, wanted);
-            slice-is = put ∙ sym (after-answered lent _ _ k ∙ ap (λ (l : List ℕ). written l lent) label-is);
-          }
+  -- its label
+  pub label-is : (i : ℕ) → NodeAt s x i → labelAt f x ≡ labelIn s i
+  unfolding labelAt nodeIn bodyIn
+  label-is i h = ap (λ (o : Option NodeState). elim o as (λ _. List ℕ) [ none ↦ [] | some n ↦ n .body .label ]) (asked-found s x i h)

@@ -1,2 +1,4 @@
+pub mod Answers
 pub mod Reading
-pub mod Whole
+pub mod Links
+pub mod TreeState

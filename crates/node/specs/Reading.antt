@@ -2,47 +2,21 @@
 -- a node's line from the state alone. Assumes nothing.
 use mathlib.Core.Bool.{false}
 use mathlib.Core.List.{List, []}
-use mathlib.Core.Option.{Option, none, some}
-use mathlib.Core.Path.{_≡_}
+use mathlib.Core.Option.{none, some}
 use Prim.Native.Nat.{ℕ}
 use lib.ListN.{length}
-use Rattle.ids.specs.declared.NodeId.{NodeId}
-use Rattle.ids.specs.declared.TreeId.{TreeId}
 use Rattle.ids.specs.declared.FullNodeId.{FullNodeId}
-use Rattle.geometry.specs.declared.Rect.{Rect}
-use Rattle.geometry.specs.declared.Affine.{Affine}
 use Rattle.record.specs.Batch.{NodeData, hidden, clipsChildren, activeDescendant?, graft?, bounds?, transform?}
 use Rattle.state.specs.State.{Forest, find}
-use Rattle.questions.specs.Answers.{askNumber, listNumber, after, written}
+use Rattle.questions.specs.Answers.{askNumber, after}
 use Rattle.questions.specs.Links.{childIds}
-use Rattle.node.specs.declared.OptionalRect.{OptionalRect}
 use Rattle.node.specs.declared.OptionalRect.the-variants as rect
-use Rattle.node.specs.declared.OptionalAffine.{OptionalAffine}
 use Rattle.node.specs.declared.OptionalAffine.the-variants as affine
-use Rattle.node.specs.declared.OptionalNode.{OptionalNode}
 use Rattle.node.specs.declared.OptionalNode.the-variants as node
-use Rattle.node.specs.declared.OptionalTree.{OptionalTree}
 use Rattle.node.specs.declared.OptionalTree.the-variants as tree
 use Rattle.node.specs.declared.NodeReading.{NodeReading}
-use Rattle.node.specs.declared.LabelAnswer.{LabelAnswer}
-
--- ## What may be missing, as the code has it
-
-unfoldable pub optionalRect : Option Rect → OptionalRect
-optionalRect none = rect.None
-optionalRect (some b) = rect.Given b
-
-unfoldable pub optionalAffine : Option Affine → OptionalAffine
-optionalAffine none = affine.None
-optionalAffine (some t) = affine.Given t
-
-unfoldable pub optionalNode : Option NodeId → OptionalNode
-optionalNode none = node.None
-optionalNode (some n) = node.Given n
-
-unfoldable pub optionalTree : Option TreeId → OptionalTree
-optionalTree none = tree.None
-optionalTree (some t) = tree.Given t
+use Rattle.node.specs.declared.ListAnswer.{ListAnswer}
+use Rattle.node.specs.Answers.{optionalRect, optionalAffine, optionalNode, optionalTree, Lists}
 
 -- ## A node
 
@@ -88,19 +62,6 @@ reading s x =
 unfoldable pub labelAt : Forest → FullNodeId → List ℕ
 labelAt s x = elim (find x (s .nodes)) [ none ↦ [] | some n ↦ n .body .label ]
 
--- the number, where the lent slice has room for so many bytes
-unfoldable pub labelNumber : Forest → FullNodeId → ℕ → ℕ
-labelNumber s x room = listNumber s x room (length (labelAt s x))
-
--- the number, and how many bytes the label has
-unfoldable pub labelAnswer : Forest → FullNodeId → ℕ → LabelAnswer
-labelAnswer s x room = let k = labelNumber s x room in record { number = k; length = after k 0 (length (labelAt s x)) }
-
--- the lent slice after the question
-unfoldable pub labelSlice : Forest → FullNodeId → List ℕ → List ℕ
-labelSlice s x lent = after (labelNumber s x (length lent)) lent (written (labelAt s x) lent)
-
--- what a question for a label promises
-pub record Labels (s : Forest) (x : FullNodeId) (lent : List ℕ) (r : LabelAnswer) (slice : List ℕ) : Type 0 where
-  pub answer-is : r ≡ labelAnswer s x (length lent)
-  pub slice-is : slice ≡ labelSlice s x lent
+-- a question for it
+abbrev pub Labels : Forest → FullNodeId → List ℕ → ListAnswer → List ℕ → Type 0
+Labels s x lent r slice = Lists s x (length (labelAt s x)) (labelAt s x) lent r slice

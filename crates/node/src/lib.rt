@@ -1,14 +1,15 @@
-// Reading a node, and of the state its focus, its root, its trees and its counts. Document 01 has no rule for this: a program that speaks a node's
-// line reads it here. Every question answers for any words: 1 where the state is not sound, 22 where the node is not there, 21 where the lent
-// slice is too short, else 0.
+// Questions about a node: what it says of itself, and module 6's links and boxes. Every question answers for any words: 1 where the state is not
+// sound, 22 where the node is not there, 21 where the lent slice is too short, else 0. Document 01 has no rule for reading a node or a tree.
 mod own;
+pub mod tree_state;
 
 ghost use mathlib.Core.Path.{_≡_};
 ghost use Rattle.state_array.specs.View.{view};
 ghost use Rattle.node.specs.Reading.{noReading, reading, Labels};
-ghost use Rattle.node.specs.Whole.{focusAnswer, rootAnswer, treeIdAnswer, treeIndexAnswer, treeEndsAnswer, countsAnswer};
+ghost use Rattle.node.specs.Links.{parentAnswer, Children, hiddenAnswer, transformAnswer, boxAnswer, noTransform};
 use geometry::Affine;
 use geometry::Rect;
+use geometry_box::BoundingBox;
 use ids::FullNodeId;
 use ids::NodeId;
 use ids::TreeId;
@@ -61,10 +62,28 @@ pub struct NodeReading {
     pub graft: OptionalTree,
 }
 
-// How many bytes a label has.
-pub struct LabelAnswer {
+// How many elements a list has: a label's bytes, children.
+pub struct ListAnswer {
     pub number: u8,
     pub length: usize,
+}
+
+// The inherited hidden flag.
+pub struct HiddenAnswer {
+    pub number: u8,
+    pub hidden: bool,
+}
+
+// A transform; all zeros after any number but 0.
+pub struct TransformAnswer {
+    pub number: u8,
+    pub transform: Affine,
+}
+
+// A bounding box, if there is one.
+pub struct BoxAnswer {
+    pub number: u8,
+    pub bounding_box: BoundingBox,
 }
 
 // A node, if there is one.
@@ -111,124 +130,128 @@ pub fn read(state: &State, id: FullNodeId) -> NodeReading
 }
 
 // A node's label, its bytes in the lent slice.
-pub fn label<'a, 'b>(state: &'a State, id: FullNodeId, out: &'b mut [u8]) -> LabelAnswer
+pub fn label<'a, 'b>(state: &'a State, id: FullNodeId, out: &'b mut [u8]) -> ListAnswer
     ensures { λ r. ⌜ Labels (view (now (state .entry)) .forest) id (now (out .entry)) r (now (out .exit)) ⌝ }
 {
     let node = node_asked::asked(state, id);
     if node.number != 0 {
-        return LabelAnswer {
+        return ListAnswer {
             number: node.number,
             length: 0,
         };
     }
     let length = state_array::label_len(state, node.slot) as usize;
     if out.len() < length {
-        return LabelAnswer {
+        return ListAnswer {
             number: 21,
             length: 0,
         };
     }
     own::put_label(state, node.slot, length, out);
-    LabelAnswer { number: 0, length }
+    ListAnswer { number: 0, length }
 }
 
-// The answer of `TreeState::focus`: none without host focus.
-pub fn focus(state: &State) -> NodeAnswer
-    ensures { λ r. ⌜ r ≡ focusAnswer (view (now (state .entry))) ⌝ }
+// The parent: of a pane's root its graft node, of ROOT's root none.
+pub fn parent(state: &State, id: FullNodeId) -> NodeAnswer
+    ensures { λ r. ⌜ r ≡ parentAnswer (view (now (state .entry)) .forest) id ⌝ }
 {
-    if !state_sound::sound(state) {
+    let node = node_asked::asked(state, id);
+    if node.number != 0 {
         return NodeAnswer {
-            number: 1,
+            number: node.number,
             node: FoundNode::Nothing,
         };
     }
     NodeAnswer {
         number: 0,
-        node: state_focus::focus(state),
+        node: own::node_at(state, node_links::parent_slot(state, node.slot)),
     }
 }
 
-// ROOT's root.
-pub fn root(state: &State) -> NodeAnswer
-    ensures { λ r. ⌜ r ≡ rootAnswer (view (now (state .entry)) .forest) ⌝ }
+// The children, two u64 each in the lent slice; of a graft its tree's root, if that tree exists.
+pub fn children<'a, 'b>(state: &'a State, id: FullNodeId, out: &'b mut [u64]) -> ListAnswer
+    ensures { λ r. ⌜ Children (view (now (state .entry)) .forest) id (now (out .entry)) r (now (out .exit)) ⌝ }
 {
-    if !state_sound::sound(state) {
-        return NodeAnswer {
-            number: 1,
-            node: FoundNode::Nothing,
+    let node = node_asked::asked(state, id);
+    if node.number != 0 {
+        return ListAnswer {
+            number: node.number,
+            length: 0,
         };
     }
-    NodeAnswer {
+    let length = node_links::child_count(state, node.slot);
+    if out.len() / 2 < length {
+        return ListAnswer {
+            number: 21,
+            length: 0,
+        };
+    }
+    own::put_children(state, node.slot, length, out);
+    ListAnswer { number: 0, length }
+}
+
+// Whether the node or one of its ancestors is hidden.
+pub fn is_hidden(state: &State, id: FullNodeId) -> HiddenAnswer
+    ensures { λ r. ⌜ r ≡ hiddenAnswer (view (now (state .entry)) .forest) id ⌝ }
+{
+    let node = node_asked::asked(state, id);
+    if node.number != 0 {
+        return HiddenAnswer {
+            number: node.number,
+            hidden: false,
+        };
+    }
+    HiddenAnswer {
         number: 0,
-        node: own::root(state),
+        hidden: node_links::is_hidden(state, node.slot),
     }
 }
 
-// The tree id of a tree number; none where the number is not taken.
-pub fn tree_id(state: &State, index: TreeIndex) -> TreeIdAnswer
-    ensures { λ r. ⌜ r ≡ treeIdAnswer (view (now (state .entry)) .forest) index ⌝ }
+// The transform, its ancestors' included.
+pub fn transform(state: &State, id: FullNodeId) -> TransformAnswer
+    ensures { λ r. ⌜ r ≡ transformAnswer (view (now (state .entry)) .forest) id ⌝ }
 {
-    if !state_sound::sound(state) {
-        return TreeIdAnswer {
-            number: 1,
-            tree: OptionalTree::None,
+    let node = node_asked::asked(state, id);
+    if node.number != 0 {
+        return TransformAnswer {
+            number: node.number,
+            transform: no_transform(),
         };
     }
-    TreeIdAnswer {
+    TransformAnswer {
         number: 0,
-        tree: own::tree_id(state, index),
+        transform: node_links::transform_of(state, node.slot),
     }
 }
 
-// The number of a tree id; none where it has none.
-pub fn tree_index(state: &State, id: TreeId) -> TreeIndexAnswer
-    ensures { λ r. ⌜ r ≡ treeIndexAnswer (view (now (state .entry)) .forest) id ⌝ }
+// The bounding box: none without bounds, or where a number on the way is not finite.
+pub fn bounding_box(state: &State, id: FullNodeId) -> BoxAnswer
+    ensures { λ r. ⌜ r ≡ boxAnswer (view (now (state .entry)) .forest) id ⌝ }
 {
-    if !state_sound::sound(state) {
-        return TreeIndexAnswer {
-            number: 1,
-            index: OptionalIndex::None,
+    let node = node_asked::asked(state, id);
+    if node.number != 0 {
+        return BoxAnswer {
+            number: node.number,
+            bounding_box: BoundingBox::None,
         };
     }
-    TreeIndexAnswer {
+    BoxAnswer {
         number: 0,
-        index: own::tree_index(state, id),
+        bounding_box: node_links::bounding_box(state, node.slot),
     }
 }
 
-// The root and the focus of a tree; none where it does not exist.
-pub fn tree_ends(state: &State, index: TreeIndex) -> TreeEndsAnswer
-    ensures { λ r. ⌜ r ≡ treeEndsAnswer (view (now (state .entry)) .forest) index ⌝ }
+// All zeros.
+fn no_transform() -> Affine
+    ensures { λ r. ⌜ r ≡ noTransform ⌝ }
 {
-    if !state_sound::sound(state) {
-        return TreeEndsAnswer {
-            number: 1,
-            ends: FoundTree::Nothing,
-        };
-    }
-    TreeEndsAnswer {
-        number: 0,
-        ends: own::tree_ends(state, index),
-    }
-}
-
-// How many nodes and tree numbers there are, and whether the host has the focus.
-pub fn counts(state: &State) -> CountsAnswer
-    ensures { λ r. ⌜ r ≡ countsAnswer (view (now (state .entry))) ⌝ }
-{
-    if !state_sound::sound(state) {
-        return CountsAnswer {
-            number: 1,
-            nodes: 0,
-            trees: 0,
-            host_focused: false,
-        };
-    }
-    CountsAnswer {
-        number: 0,
-        nodes: state_array::slots(state),
-        trees: state_array::trees(state),
-        host_focused: state_array::host(state) != 0,
+    Affine {
+        a: 0.0,
+        b: 0.0,
+        c: 0.0,
+        d: 0.0,
+        e: 0.0,
+        f: 0.0,
     }
 }
 

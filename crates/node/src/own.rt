@@ -1,29 +1,24 @@
-// What one slot of the state says of its node, and one row of the table of trees of its tree.
+// What one slot of the state says of its node.
 ghost use mathlib.Core.Path.{_≡_};
-ghost use Prim.Native.Nat.{_≤_, _<_};
+ghost use Prim.Native.Nat.{_*_, _≤_, _<_};
 ghost use lib.ListN.{length};
 ghost use Rattle.base.specs.Bytes.{bit};
 ghost use Rattle.record.specs.Batch.{activeDescendant?, graft?, bounds?, transform?};
-ghost use Rattle.state.specs.Down.{rootOf};
 ghost use Rattle.state_array.specs.View.{bodyIn, idIn, labelIn, view};
 ghost use Rattle.state_focus.specs.Focus.{foundOf};
-ghost use Rattle.questions.specs.Answers.{written};
+ghost use Rattle.questions.specs.Answers.{idWords, written};
+ghost use Rattle.questions.specs.Links.{childIds};
 ghost use Rattle.node_asked.specs.Asks.{NodeAt};
-ghost use Rattle.node.specs.Reading.{optionalRect, optionalAffine, optionalNode, optionalTree, readingOf};
-ghost use Rattle.node.specs.Whole.{optionalIndex, foundTree, treeIdAt, treeIndexAt, treeEnds};
+ghost use Rattle.node_links.specs.Slots.{slotId};
+ghost use Rattle.node.specs.Answers.{optionalRect, optionalAffine, optionalNode, optionalTree};
+ghost use Rattle.node.specs.Reading.{readingOf};
 use crate::NodeReading;
 use crate::OptionalAffine;
-use crate::OptionalIndex;
 use crate::OptionalNode;
 use crate::OptionalRect;
 use crate::OptionalTree;
-use ids::FullNodeId;
-use ids::TreeId;
-use ids::TreeIndex;
 use state_array::State;
 use state_focus::FoundNode;
-use state_lookup::Ends;
-use state_lookup::FoundTree;
 
 // What the node in slot i says of itself.
 pub fn reading(state: &State, i: usize) -> NodeReading
@@ -57,65 +52,30 @@ pub fn put_label<'a, 'b>(state: &'a State, i: usize, n: usize, out: &'b mut [u8]
     }
 }
 
-// ROOT's root.
-pub fn root(state: &State) -> FoundNode
-    ensures { λ r. ⌜ foundOf r ≡ rootOf (view (now (state .entry)) .forest) ⌝ }
+// The ids of the children of the node in slot i, at the start of a slice that has room for them.
+pub fn put_children<'a, 'b>(state: &'a State, i: usize, n: usize, out: &'b mut [u64])
+    requires { ⌜ NodeAt (now state) (idIn (now state) i) i ⌝ }
+    requires { ⌜ (n ≡ length (childIds (view (now state) .forest) (idIn (now state) i))) × (2 * n ≤ length (now out)) ⌝ }
+    ensures { λ _. ⌜ now (out .exit) ≡ written (idWords (childIds (view (now (state .entry)) .forest) (idIn (now (state .entry)) i))) (now (out .entry)) ⌝ }
 {
-    let FoundTree::At(e) = state_lookup::tree_of(state, TreeId { high: 0, low: 0 }) else {
+    let mut k = 0usize;
+    while k < n {
+        let x = node_links::child_id(state, i, k);
+        let at = 2 * k;
+        out[at] = x.tree.0 as u64;
+        out[at + 1] = x.node.0;
+        k += 1;
+    }
+}
+
+// The node in a slot; none past the last.
+pub fn node_at(state: &State, i: usize) -> FoundNode
+    ensures { λ r. ⌜ foundOf r ≡ slotId (now (state .entry)) i ⌝ }
+{
+    if state_array::slots(state) <= i {
         return FoundNode::Nothing;
-    };
-    let x = e.root;
-    FoundNode::At(x)
-}
-
-// The id of the tree with a number.
-pub fn tree_id(state: &State, index: TreeIndex) -> OptionalTree
-    ensures { λ r. ⌜ r ≡ optionalTree (treeIdAt (view (now (state .entry)) .forest) index) ⌝ }
-{
-    let k = index.0 as usize;
-    if state_array::trees(state) <= k {
-        return OptionalTree::None;
     }
-    let t = state_array::tree_at(state, k);
-    let id = t.id;
-    OptionalTree::Given(id)
-}
-
-// The number of a tree id.
-pub fn tree_index(state: &State, id: TreeId) -> OptionalIndex
-    ensures { λ r. ⌜ r ≡ optionalIndex (treeIndexAt (view (now (state .entry)) .forest) id) ⌝ }
-{
-    let k = state_lookup::find_tree(state, id);
-    if state_array::trees(state) <= k {
-        return OptionalIndex::None;
-    }
-    OptionalIndex::Given(TreeIndex(k as u32))
-}
-
-// The root and the focus of the tree with a number.
-pub fn tree_ends(state: &State, index: TreeIndex) -> FoundTree
-    ensures { λ r. ⌜ r ≡ foundTree (treeEnds (view (now (state .entry)) .forest) index) ⌝ }
-{
-    let k = index.0 as usize;
-    if state_array::trees(state) <= k {
-        return FoundTree::Nothing;
-    }
-    let t = state_array::tree_at(state, k);
-    if t.exists == 0 {
-        return FoundTree::Nothing;
-    }
-    let root = t.root;
-    let focus = t.focus;
-    FoundTree::At(Ends {
-        root: FullNodeId {
-            tree: index,
-            node: root,
-        },
-        focus: FullNodeId {
-            tree: index,
-            node: focus,
-        },
-    })
+    FoundNode::At(state_array::id_at(state, i))
 }
 
 // A node's own bounds.

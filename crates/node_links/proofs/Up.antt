@@ -1,10 +1,11 @@
 -- What a node has from its ancestors, one climb at a time: the hidden flag, the transform, the box. Assumes nothing.
 use mathlib.Core.Bool.{true, false}
 use mathlib.Core.List.{List, [], _∷_}
-use mathlib.Core.Path.{_≡_, refl, ap}
+use mathlib.Core.Path.{_≡_, refl, sym, ap}
 use Prim.Native.Nat.{ℕ, _-_, _/_, _%_, _≤_, _<_}
 use native.Mathlib.Nat.{div-one}
 use native.Mathlib.Omega.{arith}
+use lib.Dec.{eqb}
 use lib.ListN.{length}
 use borrow.Author.Tests.{eq-eqb, ne-eqb}
 use Rattle.base.proofs.Bytes.{length-list-of}
@@ -41,13 +42,9 @@ module _ (s : List ℕ) (h : Sound s) (i : ℕ) (there : i < slotsOf s) where
 
   module _ (w : ℕ) (read : w ≡ word s FLAGS i) where
     -- its own hidden flag
-    pub hidden-own : w % 2 ≡ 1 → hiddenAt f x ≡ true
+    pub hidden-is : eqb (w % 2) 1 ≡ hiddenAt f x
     unfolding hiddenAt nodeIn bodyIn shapeIn
-    hidden-own e = rw (slot-found s h i there, hiddenAt, ← read, div-one) (eq-eqb (w % 2) 1 e)
-
-    pub hidden-not : (w % 2 ≡ 1 → ⊥) → hiddenAt f x ≡ false
-    unfolding hiddenAt nodeIn bodyIn shapeIn
-    hidden-not e = rw (slot-found s h i there, hiddenAt, ← read, div-one) (ne-eqb (w % 2) 1 e)
+    hidden-is = sym (rw (slot-found s h i there, hiddenAt, ← read, div-one) refl)
 
     -- its own transform, or none
     pub direct-own : w / 32 % 2 ≡ 1 → directTransform f x ≡ transformIn s i
@@ -70,38 +67,38 @@ module _ (s : List ℕ) (h : Sound s) (i : ℕ) (there : i < slotsOf s) where
 
   -- ## By the parent's slot
 
-  -- a node that is hidden itself
-  pub hidden-here : hiddenAt f x ≡ true → isHidden f x ≡ true
+  -- a hidden node is hidden
+  pub hidden-own : hiddenAt f x ≡ true → isHidden f x ≡ true
   unfolding isHidden
-  hidden-here e = rw e refl
+  hidden-own e = rw e refl
 
   module _ (p : ℕ) (up : slotId s p ≡ parentAt (f .nodes) x) where
     -- the ancestors
-    pub ancestors-end-at : slotsOf s ≤ p → ancestors f x ≡ []
-    ancestors-end-at m = ancestors-end f (slot-shape s h) x (unlinked s h i there p up m)
+    pub top : slotsOf s ≤ p → ancestors f x ≡ []
+    top m = ancestors-end f (slot-shape s h) x (unlinked s h i there p up m)
 
-    pub ancestors-step-at : p < slotsOf s → ancestors f x ≡ idIn s p ∷ ancestors f (idIn s p)
-    ancestors-step-at m = ancestors-step f (slot-shape s h) x _ (linked s h i there p up m)
+    pub more : p < slotsOf s → ancestors f x ≡ idIn s p ∷ ancestors f (idIn s p)
+    more m = ancestors-step f (slot-shape s h) x _ (linked s h i there p up m)
 
     -- the parent has one ancestor less
     pub fewer : (room : ℕ) → p < slotsOf s → length (ancestors f x) < room → length (ancestors f (idIn s p)) < room - 1
-    fewer room m l = omega (arith, ap length (ancestors-step-at m))
+    fewer room m l = omega (arith, ap length (more m))
 
     -- the hidden flag of a node that is not hidden itself
     pub hidden-top : slotsOf s ≤ p → hiddenAt f x ≡ false → isHidden f x ≡ false
     unfolding isHidden
-    hidden-top m e = rw (e, ancestors-end-at m) refl
+    hidden-top m e = rw (e, top m) refl
 
     pub hidden-more : p < slotsOf s → hiddenAt f x ≡ false → isHidden f x ≡ isHidden f (idIn s p)
     unfolding isHidden
-    hidden-more m e = rw (e, ancestors-step-at m) refl
+    hidden-more m e = rw (e, more m) refl
 
     -- the transforms above
     pub chain-top : (t : Affine) → slotsOf s ≤ p → chain t (transformsAbove f x) ≡ t
     unfolding chain transformsAbove
-    chain-top t m = rw (ancestors-end-at m) refl
+    chain-top t m = rw (top m) refl
 
     pub chain-more : (t : Affine) → p < slotsOf s
         → chain t (transformsAbove f x) ≡ chain (product (directTransform f (idIn s p)) t) (transformsAbove f (idIn s p))
     unfolding chain transformsAbove
-    chain-more t m = rw (ancestors-step-at m) refl
+    chain-more t m = rw (more m) refl

@@ -8,7 +8,7 @@ ghost use lib.ListN.{length, getD, getElem?};
 ghost use Rattle.state.specs.State.{parentAt};
 ghost use Rattle.state_array.specs.Layout.{child};
 ghost use Rattle.geometry_box.specs.Boxes.{chain};
-ghost use Rattle.questions.specs.Links.{childIds, siblings, ancestors, isHidden};
+ghost use Rattle.questions.specs.Links.{childIds, siblings, ancestors, hiddenAt, isHidden};
 ghost use Rattle.questions.specs.Boxes.{directTransform, transformsAbove, transform, boundingBox};
 ghost use Rattle.questions.specs.Walks.{turned};
 ghost use Rattle.questions.specs.declared.Side.the-variants.{Following, Preceding};
@@ -169,8 +169,7 @@ fn hidden_up(state: &State, i: usize, room: usize) -> bool
     if room == 0 {
         return false;
     }
-    let flags = state_array::word_at(state, state_array::FLAGS, i);
-    if flags % 2 == 1 {
+    if hidden_at(state, i) {
         return true;
     }
     let p = parent_slot(state, i);
@@ -178,6 +177,13 @@ fn hidden_up(state: &State, i: usize, room: usize) -> bool
         return false;
     }
     hidden_up(state, p, room - 1)
+}
+
+// The node's own hidden flag.
+pub fn hidden_at(state: &State, i: usize) -> bool
+    ensures { λ r. ⌜ OfSlot (now (state .entry)) i (λ f x. r ≡ hiddenAt f x) ⌝ }
+{
+    state_array::word_at(state, state_array::FLAGS, i) % 2 == 1
 }
 
 // The bounding box: that of the node's bounds under its transform, if it has bounds.

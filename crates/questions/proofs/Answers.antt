@@ -1,14 +1,14 @@
 -- Laws of answers: which number a question answers, what it answers after 0 and after another number, and a slice that is written element by
 -- element. Assumes nothing.
 use mathlib.Core.Bool.{true, false, not}
-use mathlib.Core.List.{List, [], _∷_}
+use mathlib.Core.List.{List, [], _∷_, _++_, append-assoc}
 use mathlib.Core.Path.{_≡_, refl, sym, ap, _∙_}
-use Prim.Native.Nat.{ℕ, zero, suc, _+_, _≤_, _<_}
+use Prim.Native.Nat.{ℕ, zero, suc, _+_, _*_, _≤_, _<_}
 use native.Mathlib.Numerals.{add-one}
 use native.Mathlib.Omega.{arith}
 use lib.Dec.{ltb}
-use lib.ListN.{length, set, length-append, length-drop}
-use lib.Seq.{drop-cons, append-snoc, set-at}
+use lib.ListN.{length, getD, take, drop, set, length-append, length-drop}
+use lib.Seq.{length-take-le, take-length, take-suc, drop-cons, append-snoc, set-at}
 use borrow.Author.Tests.{lt-ltb, le-ltb}
 use Rattle.base.specs.Tests.{_&&_}
 use Rattle.base.specs.Tables.{row, first}
@@ -18,7 +18,7 @@ use Rattle.base.proofs.Tables.{first-holds, first-passes, first-none, first-app
 use Rattle.ids.specs.declared.FullNodeId.{FullNodeId}
 use Rattle.state.specs.State.{Forest, present}
 use Rattle.state.specs.Sound.{sound}
-use Rattle.questions.specs.Answers.{askNumber, stateNumber, listNumber, after, written}
+use Rattle.questions.specs.Answers.{askNumber, stateNumber, listNumber, after, idWords, written}
 
 -- ## The number
 
@@ -82,3 +82,60 @@ module _ (f : ℕ → ℕ) (slice : List ℕ) where
   pub written-length : (j : ℕ) → j ≤ length slice → length (written (listOf j f) slice) ≡ length slice
   unfolding written
   written-length j h = simp (length-append, length-list-of, length-drop) (omega arith)
+
+-- ## Ids in the slice
+
+-- two words an id
+pub id-words-length : (xs : List FullNodeId) → length (idWords xs) ≡ 2 * length xs
+unfolding idWords
+id-words-length [] = refl
+id-words-length (x ∷ xs) = let h = id-words-length xs in omega arith
+
+id-words-append : (xs ys : List FullNodeId) → idWords (xs ++ ys) ≡ idWords xs ++ idWords ys
+unfolding idWords
+id-words-append [] ys = refl
+id-words-append (x ∷ xs) ys = ap (λ (l : List ℕ). x .tree .0 ∷ x .node .0 ∷ l) (id-words-append xs ys)
+
+-- two stores after what is written
+two-written : (ws slice : List ℕ) (m a b : ℕ) → length ws ≡ m → m + 2 ≤ length slice
+    → set (set (written ws slice) m a) (m + 1) b ≡ written (ws ++ a ∷ b ∷ []) slice
+unfolding written
+two-written ws slice m a b e h =
+    let long : length (ws ++ a ∷ []) ≡ m + 1 = length-append ws (a ∷ []) ∙ ap (λ (k : ℕ). k + 1) e in
+    let all : length (ws ++ a ∷ b ∷ []) ≡ suc (suc m) = length-append ws (a ∷ b ∷ []) ∙ (omega arith) in
+    let here : m < length slice = omega arith in
+    let next : suc m < length slice = omega arith in
+    let rest = drop (suc (suc m)) slice in
+    ap (λ (n : ℕ). set (set (ws ++ drop n slice) m a) (m + 1) b) e
+    ∙ ap (λ (l : List ℕ). set (set (ws ++ l) m a) (m + 1) b) (drop-cons slice m 0 here ∙ ap (λ (l : List ℕ). getD slice m 0 ∷ l) (drop-cons slice (suc m) 0 next))
+    ∙ ap (λ (l : List ℕ). set l (m + 1) b) (set-at ws (getD slice m 0) (getD slice (suc m) 0 ∷ rest) a m e ∙ sym (append-assoc ws (a ∷ []) (getD slice (suc m) 0 ∷ rest)))
+    ∙ set-at (ws ++ a ∷ []) (getD slice (suc m) 0) rest b (m + 1) long
+    ∙ append-assoc ws (a ∷ []) (b ∷ rest)
+    ∙ sym (append-assoc ws (a ∷ b ∷ []) rest)
+    ∙ ap (λ (n : ℕ). (ws ++ a ∷ b ∷ []) ++ drop n slice) (sym all)
+
+module _ (xs : List FullNodeId) (slice : List ℕ) where
+  -- the slice with the first k ids
+  abbrev pub writtenIds : ℕ → List ℕ
+  writtenIds k = written (idWords (take k xs)) slice
+
+  taken-words : (k : ℕ) → k ≤ length xs → length (idWords (take k xs)) ≡ 2 * k
+  taken-words k h = id-words-length (take k xs) ∙ ap (λ (n : ℕ). 2 * n) (length-take-le k xs h)
+
+  -- no id is written yet
+  pub ids-none : writtenIds 0 ≡ slice
+  unfolding written idWords
+  ids-none = refl
+
+  -- one id more
+  pub ids-more : (k : ℕ) (x d : FullNodeId) → k < length xs → 2 * k + 2 ≤ length slice → x ≡ getD xs k d
+      → set (set (writtenIds k) (2 * k) (x .tree .0)) (2 * k + 1) (x .node .0) ≡ writtenIds (k + 1)
+  unfolding idWords
+  ids-more k x d h room e =
+      two-written (idWords (take k xs)) slice (2 * k) (x .tree .0) (x .node .0) (taken-words k (omega arith)) room
+      ∙ ap (λ (l : List ℕ). written l slice)
+      (sym (id-words-append (take k xs) (x ∷ [])) ∙ ap idWords (rw (← e) at (sym (take-suc xs k d h))) ∙ ap (λ (n : ℕ). idWords (take n xs)) (sym (add-one k)))
+
+  -- all are written
+  pub ids-all : (k : ℕ) → k ≡ length xs → writtenIds k ≡ written (idWords xs) slice
+  ids-all k e = rw (e, take-length xs)

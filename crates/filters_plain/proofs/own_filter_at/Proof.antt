@@ -1,7 +1,6 @@
 -- `filters_plain::own_filter_at` meets its contract: the node's own flag is asked. Assumes nothing.
 use mathlib.Core.Path.{sym, _∙_}
 use borrow.Author.Needs.{needs}
-use Rattle.node_links.proofs.Up.{hidden-own, hidden-not}
 use Rattle.filters_plain.proofs.Own.{own-by-flag}
 use Rattle.filters_plain.proofs.Rows.{by-focused, by-hidden, by-transparent, by-plain}
 use Rattle.filters_plain.proofs.own_filter_at.Statement.{statement}
@@ -13,20 +12,20 @@ returns c = λ sound there. by-focused _ sound _ (c .before .pre) _ there _ (c .
 returns-2 : tie.Need-returns-2
 returns-2 c = λ sound there.
     let g = c .before .before in
-    by-hidden _ sound _ (g .before .pre) _ there _ (g .if1 .left) (hidden-own _ sound _ there _ (c .before .word-at .ensures) (c .if2 .taken)) ∙ sym (own-by-flag _ _)
+    by-hidden _ sound _ (g .before .pre) _ there _ (g .if1 .left) (sym (c .before .hidden-at .ensures sound there) ∙ c .if2 .taken) ∙ sym (own-by-flag _ _)
 
 returns-3 : tie.Need-returns-3
 returns-3 c = λ sound there.
     let k = c .before .before in
     let g = k .before .before in
-    by-transparent _ sound _ (g .before .pre) _ there _ (g .if1 .left) (hidden-not _ sound _ there _ (k .before .word-at .ensures) (k .if2 .left))
+    by-transparent _ sound _ (g .before .pre) _ there _ (g .if1 .left) (sym (k .before .hidden-at .ensures sound there) ∙ k .if2 .left)
     (sym (c .before .is-transparent .ensures sound there) ∙ c .if3 .taken) ∙ sym (own-by-flag _ _)
 
 returns-4 : tie.Need-returns-4
 returns-4 c = λ sound there.
     let k = c .before .before in
     let g = k .before .before in
-    by-plain _ sound _ (g .before .pre) _ there _ (g .if1 .left) (hidden-not _ sound _ there _ (k .before .word-at .ensures) (k .if2 .left))
+    by-plain _ sound _ (g .before .pre) _ there _ (g .if1 .left) (sym (k .before .hidden-at .ensures sound there) ∙ k .if2 .left)
     (sym (c .before .is-transparent .ensures sound there) ∙ c .if3 .left) ∙ sym (own-by-flag _ _)
 
 pub own-filter-at-spec : {M : Type 1} → statement M

@@ -1,6 +1,7 @@
 -- `node::read` meets its contract: a law for each way out. Assumes nothing.
 use denote.Ref.{now}
-use mathlib.Core.Path.{refl, sym, _∙_}
+use mathlib.Core.Path.{sym, _∙_}
+use Rattle.node_asked.proofs.Asks.{asked-here}
 use Rattle.node.proofs.Reading.{reading-refused, reading-given}
 use borrow.Author.Needs.{needs}
 use Rattle.node.proofs.read.Statement.{statement}
@@ -13,7 +14,10 @@ returns c =
     c .no-reading .ensures ∙ reading-refused (now (a .state)) (a .id) _ (n .asked .ensures .number-is) (c .before .if1 .taken)
 
 reading-requires : tie.Need-reading-requires
-reading-requires c κs = let at = c .before .before .asked .ensures .stands (c .if1 .left) in record { is-sound = at .is-sound; within = at .within; id-is = refl }
+reading-requires c κs =
+    let n = c .before .before in
+    let a = n .before .args in
+    asked-here (now (a .state)) (a .id) _ (n .asked .ensures .stands (c .if1 .left))
 
 returns-2 : tie.Need-returns-2
 returns-2 c =

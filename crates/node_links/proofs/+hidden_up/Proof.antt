@@ -5,11 +5,11 @@ use borrow.Author.Needs.{needs}
 use Prim.Native.Nat.{ℕ, _<_}
 use borrow.Fn.Kinds.{In}
 use borrow.Fn.PlainCycle.{Measures, is, falls, and}
-use Rattle.node_links.proofs.Up.{hidden-own, hidden-not, hidden-here, fewer, hidden-top, hidden-more}
+use Rattle.node_links.proofs.Up.{hidden-own, fewer, hidden-top, hidden-more}
 use Rattle.node_links.proofs.hidden_up.Reads as hidden-up
 use Rattle.node_links.proofs.hidden_up.Kinds as hidden-up-kinds
 use Rattle.node_links.proofs.+hidden_up.Lts-hidden_up as hidden-up-lts
-use Rattle.state_array.proofs.word_at.Reads as word-at-reads
+use Rattle.node_links.proofs.hidden_at.Reads as hidden-at-reads
 use Rattle.node_links.proofs.parent_slot.Reads as parent-slot-reads
 use Rattle.state_array.proofs.slots.Reads as slots-reads
 use Rattle.node_links.proofs.+hidden_up.{statement}
@@ -28,8 +28,8 @@ hidden-up-below t =
 -- what the calls ask and give
 abbrev calls : ℕ → hidden-up-lts.Claims
 calls t = (
-  word-at-reads.Asked,
-  word-at-reads.Learnt,
+  hidden-at-reads.Asked,
+  hidden-at-reads.Learnt,
   parent-slot-reads.Asked,
   parent-slot-reads.Learnt,
   slots-reads.Asked,
@@ -43,14 +43,14 @@ returns t c = λ sound there few. absurd (omega arith)
 
 returns-2 : (t : ℕ) → hidden-up-lts.Need-returns-2 (calls t) (hidden-up-at t) hidden-up.Post
 returns-2 t c = λ sound there few.
-    sym (hidden-here _ sound _ there (hidden-own _ sound _ there _ (c .before .word-at .ensures) (c .if2 .taken)))
+    sym (hidden-own _ sound _ there (sym (c .before .hidden-at .ensures sound there) ∙ c .if2 .taken))
 
 returns-3 : (t : ℕ) → hidden-up-lts.Need-returns-3 (calls t) (hidden-up-at t) hidden-up.Post
 returns-3 t c = λ sound there few.
     let g = c .before .before .before in
     sym
     (hidden-top _ sound _ there _ (c .before .before .parent-slot .ensures sound there) (rw (c .before .slots .ensures) at (c .if3 .taken))
-    (hidden-not _ sound _ there _ (g .before .word-at .ensures) (g .if2 .left)))
+    (sym (g .before .hidden-at .ensures sound there) ∙ g .if2 .left))
 
 hidden-up-requires : (t : ℕ) → hidden-up-lts.Need-hidden-up-requires (calls t) (hidden-up-at t) hidden-up.Post
 hidden-up-requires t c κs =
@@ -63,7 +63,7 @@ returns-4 t c = λ sound there few.
     let up = c .before .before .before .parent-slot .ensures sound there in
     let p = rw (c .before .before .slots .ensures) at (c .before .if3 .left) in
     c .hidden-up .ensures sound p (fewer _ sound _ there _ up _ p few)
-    ∙ sym (hidden-more _ sound _ there _ up p (hidden-not _ sound _ there _ (g .before .word-at .ensures) (g .if2 .left)))
+    ∙ sym (hidden-more _ sound _ there _ up p (sym (g .before .hidden-at .ensures sound there) ∙ g .if2 .left))
 
 pub +hidden-up-spec : {M : Type 1} → statement M
 +hidden-up-spec = close μ-hidden-up λ t. hidden-up-lts.spec (calls t)
