@@ -1,0 +1,151 @@
+// Module 6 over the state in memory, a node by its slot: parent, children, siblings. Each answers for any words, and where the state is
+// sound and slot i holds a node, what questions/Links says. A slot that is handed out is the number of slots where there is no such node.
+ghost use mathlib.Core.List.{head?};
+ghost use mathlib.Core.Path.{_≡_};
+ghost use Prim.Native.Nat.{_+_, _<_};
+ghost use lib.ListN.{length, getD, getElem?};
+ghost use Rattle.state.specs.State.{parentAt};
+ghost use Rattle.state_array.specs.Layout.{child};
+ghost use Rattle.questions.specs.Links.{childIds, siblings};
+ghost use Rattle.questions.specs.Walks.{turned};
+ghost use Rattle.questions.specs.declared.Side.the-variants.{Following, Preceding};
+ghost use Rattle.node_links.specs.Slots.{slotId, OfSlot};
+use ids::FullNodeId;
+use ids::NodeId;
+use questions::Side;
+use state_array::State;
+use state_lookup::FoundTree;
+
+// The parent's slot.
+pub fn parent_slot(state: &State, i: usize) -> usize
+    ensures { λ r. ⌜ OfSlot (now (state .entry)) i (λ f x. slotId (now (state .entry)) r ≡ parentAt (f .nodes) x) ⌝ }
+{
+    let link = state_array::link_at(state, i);
+    if link.linked == 0 {
+        return state_array::slots(state);
+    }
+    state_lookup::slot_near(state, i, link.parent)
+}
+
+// How many children there are; of a graft 1 where its tree exists, else 0.
+pub fn child_count(state: &State, i: usize) -> usize
+    ensures { λ r. ⌜ OfSlot (now (state .entry)) i (λ f x. r ≡ length (childIds f x)) ⌝ }
+{
+    let shape = state_array::shape_at(state, i);
+    if !state_array::is_graft(shape.flags) {
+        return shape.child_count as usize;
+    }
+    match state_lookup::tree_of(state, shape.graft) {
+        FoundTree::At(_) => 1,
+        FoundTree::Nothing => 0,
+    }
+}
+
+// Child k, without a search for its slot.
+pub fn child_id(state: &State, i: usize, k: usize) -> FullNodeId
+    ensures { λ r. ⌜ OfSlot (now (state .entry)) i (λ f x. (k < length (childIds f x) → r ≡ getD (childIds f x) k x)) ⌝ }
+{
+    let shape = state_array::shape_at(state, i);
+    let x = state_array::id_at(state, i);
+    if !state_array::is_graft(shape.flags) {
+        let tree = x.tree;
+        let node = child_entry(state, x.node, shape.first_child, k);
+        return FullNodeId { tree, node };
+    }
+    match state_lookup::tree_of(state, shape.graft) {
+        FoundTree::At(e) => e.root,
+        FoundTree::Nothing => x,
+    }
+}
+
+// The slot of child k.
+pub fn child_slot(state: &State, i: usize, k: usize) -> usize
+    ensures { λ r. ⌜ OfSlot (now (state .entry)) i (λ f x. slotId (now (state .entry)) r ≡ getElem? (childIds f x) k) ⌝ }
+{
+    if child_count(state, i) <= k {
+        return state_array::slots(state);
+    }
+    state_lookup::slot_near(state, i, child_id(state, i, k))
+}
+
+// The slot of the first child, or on the preceding side of the last.
+pub fn first_child_slot(state: &State, side: Side, i: usize) -> usize
+    ensures { λ r. ⌜ OfSlot (now (state .entry)) i (λ f x. slotId (now (state .entry)) r ≡ head? (turned side (childIds f x))) ⌝ }
+{
+    match side {
+        Side::Following => child_slot(state, i, 0),
+        Side::Preceding => last_child_slot(state, i),
+    }
+}
+
+// The slot of the last child.
+fn last_child_slot(state: &State, i: usize) -> usize
+    ensures { λ r. ⌜ OfSlot (now (state .entry)) i (λ f x. slotId (now (state .entry)) r ≡ head? (turned Preceding (childIds f x))) ⌝ }
+{
+    let count = child_count(state, i);
+    if count == 0 {
+        return state_array::slots(state);
+    }
+    state_lookup::slot_near(state, i, child_id(state, i, count - 1))
+}
+
+// The slot of the next sibling on a side, from the recorded link and the parent's children.
+pub fn sibling_slot(state: &State, side: Side, i: usize) -> usize
+    ensures { λ r. ⌜ OfSlot (now (state .entry)) i (λ f x. slotId (now (state .entry)) r ≡ head? (siblings side f x)) ⌝ }
+{
+    match side {
+        Side::Following => following_slot(state, i),
+        Side::Preceding => preceding_slot(state, i),
+    }
+}
+
+// That of the next one in order.
+fn following_slot(state: &State, i: usize) -> usize
+    ensures { λ r. ⌜ OfSlot (now (state .entry)) i (λ f x. slotId (now (state .entry)) r ≡ head? (siblings Following f x)) ⌝ }
+{
+    let n = state_array::slots(state);
+    let link = state_array::link_at(state, i);
+    let p = parent_slot(state, i);
+    if n <= p {
+        return n;
+    }
+    let count = child_count(state, p) as u64;
+    let index = link.index;
+    if count <= index {
+        return n;
+    }
+    if count - index < 2 {
+        return n;
+    }
+    state_lookup::slot_near(state, i, child_id(state, p, index as usize + 1))
+}
+
+// That of the one before it.
+fn preceding_slot(state: &State, i: usize) -> usize
+    ensures { λ r. ⌜ OfSlot (now (state .entry)) i (λ f x. slotId (now (state .entry)) r ≡ head? (siblings Preceding f x)) ⌝ }
+{
+    let n = state_array::slots(state);
+    let link = state_array::link_at(state, i);
+    let p = parent_slot(state, i);
+    if n <= p {
+        return n;
+    }
+    let index = link.index;
+    if index == 0 {
+        return n;
+    }
+    state_lookup::slot_near(state, i, child_id(state, p, index as usize - 1))
+}
+
+// The child entry at place k from `first` on; `own` where there is none.
+fn child_entry(state: &State, own: NodeId, first: u64, k: usize) -> NodeId
+    ensures { λ r. ⌜ r ≡ record { 0 = child (now (state .entry)) (own .0) (first + k) } ⌝ }
+{
+    if 512 <= first {
+        return own;
+    }
+    if 512 <= k {
+        return own;
+    }
+    NodeId(state_array::child_at(state, own.0, first as usize + k))
+}
