@@ -5,3 +5,4 @@ pub mod Ahead
 pub mod Shown
 pub mod Deepest
 pub mod Exact
+pub mod Kept

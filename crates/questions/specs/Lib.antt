@@ -5,3 +5,4 @@ pub mod Walks
 pub mod Ahead
 pub mod Filters
 pub mod Answers
+pub mod Kept
