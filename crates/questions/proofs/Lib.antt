@@ -5,4 +5,5 @@ pub mod Ahead
 pub mod Shown
 pub mod Deepest
 pub mod Exact
+pub mod Few
 pub mod Kept

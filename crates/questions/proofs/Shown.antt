@@ -1,9 +1,8 @@
 -- What is still to be listed of a walk, and how each step of it changes that. Assumes nothing.
 use mathlib.Core.Bool.{Bool, true, false}
-use mathlib.Core.List.{List, [], _∷_, _++_, reverse, flatMap, head?}
-use mathlib.Core.Option.{Option, none, some}
+use mathlib.Core.List.{List, [], _∷_, _++_, reverse, flatMap}
 use mathlib.Core.Path.{_≡_, refl, sym, ap, _∙_}
-use Prim.Native.Nat.{ℕ, zero, suc, _+_, _≤_, _<_}
+use Prim.Native.Nat.{ℕ, zero, suc, _<_}
 use native.Mathlib.Omega.{arith}
 use lib.ListN.{length, length-append, take}
 use Rattle.base.specs.Tests.{if_then_else_}
@@ -15,7 +14,7 @@ use Rattle.questions.specs.declared.Side.the-variants.{Following, Preced
 use Rattle.questions.specs.declared.FilterResult.{FilterResult}
 use Rattle.questions.specs.declared.FilterResult.the-variants.{Include, ExcludeNode, ExcludeSubtree}
 use Rattle.questions.specs.Links.{childIds, siblings, ancestors}
-use Rattle.questions.specs.Walks.{turned, leading, shownWithin, shown, filteredChildren, lastFilteredChild, isExcludedNode, climbed}
+use Rattle.questions.specs.Walks.{turned, leading, shownWithin, shown, filteredChildren, isExcludedNode, climbed}
 use Rattle.questions.specs.Ahead.{ahead}
 use Rattle.questions.proofs.Flat.{flat-append, flat-cong, flat-reverse}
 use Rattle.questions.proofs.Walks.{gather, gather-step, turned-member, shown-include, shown-node, shown-subtree}
@@ -39,14 +38,14 @@ module _ (filter : FullNodeId → FilterResult) (side : Side) (s : Forest) (h : 
 -- ## How many nodes a walk can still meet
 
 -- a node and all below it
-everything : Side → Forest → FullNodeId → List FullNodeId
+unfoldable pub everything : Side → Forest → FullNodeId → List FullNodeId
 everything side s x = gather (λ y. y ∷ []) (λ y. turned side (childIds s y)) (length (s .nodes)) x
 
-pub mass : Side → Forest → List FullNodeId → ℕ
+unfoldable pub mass : Side → Forest → List FullNodeId → ℕ
 mass side s xs = length (flatMap (everything side s) xs)
 
 module _ (side : Side) (s : Forest) (h : Shape s) (x : FullNodeId) (there : present (s .nodes) x ≡ true) (ys : List FullNodeId) where
-  mass-step : everything side s x ≡ x ∷ flatMap (everything side s) (turned side (childIds s x))
+  pub mass-step : everything side s x ≡ x ∷ flatMap (everything side s) (turned side (childIds s x))
   unfolding everything
   mass-step = gather-step s h (λ y. y ∷ []) (λ y. turned side (childIds s y)) (λ y z i. turned-member side (childIds s y) z i) x there
 
