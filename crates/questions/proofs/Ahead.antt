@@ -1,13 +1,13 @@
 -- The way of a walk: what is ahead of a node on one side, some levels up, and how each step of a walk takes one node off it.
 -- Assumes nothing.
-use mathlib.Core.Bool.{Bool, true}
-use mathlib.Core.List.{List, [], _∷_, _++_, reverse, flatMap, head?, append-assoc, append-nil, reverse-append}
+use mathlib.Core.Bool.{true}
+use mathlib.Core.List.{List, [], _∷_, _++_, reverse, flatMap, head?, reverse-append}
 use mathlib.Core.Option.{Option, none, some, Option·none-ne-some, Option·some-injective}
-use mathlib.Core.Path.{_≡_, refl, sym, ap, ap₂, _∙_, subst}
-use Prim.Native.Nat.{ℕ, zero, suc, _+_, _-_, _≤_, _<_}
+use mathlib.Core.Path.{_≡_, refl, sym, ap, _∙_}
+use Prim.Native.Nat.{ℕ, zero, suc, _≤_, _<_}
 use native.Mathlib.Omega.{arith}
 use lib.ListN.{length, getD, take, drop}
-use lib.Seq.{drop-cons, take-suc, take-all, take-nil}
+use lib.Seq.{take-suc, take-all, take-nil}
 use Rattle.ids.specs.declared.FullNodeId.{FullNodeId}
 use Rattle.state.specs.State.{ParentAndIndex, Forest, present, linkAt}
 use Rattle.state.proofs.Sound.{Shape}
@@ -18,7 +18,6 @@ use Rattle.questions.specs.Links.{childIds, beside, siblings, ancestors}
 use Rattle.questions.specs.Walks.{turned}
 use Rattle.questions.specs.Ahead.{ahead}
 use Rattle.questions.proofs.Links.{child-link, link-child, ancestors-step, ancestors-end}
-use Rattle.questions.proofs.Flat.{flat-append}
 
 -- ## One step aside in a list
 

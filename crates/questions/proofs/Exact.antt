@@ -1,6 +1,6 @@
 -- The box of a node of a sound state is exact where transforms only shift, and bounds and shifts are whole and small. Assumes nothing.
 use mathlib.Core.Bool.{true}
-use mathlib.Core.Path.{_≡_, _∙_}
+use mathlib.Core.Path.{_≡_}
 use Prim.Native.Nat.{_<_}
 use native.Mathlib.Omega.{arith}
 use lib.IntN.{ℤ}
@@ -12,7 +12,6 @@ use Rattle.geometry_box.proofs.Exact.{exact-box}
 use Rattle.state.specs.State.{Forest, present}
 use Rattle.state.specs.Sound.{sound}
 use Rattle.state.proofs.Sound.{Sound, sound-parts, shape-parts}
-use Rattle.questions.specs.Links.{ancestors}
 use Rattle.questions.specs.Boxes.{directTransform, transformsAbove, boundingBox}
 use Rattle.questions.specs.Exact.{OnlyShifted}
 use Rattle.questions.proofs.Links.{ancestors-few}

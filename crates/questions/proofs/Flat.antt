@@ -1,7 +1,7 @@
 -- Laws of lists that are put together from the lists of their elements. Assumes nothing.
 use mathlib.Core.List.{List, [], _∷_, _++_, reverse, flatMap, append-assoc, append-nil, reverse-append, reverse-cons, List·Memᴰ, List·Memᴰ·head, List·Memᴰ·tail, List·Memᴰ·not-nil, List·Memᴰ·eq-of-singleton, List·Memᴰ·append-cases}
 use mathlib.Core.Logic.{_⊎_, inl, inr}
-use mathlib.Core.Path.{_≡_, refl, sym, ap, ap₂, _∙_, subst}
+use mathlib.Core.Path.{_≡_, refl, sym, ap, ap₂, _∙_}
 
 module _ {A B : Type 0} where
   pub flat-append : (f : A → List B) (xs ys : List A) → flatMap f (xs ++ ys) ≡ flatMap f xs ++ flatMap f ys

@@ -11,12 +11,12 @@ use Rattle.ids.specs.declared.FullNodeId.{FullNodeId}
 use Rattle.ids.specs.declared.NodeId.{NodeId}
 use Rattle.ids.specs.declared.TreeId.{TreeId}
 use Rattle.record.specs.Batch.{graft?}
-use Rattle.state.specs.State.{ParentAndIndex, NodeState, Forest, find, present, linkAt, parentOf, parentAt, SubtreeState, subtreeOf}
+use Rattle.state.specs.State.{ParentAndIndex, NodeState, Forest, find, present, linkAt, parentAt, SubtreeState, subtreeOf}
 use Rattle.state.specs.Down.{Met, metUnder, childrenMet, below, belowId, wayDown, climb}
 use Rattle.state.proofs.State.{find-id}
 use Rattle.state.proofs.Sound.{Shape, Root, root-of-shape}
 use Rattle.state.proofs.Down.{Descent, descent, some-met, below-met}
-use Rattle.state.proofs.Family.{Child, child, parent-present, climb-ends, linked-present}
+use Rattle.state.proofs.Family.{child, climb-ends, linked-present}
 use Rattle.questions.specs.Links.{childIds, ancestorsWithin, ancestors, hiddenAt, isHidden}
 
 -- ## Places in lists
@@ -144,6 +144,25 @@ module _ (ns : List NodeState) where
   unfolding ancestorsWithin
   within-top zero x e = refl
   within-top (suc room) x e = within-above room x ∙ ap (above room) e
+
+-- ## A parent is that of a link
+
+pub parent-link : (ns : List NodeState) (x p : FullNodeId) → parentAt ns x ≡ some p → (l : ParentAndIndex) × (linkAt ns x ≡ some l) × (l .parent ≡ p)
+unfolding parentAt
+parent-link ns x p = go (linkAt ns x)
+  where
+    go : (o : Option ParentAndIndex) → (elim o as (λ _. Option FullNodeId) [ none ↦ none | some l ↦ some (l .parent) ]) ≡ some p
+        → (l : ParentAndIndex) × (o ≡ some l) × (l .parent ≡ p)
+    go none e = absurd (Option·none-ne-some p e)
+    go (some l) e = (l, refl, Option·some-injective (l .parent) p e)
+
+pub parentless-link : (ns : List NodeState) (x : FullNodeId) → parentAt ns x ≡ none → linkAt ns x ≡ none
+unfolding parentAt
+parentless-link ns x = go (linkAt ns x)
+  where
+    go : (o : Option ParentAndIndex) → _≡_ {A = Option FullNodeId} (elim o as (λ _. Option FullNodeId) [ none ↦ none | some l ↦ some (l .parent) ]) none → o ≡ none
+    go none e = refl
+    go (some l) e = absurd (Option·none-ne-some (l .parent) (sym e))
 
 -- ## A link and the children of its parent say the same
 
