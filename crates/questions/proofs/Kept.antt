@@ -10,20 +10,8 @@ use Rattle.ids.specs.declared.FullNodeId.{FullNodeId}
 use Rattle.state.specs.State.{State}
 use Rattle.questions.specs.declared.Walk.{Walk}
 use Rattle.questions.specs.Answers.{after}
+use Rattle.questions.proofs.Places.{at-none, at-some}
 use Rattle.questions.specs.Kept.{walkList, walkNumber, moved, stepped, nextOf, answers}
-
-module _ {A : Type 0} where
-  -- what stands at a place is the first of what stands from there on
-  at-none : (l : List A) (c : ℕ) → drop c l ≡ [] → getElem? l c ≡ none
-  at-none [] c e = refl
-  at-none (y ∷ l) zero e = absurd (let z : _≡_ {A = ℕ} 0 1 = cc in omega arith)
-  at-none (y ∷ l) (suc c) e = at-none l c e
-
-  at-some : (l : List A) (c : ℕ) (x : A) (xs : List A) → drop c l ≡ x ∷ xs → (getElem? l c ≡ some x) × (drop (suc c) l ≡ xs)
-  at-some [] zero x xs e = absurd (let z : _≡_ {A = ℕ} 0 1 = cc in omega arith)
-  at-some [] (suc c) x xs e = absurd (let z : _≡_ {A = ℕ} 0 1 = cc in omega arith)
-  at-some (y ∷ l) zero x xs e = (cc, cc)
-  at-some (y ∷ l) (suc c) x xs e = at-some l c x xs e
 
 -- the list and the number do not look at the count
 list-moved : (s : State) (w : Walk) → walkList s (moved w) ≡ walkList s w

@@ -6,4 +6,6 @@ pub mod Shown
 pub mod Deepest
 pub mod Exact
 pub mod Few
+pub mod Places
+pub mod Answers
 pub mod Kept
