@@ -1,8 +1,8 @@
 -- Laws of what a question answers: ids as words, a list in a slice, its number. Assumes nothing.
-use mathlib.Core.Bool.{Bool, true, false, not}
-use mathlib.Core.List.{List, [], _∷_, _++_, append-assoc, append-nil}
+use mathlib.Core.Bool.{not}
+use mathlib.Core.List.{List, [], _∷_, _++_}
 use mathlib.Core.Path.{_≡_, refl, sym, ap, ap₂, _∙_}
-use Prim.Native.Nat.{ℕ, zero, suc, _+_, _*_, _≤_, _<_}
+use Prim.Native.Nat.{ℕ, zero, suc, _+_, _*_, _≤_}
 use native.Mathlib.Omega.{arith}
 use lib.Dec.{ltb}
 use lib.ListN.{length, set, drop, length-append, length-drop}
@@ -13,7 +13,7 @@ use Rattle.base.proofs.Tables.{first-append, first-append-none}
 use Rattle.ids.specs.declared.FullNodeId.{FullNodeId}
 use Rattle.state.specs.State.{Forest, present}
 use Rattle.state.specs.Sound.{sound}
-use Rattle.questions.specs.Answers.{askNumber, listNumber, idWords, written}
+use Rattle.questions.specs.Answers.{askNumber, listNumber, after, idWords, written}
 
 -- ## Ids as words
 
@@ -54,6 +54,12 @@ written-more xs x slice k e h =
     ∙ ap₂ (λ (p : List ℕ) (n : ℕ). p ++ drop n slice) (sym (words-append xs (x ∷ []))) all
 
 -- ## The number
+
+-- after any number but 0 the answer is nothing
+pub after-other : {A : Type 0} (n : ℕ) (nothing answer : A) → (n ≡ 0 → ⊥) → nothing ≡ after n nothing answer
+unfolding after
+after-other zero nothing answer h = absurd (h refl)
+after-other (suc n) nothing answer h = refl
 
 module _ (s : Forest) (x : FullNodeId) (room wanted : ℕ) where
   -- 1 and 22 come first

@@ -22,10 +22,10 @@ use Rattle.questions.specs.declared.FilterResult.the-variants.{Include, 
 use Rattle.questions.specs.Links.{childIds, beside, siblings, ancestors}
 use Rattle.questions.specs.Walks.{turned, shownWithin, shown}
 use Rattle.questions.specs.Ahead.{ahead}
-use Rattle.questions.proofs.Links.{link-child, ancestors-step}
+use Rattle.questions.proofs.Links.{link-child, ancestors-step, ancestors-few}
 use Rattle.questions.proofs.Ahead.{siblings-of, ahead-top}
 use Rattle.questions.proofs.Walks.{gather}
-use Rattle.questions.proofs.Shown.{everything, mass, mass-step}
+use Rattle.questions.proofs.Shown.{everything, mass, mass-step, mass-into, mass-past}
 
 -- ## Sums over parts of a list
 
@@ -233,3 +233,39 @@ module _ (side : Side) (s : Forest) where
           sum-most (λ y. length (shown filter side s y)) weight xs (λ y _. shown-fewer (length (s .nodes)) y),
         )
         )
+
+  -- so the lists of a walk are no longer than there are nodes
+  module _ (h : Shape s) (x : FullNodeId) (there : present (s .nodes) x ≡ true) where
+    pub siblings-few : length (siblings side s x) ≤ length (s .nodes)
+    unfolding ahead flatMap
+    siblings-few =
+        omega (
+          arith,
+          ancestors-few s h x there,
+          run-few (omega (arith, ancestors-few s h x there)) (x ∷ ahead side s 0 x),
+          met-few h 0 x there,
+          length-append (siblings side s x) [],
+        )
+
+    pub run-below-few : length (turned side (childIds s x)) ≤ length (s .nodes)
+    run-below-few =
+        let below = turned side (childIds s x) in
+        omega (
+          arith,
+          run-few (omega (arith, ancestors-few s h x there)) (below ++ ahead side s 0 x),
+          mass-into side s h x there (ahead side s 0 x),
+          met-few h 0 x there,
+          length-append below (ahead side s 0 x),
+        )
+
+    module _ (filter : FullNodeId → FilterResult) (level : ℕ) where
+      pub listed-few : length (flatMap (shown filter side s) (x ∷ ahead side s level x)) ≤ length (s .nodes)
+      listed-few = omega (arith, shown-few filter (x ∷ ahead side s level x), met-few h level x there)
+
+      pub ahead-few : length (flatMap (shown filter side s) (ahead side s level x)) ≤ length (s .nodes)
+      ahead-few =
+          omega (arith, shown-few filter (ahead side s level x), mass-past side s h x there (ahead side s level x), met-few h level x there)
+
+pub kids-few : (s : Forest) → Shape s → (x : FullNodeId) → present (s .nodes) x ≡ true → length (childIds s x) ≤ length (s .nodes)
+unfolding turned
+kids-few s h x there = run-below-few Following s h x there

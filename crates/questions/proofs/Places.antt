@@ -10,6 +10,7 @@ use Rattle.ids.specs.declared.FullNodeId.{FullNodeId}
 use Rattle.questions.specs.declared.Side.{Side}
 use Rattle.questions.specs.declared.Side.the-variants.{Following, Preceding}
 use Rattle.questions.specs.Links.{beside}
+use Rattle.questions.specs.Ahead.{placeBeside, countBeside}
 
 module _ {A : Type 0} where
   -- what stands at a place is the first of what stands from there on
@@ -42,16 +43,6 @@ module _ {A : Type 0} where
   place-out (x ∷ l) (suc c) h = place-out l c (omega arith)
 
 -- ## Beside an element
-
--- the place of the k-th beside place i
-abbrev pub placeBeside : Side → ℕ → ℕ → ℕ
-placeBeside Following i k = i + 1 + k
-placeBeside Preceding i k = i - 1 - k
-
--- how many stand there
-abbrev pub countBeside : Side → ℕ → ℕ → ℕ
-countBeside Following i n = n - i - 1
-countBeside Preceding i n = i
 
 pub beside-length : (side : Side) (i : ℕ) (xs : List FullNodeId) → i < length xs → length (beside side i xs) ≡ countBeside side i (length xs)
 unfolding beside
