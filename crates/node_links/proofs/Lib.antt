@@ -2,3 +2,4 @@ pub mod Places
 pub mod Slots
 pub mod Links
 pub mod Siblings
+pub mod Up

@@ -1,9 +1,10 @@
 -- The links of the node in a slot, from its words: the link that it records, its children, the first sibling on a side. Assumes nothing.
 use mathlib.Core.Bool.{Bool, true, false}
 use mathlib.Core.List.{List, [], _∷_, map}
-use mathlib.Core.Option.{Option, none, some}
+use mathlib.Core.Option.{Option, none, some, Option·none-ne-some, Option·some-injective}
 use mathlib.Core.Path.{_≡_, refl, sym, ap, _∙_}
-use Prim.Native.Nat.{ℕ, zero, suc, _+_, _<_}
+use Prim.Native.Nat.{ℕ, zero, suc, _+_, _≤_, _<_}
+use native.Mathlib.Decide.{decLt}
 use native.Mathlib.Omega.{arith}
 use lib.ListN.{length, getD}
 use borrow.Author.Tests.{eq-eqb, ne-eqb}
@@ -13,7 +14,7 @@ use Rattle.base.proofs.Bytes.{map-list-of, length-list-of, list-of-at}
 use Rattle.ids.specs.declared.FullNodeId.{FullNodeId}
 use Rattle.ids.specs.declared.NodeId.{NodeId}
 use Rattle.record.specs.Batch.{graft?}
-use Rattle.state.specs.State.{Forest, linkAt, parentAt, SubtreeState, subtreeOf}
+use Rattle.state.specs.State.{ParentAndIndex, Forest, linkAt, parentAt, SubtreeState, subtreeOf}
 use Rattle.state.specs.Down.{Met, metUnder, childrenMet, below, belowId}
 use Rattle.state.proofs.Family.{parent-present}
 use Rattle.state_array.specs.declared.LinkRow.{LinkRow}
@@ -26,7 +27,7 @@ use Rattle.state_lookup.specs.declared.FoundTree.the-variants as tree
 use Rattle.state_lookup.specs.Lookup.{SlotOf, endsOf}
 use Rattle.questions.specs.Links.{childIds}
 use Rattle.node_links.specs.Slots.{Sound, slotId}
-use Rattle.node_links.proofs.Slots.{slot-shape, slot-found, slot-id-none, slot-of-present}
+use Rattle.node_links.proofs.Slots.{slot-shape, slot-found, slot-id-some, slot-id-none, slot-of-present}
 
 -- ## Lists of ids
 
@@ -86,6 +87,36 @@ module _ (s : List ℕ) (h : Sound s) (i : ℕ) (there : i < slotsOf s) where
     parent-some r e found =
         slot-of-present s h (l .parent) r found (parent-present f (slot-shape s h) x _ (link-some e))
         ∙ sym (rw (link-some e, parentAt) refl)
+
+  -- ## The link by the parent's slot
+
+  abbrev Linked : Option ParentAndIndex → Type 0
+  Linked o = linkAt (f .nodes) x ≡ o
+
+  module _ (p : ℕ) (up : slotId s p ≡ parentAt (f .nodes) x) where
+    -- a node without a parent
+    pub unlinked : slotsOf s ≤ p → Linked none
+    unfolding parentAt
+    unlinked m = go (linkAt (f .nodes) x) refl
+      where
+        go : (o : Option ParentAndIndex) → Linked o → Linked none
+        go none q = q
+        go (some k) q = absurd (Option·none-ne-some (k .parent) (sym (slot-id-none s p m) ∙ up ∙ rw (q, parentAt) refl))
+
+    -- one with a parent
+    pub linked : p < slotsOf s → Linked (some (record { parent = idIn s p; index = linkIn s i .index }))
+    unfolding parentAt
+    linked m = go (decLt 0 (linkIn s i .linked))
+      where
+        go : Dec (0 < linkIn s i .linked) → Linked (some (record { parent = idIn s p; index = linkIn s i .index }))
+        go (yes a) =
+            let q = link-some (linkIn s i) refl (λ z. omega arith) in
+            let parent : some (linkIn s i .parent) ≡ some (idIn s p) = sym (rw (q, parentAt) refl) ∙ sym up ∙ slot-id-some s p m in
+            q
+            ∙ ap (λ (y : FullNodeId). some (record { parent = y; index = linkIn s i .index })) (Option·some-injective (linkIn s i .parent) (idIn s p) parent)
+        go (no a) =
+            let q = link-none (linkIn s i) refl (omega arith) in
+            absurd (Option·none-ne-some (idIn s p) (sym (rw (q, parentAt) refl) ∙ sym up ∙ slot-id-some s p m))
 
   -- ## Down
 

@@ -1,9 +1,8 @@
 -- The next sibling on a side, by its place among the parent's children, and the slots of children. Assumes nothing.
 use mathlib.Core.List.{List, head?, reverse}
-use mathlib.Core.Option.{Option, none, some, Option·none-ne-some, Option·some-injective}
+use mathlib.Core.Option.{Option, none, some}
 use mathlib.Core.Path.{_≡_, refl, sym, ap, _∙_}
 use Prim.Native.Nat.{ℕ, suc, _+_, _≤_, _<_}
-use native.Mathlib.Decide.{decLt}
 use native.Mathlib.Numerals.{add-one}
 use native.Mathlib.Omega.{arith}
 use lib.ListN.{length, getD, getElem?, take}
@@ -19,8 +18,8 @@ use Rattle.questions.specs.declared.Side.the-variants.{Following, Preceding}
 use Rattle.questions.proofs.Links.{link-child, child-present}
 use Rattle.node_links.specs.Slots.{Sound, slotId}
 use Rattle.node_links.proofs.Places.{place-at, place-past, head-drop, last-take, last-at, last-none}
-use Rattle.node_links.proofs.Slots.{slot-id-some, slot-id-none, slot-shape, slot-present, slot-of-present}
-use Rattle.node_links.proofs.Links.{link-none, link-some}
+use Rattle.node_links.proofs.Slots.{slot-id-none, slot-shape, slot-present, slot-of-present}
+use Rattle.node_links.proofs.Links.{unlinked, linked}
 
 -- ## Siblings by their place
 
@@ -104,60 +103,38 @@ module _ (s : List ℕ) (h : Sound s) where
   -- ## Siblings by slots
 
   module _ (i : ℕ) (there : i < slotsOf s) (l : LinkRow) (read : l ≡ linkIn s i) (p : ℕ) (up : slotId s p ≡ parentAt (f .nodes) (idIn s i)) where
-    -- the link by the parent's slot
-    abbrev Linked : Option ParentAndIndex → Type 0
-    Linked o = linkAt (f .nodes) (idIn s i) ≡ o
-
-    unlinked : slotsOf s ≤ p → Linked none
-    unfolding parentAt
-    unlinked h = go (linkAt (f .nodes) (idIn s i)) refl
-      where
-        go : (o : Option ParentAndIndex) → Linked o → Linked none
-        go none q = q
-        go (some k) q = absurd (Option·none-ne-some (k .parent) (sym (slot-id-none s p h) ∙ up ∙ rw (q, parentAt) refl))
-
-    linked : p < slotsOf s → Linked (some (record { parent = idIn s p; index = l .index }))
-    unfolding parentAt
-    linked m = go (decLt 0 (l .linked))
-      where
-        go : Dec (0 < l .linked) → Linked (some (record { parent = idIn s p; index = l .index }))
-        go (yes a) =
-            let q = link-some s h i there l read (λ z. omega arith) in
-            let parent : some (l .parent) ≡ some (idIn s p) = sym (rw (q, parentAt) refl) ∙ sym up ∙ slot-id-some s p m in
-            q ∙ ap (λ (y : FullNodeId). some (record { parent = y; index = l .index })) (Option·some-injective (l .parent) (idIn s p) parent)
-        go (no a) =
-            let q = link-none s h i there l read (omega arith) in
-            absurd (Option·none-ne-some (idIn s p) (sym (rw (q, parentAt) refl) ∙ sym up ∙ slot-id-some s p m))
-
     -- a node without a parent has no sibling
     pub sibling-none : (side : Side) (n : ℕ) → slotsOf s ≤ p → n ≡ slotsOf s → slotId s n ≡ head? (siblings side f (idIn s i))
-    sibling-none side n m q = none-slot n _ q (siblings-none f (idIn s i) side (unlinked m))
+    sibling-none side n m q = none-slot n _ q (siblings-none f (idIn s i) side (unlinked s h i there p up m))
 
     module _ (m : p < slotsOf s) where
+      link : linkAt (f .nodes) (idIn s i) ≡ some (record { parent = idIn s p; index = l .index })
+      link = linked s h i there p up m ∙ ap (λ (k : LinkRow). some (record { parent = idIn s p; index = k .index })) (sym read)
+
       -- the node's place is one among the parent's children
       within : l .index < length (kids p)
-      within = link-child f (slot-shape s h) (idIn s i) _ (idIn s p) (linked m) .0
+      within = link-child f (slot-shape s h) (idIn s i) _ (idIn s p) link .0
 
       -- after the last child, and after another
       pub following-none : (count n : ℕ) → count ≡ length (kids p) → count ≤ l .index + 1 → n ≡ slotsOf s
           → slotId s n ≡ head? (siblings Following f (idIn s i))
       following-none count n counted e q =
-          none-slot n _ q (siblings-next f (idIn s i) _ (linked m) ∙ place-past (kids p) (suc (l .index)) (omega arith))
+          none-slot n _ q (siblings-next f (idIn s i) _ link ∙ place-past (kids p) (suc (l .index)) (omega arith))
 
       pub following-at : (count : ℕ) (y : FullNodeId) (r : ℕ) → count ≡ length (kids p) → l .index + 1 < count
           → Stands (kids p) (idIn s p) (l .index + 1) y → SlotOf s y r → slotId s r ≡ head? (siblings Following f (idIn s i))
       following-at count y r counted b is found =
           kid-at p m count counted (l .index + 1) y r b is found
           ∙ ap (getElem? (kids p)) (add-one (l .index))
-          ∙ sym (siblings-next f (idIn s i) _ (linked m))
+          ∙ sym (siblings-next f (idIn s i) _ link)
 
       -- before the first child, and before another
       pub preceding-none : (n : ℕ) → l .index ≡ 0 → n ≡ slotsOf s → slotId s n ≡ head? (siblings Preceding f (idIn s i))
-      preceding-none n e q = none-slot n _ q (siblings-first f (idIn s i) _ (linked m) e)
+      preceding-none n e q = none-slot n _ q (siblings-first f (idIn s i) _ link e)
 
       pub preceding-at : (k : ℕ) (y : FullNodeId) (r : ℕ) → l .index ≡ k + 1 → Stands (kids p) (idIn s p) k y → SlotOf s y r
           → slotId s r ≡ head? (siblings Preceding f (idIn s i))
       preceding-at k y r e is found =
           let b = within in
           kid-slot p m k y r (omega arith) is found
-          ∙ sym (siblings-before f (idIn s i) _ (linked m) k (idIn s p) (e ∙ add-one k) (omega arith))
+          ∙ sym (siblings-before f (idIn s i) _ link k (idIn s p) (e ∙ add-one k) (omega arith))

@@ -1,15 +1,20 @@
-// Module 6 over the state in memory, a node by its slot: parent, children, siblings. Each answers for any words, and where the state is
-// sound and slot i holds a node, what questions/Links says. A slot that is handed out is the number of slots where there is no such node.
+// Module 6 over the state in memory, a node by its slot: parent, children, siblings, the inherited hidden flag, transform, bounding box.
+// Each answers for any words, and where the state is sound and slot i holds a node, what questions/Links and questions/Boxes say.
+// A slot that is handed out is the number of slots where there is no such node.
 ghost use mathlib.Core.List.{head?};
 ghost use mathlib.Core.Path.{_≡_};
 ghost use Prim.Native.Nat.{_+_, _<_};
 ghost use lib.ListN.{length, getD, getElem?};
 ghost use Rattle.state.specs.State.{parentAt};
 ghost use Rattle.state_array.specs.Layout.{child};
-ghost use Rattle.questions.specs.Links.{childIds, siblings};
+ghost use Rattle.geometry_box.specs.Boxes.{chain};
+ghost use Rattle.questions.specs.Links.{childIds, siblings, ancestors, hiddenAt, isHidden};
+ghost use Rattle.questions.specs.Boxes.{directTransform, transformsAbove, transform, boundingBox};
 ghost use Rattle.questions.specs.Walks.{turned};
 ghost use Rattle.questions.specs.declared.Side.the-variants.{Following, Preceding};
 ghost use Rattle.node_links.specs.Slots.{slotId, OfSlot};
+use geometry::Affine;
+use geometry_box::BoundingBox;
 use ids::FullNodeId;
 use ids::NodeId;
 use questions::Side;
@@ -148,4 +153,78 @@ fn child_entry(state: &State, own: NodeId, first: u64, k: usize) -> NodeId
         return own;
     }
     NodeId(state_array::child_at(state, own.0, first as usize + k))
+}
+
+// Whether the node or one of its ancestors is hidden.
+pub fn is_hidden(state: &State, i: usize) -> bool
+    ensures { λ r. ⌜ OfSlot (now (state .entry)) i (λ f x. r ≡ isHidden f x) ⌝ }
+{
+    hidden_up(state, i, state_array::SLOTS)
+}
+
+// The same, asked of the parent in turn: right where there are fewer ancestors than `room`.
+fn hidden_up(state: &State, i: usize, room: usize) -> bool
+    ensures { λ r. ⌜ OfSlot (now (state .entry)) i (λ f x. (length (ancestors f x) < room → r ≡ isHidden f x)) ⌝ }
+{
+    if room == 0 {
+        return false;
+    }
+    if hidden_at(state, i) {
+        return true;
+    }
+    let p = parent_slot(state, i);
+    if state_array::slots(state) <= p {
+        return false;
+    }
+    hidden_up(state, p, room - 1)
+}
+
+// The node's own hidden flag.
+pub fn hidden_at(state: &State, i: usize) -> bool
+    ensures { λ r. ⌜ OfSlot (now (state .entry)) i (λ f x. r ≡ hiddenAt f x) ⌝ }
+{
+    state_array::word_at(state, state_array::FLAGS, i) % 2 == 1
+}
+
+// The bounding box: that of the node's bounds under its transform, if it has bounds.
+pub fn bounding_box(state: &State, i: usize) -> BoundingBox
+    ensures { λ r. ⌜ OfSlot (now (state .entry)) i (λ f x. r ≡ boundingBox f x) ⌝ }
+{
+    if state_array::word_at(state, state_array::FLAGS, i) / 16 % 2 != 1 {
+        return BoundingBox::None;
+    }
+    geometry_box::box_of(transform_of(state, i), state_array::bounds_at(state, i))
+}
+
+// The node's transform under its ancestors'.
+pub fn transform_of(state: &State, i: usize) -> Affine
+    ensures { λ r. ⌜ OfSlot (now (state .entry)) i (λ f x. r ≡ transform f x) ⌝ }
+{
+    transform_up(state, i, direct_transform(state, i), state_array::SLOTS)
+}
+
+// The transform `below` under those of the ancestors, each multiplied on the left: right where there are fewer ancestors than `room`.
+fn transform_up(state: &State, i: usize, below: Affine, room: usize) -> Affine
+    ensures { λ r. ⌜ OfSlot (now (state .entry)) i (λ f x. (length (ancestors f x) < room → r ≡ chain below (transformsAbove f x))) ⌝ }
+{
+    if room == 0 {
+        return below;
+    }
+    let p = parent_slot(state, i);
+    if state_array::slots(state) <= p {
+        return below;
+    }
+    let above = direct_transform(state, p);
+    transform_up(state, p, geometry_box::product(above, below), room - 1)
+}
+
+// The node's own transform.
+pub fn direct_transform(state: &State, i: usize) -> Affine
+    ensures { λ r. ⌜ OfSlot (now (state .entry)) i (λ f x. r ≡ directTransform f x) ⌝ }
+{
+    if state_array::word_at(state, state_array::FLAGS, i) / 32 % 2 == 1 {
+        state_array::transform_at(state, i)
+    } else {
+        geometry_box::identity()
+    }
 }

@@ -1,0 +1,12 @@
+use borrow.Author.Needs.{needs}
+use mathlib.Core.Path.{_∙_, sym}
+use Rattle.filters_plain.proofs.Rows.{transparent-at}
+use Rattle.filters_plain.proofs.is_transparent.Statement.{statement}
+use Rattle.filters_plain.proofs.is_transparent.Tie as tie
+
+returns : tie.Need-returns
+returns c = λ sound there. transparent-at _ sound _ there _ _ _ (c .before .before .word-at .ensures) (c .before .role-at .ensures) (c .is-graft .ensures)
+
+pub is-transparent-spec : {M : Type 1} → statement M
+is-transparent-spec =
+    tie.close (tie.spec (λ c κs. search needs) (λ c κs. search needs) (λ c κs. search needs) returns)
