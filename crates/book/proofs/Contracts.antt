@@ -14,8 +14,8 @@ use Rattle.state_array.specs.View.{view}
 use Rattle.update.specs.Reports.{Changes, lengthsOf, words, changeWords, lent}
 use Rattle.update.specs.Calls as definition
 use Rattle.update.specs.Calls.{update}
-use Rattle.cartgravel.specs.declared.Reply.{Reply}
-use Rattle.cartgravel.specs.Replies.{replyTo, isSet, Answers}
+use Rattle.calls.specs.declared.Reply.{Reply}
+use Rattle.calls.specs.Replies.{replyTo, isSet, Answers}
 use Rattle.book.specs.Book as book
 use Rattle.book.specs.Book.{answerTo}
 use Rattle.book.specs.Demand.{stateAfter, bookAfter, Kept}

@@ -11,8 +11,8 @@ use Rattle.ids.specs.Ids.{sameId}
 use Rattle.ids.specs.declared.FullNodeId.{FullNodeId}
 use Rattle.state.specs.State.{Forest, present}
 use Rattle.state_array.specs.View.{view}
-use Rattle.cartgravel.specs.declared.Reply.{Reply}
-use Rattle.cartgravel.specs.Replies.{isSet, Starts, Updates, HostFocuses}
+use Rattle.calls.specs.declared.Reply.{Reply}
+use Rattle.calls.specs.Replies.{isSet, Starts, Updates, HostFocuses}
 use Rattle.book.specs.Book as book
 use Rattle.book.specs.Demand.{bookAfter, Kept}
 

@@ -15,8 +15,8 @@ mod draft;
 
 ghost use Prim.Native.Nat.{_<_, _≤_};
 ghost use lib.ListN.{length};
-use cartgravel::OptionalId;
-use cartgravel::Reply;
+use calls::OptionalId;
+use calls::Reply;
 use draft::Draft;
 use ids::TreeId;
 use libc::STDIN_FILENO;

@@ -1,23 +1,22 @@
 -- The focused node by its slot, a law for each way out of the code. Assumes nothing.
 use mathlib.Core.Bool.{Bool, true, false}
 use mathlib.Core.List.{List}
-use mathlib.Core.Option.{Option, none, some, Option·none-ne-some, Option·some-injective}
+use mathlib.Core.Option.{Option, none, some, Option·some-injective}
 use mathlib.Core.Path.{_≡_, refl, sym, ap, _∙_}
 use Prim.Native.Nat.{ℕ, _/_, _%_, _≤_, _<_}
 use native.Mathlib.Decide.{decLt}
 use native.Mathlib.Omega.{arith}
 use lib.Dec.{ltb}
-use borrow.Author.Tests.{lt-ltb, ltb-true, ltb-false, eq-eqb, ne-eqb}
+use borrow.Author.Tests.{ltb-false, eq-eqb, ne-eqb}
 use Rattle.base.specs.Tests.{if_then_else_, sameOption}
-use Rattle.base.proofs.Tests.{clash}
 use Rattle.ids.specs.Ids.{sameId}
 use Rattle.ids.proofs.Ids.{same-id→≡, same-id-refl}
 use Rattle.ids.specs.declared.FullNodeId.{FullNodeId}
 use Rattle.ids.specs.declared.NodeId.{NodeId}
 use Rattle.record.specs.Batch.{activeDescendant?}
-use Rattle.state.specs.State.{NodeState, Forest, State, present}
+use Rattle.state.specs.State.{NodeState, Forest, present}
 use Rattle.state.specs.Focus.{effectiveFocus}
-use Rattle.state.proofs.Sound.{Focus, focus-of-sound, sound-parts}
+use Rattle.state.proofs.Sound.{focus-of-sound, sound-parts}
 use Rattle.state_array.specs.Layout.{hostOf, word, FLAGS, ACTIVE}
 use Rattle.state_array.specs.View.{idIn, shapeIn, bodyIn, nodeIn, slotsOf, view}
 use Rattle.state_lookup.specs.Lookup.{SlotOf}
@@ -28,7 +27,7 @@ use Rattle.state_focus.specs.declared.FoundNode.the-variants as node
 use Rattle.state_focus.specs.Focus.{foundOf}
 use Rattle.questions.specs.Filters.{activeDescendantAt, focusedNode, isFocused}
 use Rattle.node_links.specs.Slots.{Sound, slotId}
-use Rattle.node_links.proofs.Slots.{slot-id-some, slot-id-none, slot-id-at, slot-id-past, slot-shape, slot-found, slot-same, slot-of-present}
+use Rattle.node_links.proofs.Slots.{slot-id-some, slot-id-none, slot-id-at, slot-shape, slot-found, slot-same, slot-of-present}
 use Rattle.filters_plain.specs.Plain.{Focused}
 
 -- ## The active descendant

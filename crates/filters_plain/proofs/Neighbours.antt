@@ -1,30 +1,28 @@
 -- The filtered siblings of a node that is not hidden and is listed: it is a filtered child of its filtered parent, and what is ahead of it is
 -- listed by the own flags. Assumes nothing.
-use mathlib.Core.Bool.{Bool, true, false, not, _||_}
+use mathlib.Core.Bool.{Bool, true, false, not}
 use mathlib.Core.List.{List, [], _∷_, flatMap, List·Memᴰ, List·Memᴰ·head, List·Memᴰ·tail, Memᴰ·append-left, Memᴰ·append-right, List·Memᴰ·not-nil}
-use mathlib.Core.Option.{Option, none, some, Option·none-ne-some, Option·some-injective}
+use mathlib.Core.Option.{some, Option·none-ne-some, Option·some-injective}
 use mathlib.Core.Path.{_≡_, refl, sym, ap, _∙_, subst}
-use Prim.Native.Nat.{ℕ, _<_}
-use lib.ListN.{length, getD}
+use lib.ListN.{length}
 use Rattle.base.specs.Tests.{if_then_else_, any, isNil}
 use Rattle.base.proofs.Tests.{or-false}
 use Rattle.ids.specs.declared.FullNodeId.{FullNodeId}
-use Rattle.state.specs.State.{ParentAndIndex, Forest, State, present}
+use Rattle.state.specs.State.{Forest, State, present}
 use Rattle.state.proofs.Sound.{Shape}
 use Rattle.state.proofs.Family.{parent-present}
 use Rattle.questions.specs.declared.Side.{Side}
 use Rattle.questions.specs.declared.Side.the-variants.{Following}
 use Rattle.questions.specs.declared.FilterResult.{FilterResult}
 use Rattle.questions.specs.declared.FilterResult.the-variants.{Include, ExcludeNode, ExcludeSubtree}
-use Rattle.questions.specs.Links.{childIds, siblings, ancestors, hiddenAt, isHidden}
-use Rattle.questions.specs.Walks.{turned, leading, shown, filteredChildren, isExcludedNode, filteredParent, climbed, hasFilteredSiblings, filteredSiblings}
-use Rattle.questions.specs.Ahead.{ahead}
+use Rattle.questions.specs.Links.{childIds, ancestors, hiddenAt, isHidden}
+use Rattle.questions.specs.Walks.{turned, leading, shown, filteredChildren, isExcludedNode, filteredParent, hasFilteredSiblings, filteredSiblings}
 use Rattle.questions.specs.Filters.{isFocused, isTransparent, withoutParentChecks}
 use Rattle.questions.proofs.Links.{member-at, link-child}
 use Rattle.questions.proofs.Walks.{shown-include, shown-node}
 use Rattle.questions.proofs.Shown.{climbed-ahead}
 use Rattle.filters_plain.specs.Plain.{ownFilter, isInclude, shownAhead}
-use Rattle.filters_plain.proofs.Own.{Clear, clear-unhidden, Climbs, ancestors-cons, own-filter, own-included, own-ahead}
+use Rattle.filters_plain.proofs.Own.{clear-unhidden, Climbs, ancestors-cons, own-filter, own-included, own-ahead}
 use Rattle.filters_plain.proofs.Above.{include-is, firstIncluded, first-included, first-passed}
 
 -- ## Members of lists put together

@@ -1,16 +1,15 @@
 -- What the words of a slot say of its node: its flags, its role, whether it is focused. Assumes nothing.
 use mathlib.Core.Bool.{Bool, true, false, _||_}
 use mathlib.Core.List.{List}
-use mathlib.Core.Option.{Option, none, some}
-use mathlib.Core.Path.{_≡_, refl, sym, ap, _∙_}
+use mathlib.Core.Path.{_≡_, refl, sym, _∙_}
 use Prim.Native.Nat.{ℕ, _<_}
 use lib.Dec.{eqb}
-use Rattle.base.specs.Tests.{if_then_else_, isSome}
+use Rattle.base.specs.Tests.{isSome}
 use Rattle.base.specs.Bytes.{bit}
 use Rattle.base.proofs.Tests.{is-some-if, or-assoc}
 use Rattle.ids.specs.declared.FullNodeId.{FullNodeId}
 use Rattle.record.specs.Batch.{graft?}
-use Rattle.state.specs.State.{NodeState, Forest, find, graftAt}
+use Rattle.state.specs.State.{Forest, graftAt}
 use Rattle.state_array.specs.Layout.{word, FLAGS, ROLE}
 use Rattle.state_array.specs.View.{idIn, shapeIn, bodyIn, nodeIn, slotsOf, view}
 use Rattle.questions.specs.declared.FilterResult.the-variants.{Include, ExcludeNode, ExcludeSubtree}

@@ -1,16 +1,13 @@
--- Laws of runs, buffers and slices. Assumes nothing.
-use mathlib.Core.Bool.{Bool}
-use mathlib.Core.List.{List, [], _∷_, _++_}
+-- Laws of runs and buffers. Assumes nothing.
+use mathlib.Core.List.{List, [], _∷_}
 use mathlib.Core.Option.{some}
-use mathlib.Core.Path.{_≡_, refl, sym, ap, ap₂, _∙_, subst}
+use mathlib.Core.Path.{_≡_, refl, sym, ap, _∙_, subst}
 use Prim.Native.Nat.{ℕ, _+_, _*_, _≤_, _<_}
 use native.Mathlib.Numerals.{add-one}
 use native.Mathlib.Omega.{arith}
-use lib.ListN.{length, getD, getElem?, set, take, drop, length-append}
-use lib.Seq.{length-take-le, take-at, take-all, paste}
-use borrow.Author.Tests.{lt-ltb, le-ltb, leb-true}
-use Rattle.base.specs.Tests.{if_then_else_}
-use Rattle.base.specs.Tables.{first}
+use lib.ListN.{length, getD, getElem?, set, take, length-append}
+use lib.Seq.{take-all}
+use borrow.Author.Tests.{leb-true}
 use Rattle.ids.specs.declared.FullNodeId.{FullNodeId}
 use Rattle.state.specs.State.{Forest, linkAt, parentAt}
 use Rattle.state.proofs.Sound.{sound-parts}
@@ -19,18 +16,17 @@ use Rattle.state_array.specs.View.{idIn, linkIn, slotsOf, view}
 use Rattle.questions.specs.declared.Side.{Side}
 use Rattle.questions.specs.Links.{childIds, siblings}
 use Rattle.questions.specs.Ahead.{countBeside, placeBeside}
-use Rattle.questions.specs.Answers.{askNumber, after, idWords, written}
+use Rattle.questions.specs.Answers.{idWords}
 use Rattle.questions.proofs.Links.{link-child}
 use Rattle.questions.proofs.Ahead.{siblings-of, siblings-none}
 use Rattle.questions.proofs.Few.{siblings-few, kids-few}
 use Rattle.questions.proofs.Places.{beside-length, beside-at, take-more}
-use Rattle.questions.proofs.Answers.{words-length, written-none, written-length, written-more, after-other, list-refused, list-asked}
+use Rattle.questions.proofs.Slices.{words-length, ids-none, ids-length, ids-more}
 use Rattle.node_links.specs.Slots.{Sound, slotId}
 use Rattle.node_links.proofs.Slots.{slot-id-at, slot-shape, slot-present}
 use Rattle.node_links.proofs.Links.{link-none, link-some}
 use Rattle.iterators_lists.specs.declared.Run.{Run}
-use Rattle.iterators_lists.specs.declared.ListAnswer.{ListAnswer}
-use Rattle.iterators_lists.specs.Lists.{InRun, inRun, RunOf, Collected, Puts, Listed}
+use Rattle.iterators_lists.specs.Lists.{InRun, inRun, RunOf, Collected}
 
 -- ## A sound state has few nodes
 
@@ -120,11 +116,11 @@ module _ (xs : List FullNodeId) (before : List ℕ) where
   CollectedTo k now = Collected (take k xs) before now k
 
   pub collected-none : CollectedTo 0 before
-  collected-none = record { count-is = refl; few = omega arith; words-are = sym (written-none before) }
+  collected-none = record { count-is = refl; few = omega arith; words-are = sym (ids-none before) }
 
   module _ (few : length xs ≤ 256) (room : 512 ≤ length before) (k : ℕ) (now : List ℕ) (h : CollectedTo k now) where
     pub collected-length : length now ≡ length before
-    collected-length = ap length (h .words-are) ∙ written-length (idWords (take k xs)) before (omega (arith, words-length (take k xs), h .count-is, h .few))
+    collected-length = ap length (h .words-are) ∙ ids-length (idWords (take k xs)) before (omega (arith, words-length (take k xs), h .count-is, h .few))
 
     module _ (y : FullNodeId) (q : getElem? xs k ≡ some y) where
       -- there is room for one more
@@ -138,53 +134,8 @@ module _ (xs : List FullNodeId) (before : List ℕ) where
           rw (add-one k, more) (record {
             count-is = sym (omega (arith, length-append (take k xs) (y ∷ []), h .count-is));
             few = omega (arith, z .1);
-            words-are = ap (λ (l : List ℕ). set (set l (2 * k) (y .tree .0)) (2 * k + 1) (y .node .0)) (h .words-are) ∙ written-more (take k xs) y before k (h .count-is) (omega (arith, z .1));
+            words-are = ap (λ (l : List ℕ). set (set l (2 * k) (y .tree .0)) (2 * k + 1) (y .node .0)) (h .words-are) ∙ ids-more (take k xs) y before k (h .count-is) (omega (arith, z .1));
           })
 
     pub collected-all : length xs ≤ k → Collected xs before now k
     collected-all l = subst (λ (ys : List FullNodeId). Collected ys before now k) (take-all k xs l) h
-
--- ## Lists in the lent slice
-
-module _ (ids : List ℕ) (n : ℕ) (long : 2 * n ≤ length ids) (before : List ℕ) where
-  words-taken : length (take (2 * n) ids) ≡ 2 * n
-  words-taken = length-take-le (2 * n) ids long
-
-  pub puts-short : length before < 2 * n → Puts (take (2 * n) ids) n before before (record { number = 21; length = 0 })
-  unfolding after
-  puts-short h = record {
-    number-is = sym (ap (λ (t : Bool). if t then 21 else 0) (lt-ltb (length before) (length (take (2 * n) ids)) (omega (arith, words-taken))));
-    length-is = refl;
-    slice-is = refl;
-  }
-
-  pub puts-all : (now : List ℕ) (k : ℕ) → 2 * n ≤ length before → k ≡ 2 * n → now ≡ paste before 0 ids k → Puts (take (2 * n) ids) n before now (record { number = 0; length = n })
-  unfolding after written
-  puts-all now k h e q = let whole : 0 + k ≡ length (take (2 * n) ids) = omega (arith, words-taken) in record {
-    number-is = sym (ap (λ (t : Bool). if t then 21 else 0) (le-ltb (length before) (length (take (2 * n) ids)) (omega (arith, words-taken))));
-    length-is = refl;
-    slice-is = q ∙ ap₂ (λ (i j : ℕ). take i ids ++ drop j before) e whole;
-  }
-
-module _ (s : Forest) (x : FullNodeId) (xs : List FullNodeId) (before : List ℕ) where
-  -- 1 and 22
-  pub listed-refused : (n : ℕ) → n ≡ askNumber s x → (n ≡ 0 → ⊥) → Listed s x xs before before (record { number = n; length = 0 })
-  listed-refused n e h = record {
-    number-is = e ∙ sym (list-refused s x (length before) (length (idWords xs)) (λ z. h (e ∙ z)));
-    length-is = after-other n 0 (length xs) h;
-    slice-is = after-other n before (written (idWords xs) before) h;
-  }
-
-  -- a list that was collected and put
-  pub listed-put : (zeros ids now : List ℕ) (n : ℕ) (r : ListAnswer) → askNumber s x ≡ 0 → Collected xs zeros ids n → Puts (take (2 * n) ids) n before now r
-      → Listed s x xs before now r
-  unfolding written first
-  listed-put zeros ids now n r e c p =
-      let long : length (idWords xs) ≡ 2 * n = omega (arith, words-length xs, c .count-is) in
-      let words : take (2 * n) ids ≡ idWords xs = ap (take (2 * n)) (c .words-are) ∙ take-at (idWords xs) (drop (length (idWords xs)) zeros) (2 * n) long in
-      let put = rw (words, c .count-is) at p in
-      record {
-        number-is = put .number-is ∙ sym (list-asked s x (length before) (length (idWords xs)) e);
-        length-is = put .length-is;
-        slice-is = put .slice-is;
-      }

@@ -1,20 +1,16 @@
--- A run of siblings by places, a list of ids in a buffer, and the buffer's part in a lent slice. Assumes nothing.
+-- A run of siblings by places, and a list of ids in a buffer. Assumes nothing.
 use mathlib.Core.List.{List}
 use mathlib.Core.Option.{some}
 use mathlib.Core.Path.{_≡_}
 use Prim.Native.Nat.{ℕ, _≤_, _<_}
-use lib.Dec.{ltb}
 use lib.ListN.{length, getD, getElem?}
-use Rattle.base.specs.Tests.{if_then_else_}
 use Rattle.ids.specs.declared.FullNodeId.{FullNodeId}
-use Rattle.state.specs.State.{Forest}
 use Rattle.state_array.specs.View.{idIn, slotsOf, view}
 use Rattle.questions.specs.declared.Side.{Side}
 use Rattle.questions.specs.Links.{childIds}
-use Rattle.questions.specs.Answers.{listNumber, after, idWords, written}
+use Rattle.questions.specs.Answers.{idWords, written}
 use Rattle.questions.specs.Ahead.{countBeside, placeBeside}
 use Rattle.iterators_lists.specs.declared.Run.{Run}
-use Rattle.iterators_lists.specs.declared.ListAnswer.{ListAnswer}
 
 -- ## Runs of siblings
 
@@ -42,17 +38,3 @@ pub record Collected (xs : List FullNodeId) (before now : List ℕ) (r : ℕ) : 
   pub count-is : r ≡ length xs
   pub few : r ≤ 256
   pub words-are : now ≡ written (idWords xs) before
-
--- ## Lists in the lent slice
-
--- 21 where the slice is too short for the words; else they are written, and n is answered
-pub record Puts (words : List ℕ) (n : ℕ) (before now : List ℕ) (r : ListAnswer) : Type 0 where
-  pub number-is : r .number ≡ (if ltb (length before) (length words) then 21 else 0)
-  pub length-is : r .length ≡ after (r .number) 0 n
-  pub slice-is : now ≡ after (r .number) before (written words before)
-
--- the answer of a list question about x, whose list is xs
-pub record Listed (s : Forest) (x : FullNodeId) (xs : List FullNodeId) (before now : List ℕ) (r : ListAnswer) : Type 0 where
-  pub number-is : r .number ≡ listNumber s x (length before) (length (idWords xs))
-  pub length-is : r .length ≡ after (r .number) 0 (length xs)
-  pub slice-is : now ≡ after (r .number) before (written (idWords xs) before)

@@ -1,12 +1,12 @@
 // Lists of ids: the siblings of a node by their places among the parent's children (`FollowingSiblings`, `PrecedingSiblings` of
-// src/iterators.rs), ids stored one by one, and a finished list put into the lent slice.
+// src/iterators.rs), and ids stored one by one.
 ghost use mathlib.Core.Path.{_≡_};
 ghost use Prim.Native.Nat.{_*_, _+_, _<_, _≤_};
-ghost use lib.ListN.{length, set, take};
+ghost use lib.ListN.{length, set};
 ghost use Rattle.state_array.specs.View.{idIn, slotsOf, view};
 ghost use Rattle.questions.specs.Links.{siblings};
 ghost use Rattle.node_links.specs.Slots.{Sound};
-ghost use Rattle.iterators_lists.specs.Lists.{InRun, inRun, RunOf, Collected, Puts};
+ghost use Rattle.iterators_lists.specs.Lists.{InRun, inRun, RunOf, Collected};
 use ids::FullNodeId;
 use questions::Side;
 use state_array::State;
@@ -16,12 +16,6 @@ pub struct Run {
     pub parent: usize,
     pub index: usize,
     pub count: usize,
-}
-
-// What a list question answers: its number, and how many ids were written.
-pub struct ListAnswer {
-    pub number: u8,
-    pub length: usize,
 }
 
 // Where the siblings on a side of the node in slot i stand.
@@ -91,27 +85,4 @@ pub fn collect_siblings(state: &State, side: Side, i: usize, ids: &mut [u64]) ->
         k += 1;
     }
     n
-}
-
-// Puts the first n ids of a buffer into the lent slice, if it has room for them.
-pub fn put<'a, 'b>(ids: &'a [u64], n: usize, out: &'b mut [u64]) -> ListAnswer
-    requires { ⌜ 2 * n ≤ length (now ids) ⌝ }
-    ensures { λ r. ⌜ Puts (take (2 * n) (now (ids .entry))) n (now (out .entry)) (now (out .exit)) r ⌝ }
-{
-    let words = 2 * n;
-    if out.len() < words {
-        return ListAnswer {
-            number: 21,
-            length: 0,
-        };
-    }
-    let mut i = 0usize;
-    while i < words {
-        out[i] = ids[i];
-        i += 1;
-    }
-    ListAnswer {
-        number: 0,
-        length: n,
-    }
 }

@@ -2,7 +2,7 @@
 use mathlib.Core.Bool.{true, false, not}
 use mathlib.Core.List.{List}
 use mathlib.Core.Option.{some}
-use mathlib.Core.Path.{_≡_, sym, ap, _∙_}
+use mathlib.Core.Path.{_≡_, refl, sym, ap, _∙_}
 use Prim.Native.Nat.{ℕ, _≤_, _<_}
 use native.Mathlib.Omega.{arith}
 use borrow.Author.Tests.{lt-ltb, le-ltb}
@@ -35,6 +35,10 @@ module _ (s : List ℕ) (x : FullNodeId) where
       let up = sym (ordered-is s) ∙ in-order s (h .is-sound) in
       let at : sameId x (idIn s i) ≡ true = rw (h .id-is) (same-id-refl x) in
       find-there s x i (stands-first (idIn s) (slotsOf s) up x i (joined (lt-ltb i (slotsOf s) (h .within)) at)) (h .within)
+
+  -- the slot holds the node with its id
+  pub asked-here : (i : ℕ) → NodeAt s x i → NodeAt s (idIn s i) i
+  asked-here i h = record { is-sound = h .is-sound; within = h .within; id-is = refl }
 
   -- ## The three ways out
 

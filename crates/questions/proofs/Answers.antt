@@ -1,73 +1,141 @@
--- Laws of what a question answers: ids as words, a list in a slice, its number. Assumes nothing.
-use mathlib.Core.Bool.{not}
-use mathlib.Core.List.{List, [], _∷_, _++_}
-use mathlib.Core.Path.{_≡_, refl, sym, ap, ap₂, _∙_}
-use Prim.Native.Nat.{ℕ, zero, suc, _+_, _*_, _≤_}
+-- Laws of answers: which number a question answers, what it answers after 0 and after another number, and a slice that is written element by
+-- element. Assumes nothing.
+use mathlib.Core.Bool.{true, false, not}
+use mathlib.Core.List.{List, [], _∷_, _++_, append-assoc}
+use mathlib.Core.Path.{_≡_, refl, sym, ap, _∙_}
+use Prim.Native.Nat.{ℕ, zero, suc, _+_, _*_, _≤_, _<_}
+use native.Mathlib.Numerals.{add-one}
 use native.Mathlib.Omega.{arith}
 use lib.Dec.{ltb}
-use lib.ListN.{length, set, drop, length-append, length-drop}
-use lib.Seq.{take-append-seam, drop-append-add, drop-drop, sets-eq}
+use lib.ListN.{length, getD, take, drop, set, length-append, length-drop}
+use lib.Seq.{length-take-le, take-length, take-suc, drop-cons, append-snoc, set-at}
+use borrow.Author.Tests.{lt-ltb, le-ltb}
 use Rattle.base.specs.Tests.{_&&_}
 use Rattle.base.specs.Tables.{row, first}
-use Rattle.base.proofs.Tables.{first-append, first-append-none}
+use Rattle.base.specs.Bytes.{listOf}
+use Rattle.base.proofs.Bytes.{length-list-of, list-of-more}
+use Rattle.base.proofs.Tables.{first-holds, first-passes, first-none, first-append, first-append-none}
 use Rattle.ids.specs.declared.FullNodeId.{FullNodeId}
 use Rattle.state.specs.State.{Forest, present}
 use Rattle.state.specs.Sound.{sound}
-use Rattle.questions.specs.Answers.{askNumber, listNumber, after, idWords, written}
-
--- ## Ids as words
-
-pub words-length : (xs : List FullNodeId) → length (idWords xs) ≡ 2 * length xs
-unfolding idWords
-words-length [] = refl
-words-length (x ∷ xs) = omega (arith, words-length xs)
-
-pub words-append : (xs ys : List FullNodeId) → idWords (xs ++ ys) ≡ idWords xs ++ idWords ys
-unfolding idWords
-words-append [] ys = refl
-words-append (x ∷ xs) ys = ap (λ (l : List ℕ). x .tree .0 ∷ x .node .0 ∷ l) (words-append xs ys)
-
--- ## A list in a slice
-
-pub written-none : (slice : List ℕ) → written (idWords []) slice ≡ slice
-unfolding written idWords
-written-none slice = refl
-
-pub written-length : (words slice : List ℕ) → length words ≤ length slice → length (written words slice) ≡ length slice
-unfolding written
-written-length words slice h = omega (arith, length-append words (drop (length words) slice), length-drop (length words) slice)
-
--- one id more
-pub written-more : (xs : List FullNodeId) (x : FullNodeId) (slice : List ℕ) (k : ℕ) → k ≡ length xs → 2 * k + 2 ≤ length slice
-    → set (set (written (idWords xs) slice) (2 * k) (x .tree .0)) (2 * k + 1) (x .node .0) ≡ written (idWords (xs ++ x ∷ [])) slice
-unfolding written idWords
-written-more xs x slice k e h =
-    let w = idWords xs in
-    let two : List ℕ = x .tree .0 ∷ x .node .0 ∷ [] in
-    let here : 2 * k ≡ length w = omega (arith, words-length xs) in
-    let next : 2 * k + 1 ≡ suc (length w) = omega (arith, words-length xs) in
-    let room : length w + 2 ≤ length (w ++ drop (length w) slice) = omega (arith, words-length xs, length-append w (drop (length w) slice), length-drop (length w) slice) in
-    let all : length w + 2 ≡ length (idWords (xs ++ x ∷ [])) = omega (arith, ap length (words-append xs (x ∷ [])), length-append w two) in
-    ap₂ (λ (i j : ℕ). set (set (w ++ drop (length w) slice) i (x .tree .0)) j (x .node .0)) here next
-    ∙ sets-eq two (w ++ drop (length w) slice) (length w) room
-    ∙ ap₂ (λ (p q : List ℕ). p ++ two ++ q) (take-append-seam w (drop (length w) slice)) (drop-append-add w (drop (length w) slice) 2 ∙ drop-drop 2 (length w) slice)
-    ∙ ap₂ (λ (p : List ℕ) (n : ℕ). p ++ drop n slice) (sym (words-append xs (x ∷ []))) all
+use Rattle.questions.specs.Answers.{askNumber, stateNumber, listNumber, after, idWords, written}
 
 -- ## The number
 
--- after any number but 0 the answer is nothing
-pub after-other : {A : Type 0} (n : ℕ) (nothing answer : A) → (n ≡ 0 → ⊥) → nothing ≡ after n nothing answer
-unfolding after
-after-other zero nothing answer h = absurd (h refl)
-after-other (suc n) nothing answer h = refl
+module _ (s : Forest) where
+  -- of a question about no node
+  pub state-number-unsound : sound s ≡ false → stateNumber s ≡ 1
+  unfolding stateNumber
+  state-number-unsound e = first-holds 1 _ _ (ap not e)
 
-module _ (s : Forest) (x : FullNodeId) (room wanted : ℕ) where
-  -- 1 and 22 come first
-  pub list-refused : (askNumber s x ≡ 0 → ⊥) → listNumber s x room wanted ≡ askNumber s x
-  unfolding askNumber listNumber
-  list-refused h = first-append (row 1 (not (sound s)) ∷ row 22 (not (present (s .nodes) x)) ∷ []) (row 21 (ltb room wanted) ∷ []) h
+  pub state-number-sound : sound s ≡ true → stateNumber s ≡ 0
+  unfolding stateNumber
+  state-number-sound e = first-passes 1 _ _ (ap not e) ∙ first-none
 
-  -- then 21
-  pub list-asked : askNumber s x ≡ 0 → listNumber s x room wanted ≡ first (row 21 (ltb room wanted) ∷ [])
-  unfolding askNumber listNumber _&&_
-  list-asked h = first-append-none (row 1 (not (sound s)) ∷ row 22 (not (present (s .nodes) x)) ∷ []) (row 21 (ltb room wanted) ∷ []) refl h
+  module _ (x : FullNodeId) (room wanted : ℕ) where
+    -- 1 and 22 come before 21
+    pub list-number-refused : (askNumber s x ≡ 0 → ⊥) → listNumber s x room wanted ≡ askNumber s x
+    unfolding askNumber listNumber
+    list-number-refused h = first-append (row 1 (not (sound s)) ∷ row 22 (not (present (s .nodes) x)) ∷ []) (row 21 (ltb room wanted) ∷ []) h
+
+    module _ (e : askNumber s x ≡ 0) where
+      number-left : listNumber s x room wanted ≡ first (row 21 (ltb room wanted) ∷ [])
+      unfolding askNumber listNumber _&&_
+      number-left = first-append-none (row 1 (not (sound s)) ∷ row 22 (not (present (s .nodes) x)) ∷ []) (row 21 (ltb room wanted) ∷ []) refl e
+
+      -- the slice is too short
+      pub list-number-short : room < wanted → listNumber s x room wanted ≡ 21
+      list-number-short l = number-left ∙ first-holds 21 _ _ (lt-ltb room wanted l)
+
+      -- it is not
+      pub list-number-fits : wanted ≤ room → listNumber s x room wanted ≡ 0
+      list-number-fits l = number-left ∙ first-passes 21 _ _ (le-ltb room wanted l) ∙ first-none
+
+-- ## The other parts
+
+module _ {A : Type 0} (nothing answer : A) where
+  pub after-refused : (k : ℕ) → (k ≡ 0 → ⊥) → after k nothing answer ≡ nothing
+  unfolding after
+  after-refused zero h = absurd (h refl)
+  after-refused (suc k) h = refl
+
+  pub after-answered : (k : ℕ) → k ≡ 0 → after k nothing answer ≡ answer
+  unfolding after
+  after-answered zero e = refl
+  after-answered (suc k) e = absurd (omega arith)
+
+-- ## The slice
+
+module _ (f : ℕ → ℕ) (slice : List ℕ) where
+  -- nothing is written yet
+  pub written-none : written (listOf 0 f) slice ≡ slice
+  unfolding written listOf
+  written-none = refl
+
+  -- one element more
+  pub written-more : (j : ℕ) → j < length slice → set (written (listOf j f) slice) j (f j) ≡ written (listOf (j + 1) f) slice
+  unfolding written
+  written-more j h =
+      rw (length-list-of j f, length-list-of (j + 1) f, list-of-more j f, drop-cons slice j 0 h, set-at (listOf j f) _ _ (f j) j (length-list-of j f), add-one j)
+      (sym (append-snoc (listOf j f) (f j) _))
+
+  pub written-length : (j : ℕ) → j ≤ length slice → length (written (listOf j f) slice) ≡ length slice
+  unfolding written
+  written-length j h = simp (length-append, length-list-of, length-drop) (omega arith)
+
+-- ## Ids in the slice
+
+-- two words an id
+pub id-words-length : (xs : List FullNodeId) → length (idWords xs) ≡ 2 * length xs
+unfolding idWords
+id-words-length [] = refl
+id-words-length (x ∷ xs) = let h = id-words-length xs in omega arith
+
+id-words-append : (xs ys : List FullNodeId) → idWords (xs ++ ys) ≡ idWords xs ++ idWords ys
+unfolding idWords
+id-words-append [] ys = refl
+id-words-append (x ∷ xs) ys = ap (λ (l : List ℕ). x .tree .0 ∷ x .node .0 ∷ l) (id-words-append xs ys)
+
+-- two stores after what is written
+two-written : (ws slice : List ℕ) (m a b : ℕ) → length ws ≡ m → m + 2 ≤ length slice
+    → set (set (written ws slice) m a) (m + 1) b ≡ written (ws ++ a ∷ b ∷ []) slice
+unfolding written
+two-written ws slice m a b e h =
+    let long : length (ws ++ a ∷ []) ≡ m + 1 = length-append ws (a ∷ []) ∙ ap (λ (k : ℕ). k + 1) e in
+    let all : length (ws ++ a ∷ b ∷ []) ≡ suc (suc m) = length-append ws (a ∷ b ∷ []) ∙ (omega arith) in
+    let here : m < length slice = omega arith in
+    let next : suc m < length slice = omega arith in
+    let rest = drop (suc (suc m)) slice in
+    ap (λ (n : ℕ). set (set (ws ++ drop n slice) m a) (m + 1) b) e
+    ∙ ap (λ (l : List ℕ). set (set (ws ++ l) m a) (m + 1) b) (drop-cons slice m 0 here ∙ ap (λ (l : List ℕ). getD slice m 0 ∷ l) (drop-cons slice (suc m) 0 next))
+    ∙ ap (λ (l : List ℕ). set l (m + 1) b) (set-at ws (getD slice m 0) (getD slice (suc m) 0 ∷ rest) a m e ∙ sym (append-assoc ws (a ∷ []) (getD slice (suc m) 0 ∷ rest)))
+    ∙ set-at (ws ++ a ∷ []) (getD slice (suc m) 0) rest b (m + 1) long
+    ∙ append-assoc ws (a ∷ []) (b ∷ rest)
+    ∙ sym (append-assoc ws (a ∷ b ∷ []) rest)
+    ∙ ap (λ (n : ℕ). (ws ++ a ∷ b ∷ []) ++ drop n slice) (sym all)
+
+module _ (xs : List FullNodeId) (slice : List ℕ) where
+  -- the slice with the first k ids
+  abbrev pub writtenIds : ℕ → List ℕ
+  writtenIds k = written (idWords (take k xs)) slice
+
+  taken-words : (k : ℕ) → k ≤ length xs → length (idWords (take k xs)) ≡ 2 * k
+  taken-words k h = id-words-length (take k xs) ∙ ap (λ (n : ℕ). 2 * n) (length-take-le k xs h)
+
+  -- no id is written yet
+  pub ids-none : writtenIds 0 ≡ slice
+  unfolding written idWords
+  ids-none = refl
+
+  -- one id more
+  pub ids-more : (k : ℕ) (x d : FullNodeId) → k < length xs → 2 * k + 2 ≤ length slice → x ≡ getD xs k d
+      → set (set (writtenIds k) (2 * k) (x .tree .0)) (2 * k + 1) (x .node .0) ≡ writtenIds (k + 1)
+  unfolding idWords
+  ids-more k x d h room e =
+      two-written (idWords (take k xs)) slice (2 * k) (x .tree .0) (x .node .0) (taken-words k (omega arith)) room
+      ∙ ap (λ (l : List ℕ). written l slice)
+      (sym (id-words-append (take k xs) (x ∷ [])) ∙ ap idWords (rw (← e) at (sym (take-suc xs k d h))) ∙ ap (λ (n : ℕ). idWords (take n xs)) (sym (add-one k)))
+
+  -- all are written
+  pub ids-all : (k : ℕ) → k ≡ length xs → writtenIds k ≡ written (idWords xs) slice
+  ids-all k e = rw (e, take-length xs)

@@ -1,3 +1,7 @@
+pub mod Computed
+pub mod LinkCases
+pub mod FilterCases
+pub mod WalkCases
 pub mod Links
 pub mod Flat
 pub mod Walks
@@ -5,7 +9,8 @@ pub mod Ahead
 pub mod Shown
 pub mod Deepest
 pub mod Exact
+pub mod Answers
 pub mod Few
 pub mod Places
-pub mod Answers
+pub mod Slices
 pub mod Kept

@@ -5,4 +5,9 @@ pub mod Walks
 pub mod Ahead
 pub mod Filters
 pub mod Answers
+pub mod ExampleTrees
+pub mod ExampleQuestions
+pub mod LinkCases
+pub mod FilterCases
+pub mod WalkCases
 pub mod Kept

@@ -6,8 +6,8 @@ mod digest;
 mod frame;
 
 ghost use Prim.Native.Nat.{_≤_};
-use cartgravel::OptionalId;
-use cartgravel::Reply;
+use calls::OptionalId;
+use calls::Reply;
 use libc::STDIN_FILENO;
 use libc::STDOUT_FILENO;
 use state_array::State;

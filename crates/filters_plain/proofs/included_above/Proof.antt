@@ -1,7 +1,7 @@
 -- `filters_plain::included_above` meets its contract: what is found of the ancestors that are left is what is found of all. The measure is how
 -- many are left. Assumes nothing.
 use mathlib.Core.Bool.{false}
-use mathlib.Core.Path.{_≡_, refl, sym, ap, _∙_}
+use mathlib.Core.Path.{_≡_, sym, ap, _∙_}
 use Prim.Native.Nat.{_+_, _≤_, _<_}
 use native.Mathlib.Omega.{arith}
 use lib.ListN.{length}

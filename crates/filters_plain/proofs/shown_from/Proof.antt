@@ -2,7 +2,6 @@
 -- can still be met. Assumes nothing.
 use mathlib.Core.List.{flatMap}
 use mathlib.Core.Path.{_≡_, refl, sym, _∙_}
-use native.Mathlib.Omega.{arith}
 use borrow.Author.Needs.{needs}
 use Rattle.state_array.specs.View.{slotsOf, view}
 use Rattle.questions.specs.Walks.{shown}

@@ -1,0 +1,12 @@
+-- `calls::no_id` meets its contract. Assumes nothing.
+use mathlib.Core.Path.{refl}
+use Rattle.calls.specs.Replies.{plainId}
+use Rattle.calls.proofs.no_id.Statement.{statement}
+use Rattle.calls.proofs.no_id.Tie as tie
+
+returns : tie.Need-returns
+unfolding plainId
+returns c = refl
+
+pub no-id-spec : {M : Type 1} → statement M
+no-id-spec = tie.close (tie.spec returns)

@@ -1,0 +1,18 @@
+use borrow.Author.Needs.{needs}
+use Rattle.cartgravel_plain.proofs.counts.Statement.{statement}
+use Rattle.cartgravel_plain.proofs.counts.Tie as tie
+
+flag-requires : tie.Need-flag-requires
+flag-requires c κs = search needs
+
+cast-t3 : tie.Need-cast-t3
+cast-t3 c = search needs
+
+cast-t4 : tie.Need-cast-t4
+cast-t4 c = search needs
+
+returns : tie.Need-returns
+returns c = cc
+
+pub counts-spec : {M : Type 1} → statement M
+counts-spec = tie.close (tie.spec flag-requires cast-t3 cast-t4 returns)

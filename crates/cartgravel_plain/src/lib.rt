@@ -1,0 +1,365 @@
+// The answers of the questions as plain numbers and structs, for C: enums become a number and fields that are 0 where there is nothing.
+ghost use mathlib.Core.Path.{_≡_};
+ghost use Rattle.base.specs.Tests.{if_then_else_};
+ghost use Rattle.cartgravel_plain.specs.Plain.{plainFound, plainList, plainFlag, plainTransform, boxIs, plainBox, plainTreeId, plainIndex, plainEnds, plainCounts, rectField, affineField, treeField, numberField, plainNode};
+use calls::OptionalId;
+use geometry::Affine;
+use geometry::Rect;
+use geometry_box::BoundingBox;
+use ids::TreeId;
+use node::BoxAnswer;
+use node::CountsAnswer;
+use node::HiddenAnswer;
+use node::ListAnswer;
+use node::NodeAnswer;
+use node::NodeReading;
+use node::OptionalAffine;
+use node::OptionalIndex;
+use node::OptionalNode;
+use node::OptionalRect;
+use node::OptionalTree;
+use node::TransformAnswer;
+use node::TreeEndsAnswer;
+use node::TreeIdAnswer;
+use node::TreeIndexAnswer;
+use state_focus::FoundNode;
+use state_lookup::FoundTree;
+
+// A node, if there is one.
+#[repr(C)]
+pub struct FoundId {
+    pub id: OptionalId,
+    pub number: u32,
+}
+
+// How many ids or bytes were written.
+#[repr(C)]
+pub struct Listed {
+    pub length: usize,
+    pub number: u32,
+}
+
+// A flag, 0 or 1.
+#[repr(C)]
+pub struct Flag {
+    pub value: u32,
+    pub number: u32,
+}
+
+// A transform.
+#[repr(C)]
+pub struct PlainTransform {
+    pub transform: Affine,
+    pub number: u32,
+}
+
+// A box: `kind` is 0 where there is none.
+#[repr(C)]
+pub struct PlainBox {
+    pub rect: Rect,
+    pub kind: u32,
+    pub number: u32,
+}
+
+// What a node says of itself. A field whose flag (the record's) is clear is 0.
+#[repr(C)]
+pub struct PlainNode {
+    pub bounds: Rect,
+    pub transform: Affine,
+    pub graft: TreeId,
+    pub active_descendant: u64,
+    pub label_length: usize,
+    pub child_count: usize,
+    pub role: u32,
+    pub flags: u32,
+    pub number: u32,
+}
+
+// A tree id, if there is one.
+#[repr(C)]
+pub struct PlainTreeId {
+    pub id: TreeId,
+    pub present: u32,
+    pub number: u32,
+}
+
+// A tree number, if there is one.
+#[repr(C)]
+pub struct PlainIndex {
+    pub index: u32,
+    pub present: u32,
+    pub number: u32,
+}
+
+// The root and the focus of a tree, if it exists.
+#[repr(C)]
+pub struct PlainEnds {
+    pub root: OptionalId,
+    pub focus: OptionalId,
+    pub number: u32,
+}
+
+// How many nodes and tree numbers there are, and whether the host has the focus.
+#[repr(C)]
+pub struct PlainCounts {
+    pub nodes: usize,
+    pub trees: usize,
+    pub host_focused: u32,
+    pub number: u32,
+}
+
+pub fn found(a: NodeAnswer) -> FoundId
+    ensures { λ r. ⌜ r ≡ plainFound a ⌝ }
+{
+    let node = a.node;
+    FoundId {
+        id: calls::plain_id(node),
+        number: a.number as u32,
+    }
+}
+
+pub fn listed(a: ListAnswer) -> Listed
+    ensures { λ r. ⌜ r ≡ plainList a ⌝ }
+{
+    Listed {
+        length: a.length,
+        number: a.number as u32,
+    }
+}
+
+pub fn hidden(a: HiddenAnswer) -> Flag
+    ensures { λ r. ⌜ r ≡ plainFlag a ⌝ }
+{
+    Flag {
+        value: flag(1, a.hidden) as u32,
+        number: a.number as u32,
+    }
+}
+
+pub fn transform(a: TransformAnswer) -> PlainTransform
+    ensures { λ r. ⌜ r ≡ plainTransform a ⌝ }
+{
+    let transform = a.transform;
+    PlainTransform {
+        transform,
+        number: a.number as u32,
+    }
+}
+
+pub fn bounding_box(a: BoxAnswer) -> PlainBox
+    ensures { λ r. ⌜ r ≡ plainBox a ⌝ }
+{
+    let number = a.number as u32;
+    let b = a.bounding_box;
+    match b {
+        BoundingBox::Box(x0, y0, x1, y1) => PlainBox {
+            rect: Rect { x0, y0, x1, y1 },
+            kind: 1,
+            number,
+        },
+        BoundingBox::None => PlainBox {
+            rect: Rect {
+                x0: 0.0,
+                y0: 0.0,
+                x1: 0.0,
+                y1: 0.0,
+            },
+            kind: 0,
+            number,
+        },
+    }
+}
+
+pub fn tree_id(a: TreeIdAnswer) -> PlainTreeId
+    ensures { λ r. ⌜ r ≡ plainTreeId a ⌝ }
+{
+    let number = a.number as u32;
+    let tree = a.tree;
+    match tree {
+        OptionalTree::Given(id) => PlainTreeId {
+            id,
+            present: 1,
+            number,
+        },
+        OptionalTree::None => PlainTreeId {
+            id: TreeId { high: 0, low: 0 },
+            present: 0,
+            number,
+        },
+    }
+}
+
+pub fn tree_index(a: TreeIndexAnswer) -> PlainIndex
+    ensures { λ r. ⌜ r ≡ plainIndex a ⌝ }
+{
+    let number = a.number as u32;
+    let index = a.index;
+    match index {
+        OptionalIndex::Given(k) => PlainIndex {
+            index: k.0,
+            present: 1,
+            number,
+        },
+        OptionalIndex::None => PlainIndex {
+            index: 0,
+            present: 0,
+            number,
+        },
+    }
+}
+
+pub fn tree_ends(a: TreeEndsAnswer) -> PlainEnds
+    ensures { λ r. ⌜ r ≡ plainEnds a ⌝ }
+{
+    let number = a.number as u32;
+    let ends = a.ends;
+    match ends {
+        FoundTree::At(e) => {
+            let root = e.root;
+            let focus = e.focus;
+            PlainEnds {
+                root: calls::plain_id(FoundNode::At(root)),
+                focus: calls::plain_id(FoundNode::At(focus)),
+                number,
+            }
+        }
+        FoundTree::Nothing => PlainEnds {
+            root: calls::plain_id(FoundNode::Nothing),
+            focus: calls::plain_id(FoundNode::Nothing),
+            number,
+        },
+    }
+}
+
+pub fn counts(a: CountsAnswer) -> PlainCounts
+    ensures { λ r. ⌜ r ≡ plainCounts a ⌝ }
+{
+    PlainCounts {
+        nodes: a.nodes,
+        trees: a.trees,
+        host_focused: flag(1, a.host_focused) as u32,
+        number: a.number as u32,
+    }
+}
+
+pub fn node(a: NodeReading) -> PlainNode
+    ensures { λ r. ⌜ r ≡ plainNode a ⌝ }
+{
+    let own_bounds = a.bounds;
+    let own_transform = a.transform;
+    let own_graft = a.graft;
+    let descendant = a.active_descendant;
+    let bounds = plain_rect(own_bounds);
+    let transform = plain_affine(own_transform);
+    let graft = plain_tree(own_graft);
+    let active = plain_number(descendant);
+    let hidden = flag(1, a.hidden);
+    let clips = flag(2, a.clips_children);
+    let rect = bounds.value;
+    let affine = transform.value;
+    let tree = graft.value;
+    PlainNode {
+        bounds: rect,
+        transform: affine,
+        graft: tree,
+        active_descendant: active.value,
+        label_length: a.label_length,
+        child_count: a.child_count,
+        role: a.role as u32,
+        flags: hidden as u32
+            + clips as u32
+            + active.flag as u32
+            + graft.flag as u32
+            + bounds.flag as u32
+            + transform.flag as u32,
+        number: a.number as u32,
+    }
+}
+
+// A field and its flag's weight; 0 where there is nothing.
+struct RectField {
+    value: Rect,
+    flag: u8,
+}
+
+struct AffineField {
+    value: Affine,
+    flag: u8,
+}
+
+struct TreeField {
+    value: TreeId,
+    flag: u8,
+}
+
+struct NumberField {
+    value: u64,
+    flag: u8,
+}
+
+fn plain_rect(o: OptionalRect) -> RectField
+    ensures { λ r. ⌜ r ≡ rectField o ⌝ }
+{
+    match o {
+        OptionalRect::Given(value) => RectField { value, flag: 16 },
+        OptionalRect::None => RectField {
+            value: Rect {
+                x0: 0.0,
+                y0: 0.0,
+                x1: 0.0,
+                y1: 0.0,
+            },
+            flag: 0,
+        },
+    }
+}
+
+fn plain_affine(o: OptionalAffine) -> AffineField
+    ensures { λ r. ⌜ r ≡ affineField o ⌝ }
+{
+    match o {
+        OptionalAffine::Given(value) => AffineField { value, flag: 32 },
+        OptionalAffine::None => AffineField {
+            value: Affine {
+                a: 0.0,
+                b: 0.0,
+                c: 0.0,
+                d: 0.0,
+                e: 0.0,
+                f: 0.0,
+            },
+            flag: 0,
+        },
+    }
+}
+
+fn plain_tree(o: OptionalTree) -> TreeField
+    ensures { λ r. ⌜ r ≡ treeField o ⌝ }
+{
+    match o {
+        OptionalTree::Given(value) => TreeField { value, flag: 8 },
+        OptionalTree::None => TreeField {
+            value: TreeId { high: 0, low: 0 },
+            flag: 0,
+        },
+    }
+}
+
+fn plain_number(o: OptionalNode) -> NumberField
+    ensures { λ r. ⌜ r ≡ numberField o ⌝ }
+{
+    match o {
+        OptionalNode::Given(n) => NumberField {
+            value: n.0,
+            flag: 4,
+        },
+        OptionalNode::None => NumberField { value: 0, flag: 0 },
+    }
+}
+
+// The weight of a flag that is set, else 0.
+fn flag(weight: u8, set: bool) -> u8
+    ensures { λ r. ⌜ r ≡ (if set then weight else 0) ⌝ }
+{
+    if set { weight } else { 0 }
+}

@@ -1,0 +1,3 @@
+pub mod Common
+pub mod Clipped
+pub mod Answer

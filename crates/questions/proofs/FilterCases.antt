@@ -1,0 +1,97 @@
+-- The one claim over the cases of the filters: each state is sound, and each answer is the one that its case says. antt computes each.
+-- Assumes nothing.
+use mathlib.Core.Path.{refl}
+use Rattle.questions.specs.ExampleQuestions.{Right, AllRight}
+use Rattle.questions.specs.FilterCases.{buttonsFiltered, ownActiveDescendant, hiddenFocus, hostFocusLost, focusInHidden, hiddenRoot, textRunWithChild, rootsOfPanes, activeDescendant, absentActiveDescendant, activeDescendantInPane, activeDescendantIsGraft, belowClipped, noBoxes, neighbours, nestedNeighbour, neighbourAbove, clippedThroughContainer, clippedPane, noWidth, notANumber, focusOutside, filterCases}
+use Rattle.questions.proofs.Computed.{computed}
+
+buttons-filtered-right : Right buttonsFiltered
+unfolding computed buttonsFiltered
+buttons-filtered-right = (refl, (refl, (refl, (refl, (refl, (refl, tt))))))
+
+own-active-descendant-right : Right ownActiveDescendant
+unfolding computed ownActiveDescendant
+own-active-descendant-right = (refl, (refl, (refl, tt)))
+
+hidden-focus-right : Right hiddenFocus
+unfolding computed hiddenFocus
+hidden-focus-right = (refl, (refl, (refl, (refl, (refl, tt)))))
+
+host-focus-lost-right : Right hostFocusLost
+unfolding computed hostFocusLost hiddenFocus
+host-focus-lost-right = (refl, (refl, (refl, tt)))
+
+focus-in-hidden-right : Right focusInHidden
+unfolding computed focusInHidden
+focus-in-hidden-right = (refl, (refl, (refl, (refl, tt))))
+
+hidden-root-right : Right hiddenRoot
+unfolding computed hiddenRoot
+hidden-root-right = (refl, (refl, (refl, (refl, (refl, (refl, tt))))))
+
+text-run-with-child-right : Right textRunWithChild
+unfolding computed textRunWithChild
+text-run-with-child-right = (refl, (refl, (refl, tt)))
+
+roots-of-panes-right : Right rootsOfPanes
+unfolding computed rootsOfPanes
+roots-of-panes-right = (refl, (refl, (refl, (refl, (refl, (refl, (refl, tt)))))))
+
+active-descendant-right : Right activeDescendant
+unfolding computed activeDescendant
+active-descendant-right = (refl, (refl, (refl, tt)))
+
+absent-active-descendant-right : Right absentActiveDescendant
+unfolding computed absentActiveDescendant
+absent-active-descendant-right = (refl, (refl, tt))
+
+active-descendant-in-pane-right : Right activeDescendantInPane
+unfolding computed activeDescendantInPane
+active-descendant-in-pane-right = (refl, (refl, (refl, tt)))
+
+active-descendant-is-graft-right : Right activeDescendantIsGraft
+unfolding computed activeDescendantIsGraft
+active-descendant-is-graft-right = (refl, (refl, tt))
+
+below-clipped-right : Right belowClipped
+unfolding computed belowClipped
+below-clipped-right = (refl, (refl, (refl, (refl, (refl, (refl, tt))))))
+
+no-boxes-right : Right noBoxes
+unfolding computed noBoxes
+no-boxes-right = (refl, (refl, (refl, tt)))
+
+neighbours-right : Right neighbours
+unfolding computed neighbours
+neighbours-right = (refl, (refl, (refl, (refl, (refl, (refl, tt))))))
+
+nested-neighbour-right : Right nestedNeighbour
+unfolding computed nestedNeighbour
+nested-neighbour-right = (refl, (refl, (refl, (refl, tt))))
+
+neighbour-above-right : Right neighbourAbove
+unfolding computed neighbourAbove
+neighbour-above-right = (refl, (refl, tt))
+
+clipped-through-container-right : Right clippedThroughContainer
+unfolding computed clippedThroughContainer
+clipped-through-container-right = (refl, (refl, (refl, tt)))
+
+clipped-pane-right : Right clippedPane
+unfolding computed clippedPane
+clipped-pane-right = (refl, (refl, tt))
+
+no-width-right : Right noWidth
+unfolding computed noWidth
+no-width-right = (refl, (refl, (refl, tt)))
+
+not-a-number-right : Right notANumber
+unfolding computed notANumber
+not-a-number-right = (refl, (refl, tt))
+
+focus-outside-right : Right focusOutside
+unfolding computed focusOutside
+focus-outside-right = (refl, (refl, (refl, tt)))
+
+pub filter-cases : AllRight filterCases
+filter-cases = (buttons-filtered-right, (own-active-descendant-right, (hidden-focus-right, (host-focus-lost-right, (focus-in-hidden-right, (hidden-root-right, (text-run-with-child-right, (roots-of-panes-right, (active-descendant-right, (absent-active-descendant-right, (active-descendant-in-pane-right, (active-descendant-is-graft-right, (below-clipped-right, (no-boxes-right, (neighbours-right, (nested-neighbour-right, (neighbour-above-right, (clipped-through-container-right, (clipped-pane-right, (no-width-right, (not-a-number-right, (focus-outside-right, tt))))))))))))))))))))))
