@@ -74,7 +74,7 @@ module _ (s : List ℕ) where
   unfolding upFrom
   up-none p l = rw (slot-id-none s p l, upFrom) refl
 
-  up-some : (p : ℕ) → p < slotsOf s → upFrom s p ≡ idIn s p ∷ ancestors (view s .forest) (idIn s p)
+  pub up-some : (p : ℕ) → p < slotsOf s → upFrom s p ≡ idIn s p ∷ ancestors (view s .forest) (idIn s p)
   unfolding upFrom
   up-some p l = rw (slot-id-some s p l, upFrom) refl
 

@@ -26,7 +26,7 @@ module _ (filter : FullNodeId → FilterResult) (side : Side) (s : List ℕ) whe
   f = view s .forest
 
   -- the node that a walk is at is the first that it lists
-  head-listed : (r : Place) → head? (listedFrom filter side s r) ≡ slotId s (r .slot)
+  pub head-listed : (r : Place) → head? (listedFrom filter side s r) ≡ slotId s (r .slot)
   unfolding listedFrom
   head-listed r = go (slotId s (r .slot))
     where

@@ -1,7 +1,7 @@
 -- The way of a walk: what is ahead of a node on one side, some levels up, and how each step of a walk takes one node off it.
 -- Assumes nothing.
 use mathlib.Core.Bool.{true}
-use mathlib.Core.List.{List, [], _∷_, _++_, reverse, flatMap, head?, reverse-append}
+use mathlib.Core.List.{List, [], _∷_, _++_, reverse, flatMap, head?, append-nil, reverse-append}
 use mathlib.Core.Option.{Option, none, some, Option·none-ne-some, Option·some-injective}
 use mathlib.Core.Path.{_≡_, refl, sym, ap, _∙_}
 use Prim.Native.Nat.{ℕ, zero, suc, _≤_, _<_}
@@ -113,6 +113,13 @@ module _ (side : Side) (s : Forest) (h : Shape s) where
   ahead-into level x y there e =
       let c = next-child x _ y there (turned-head side (childIds s x) y e) in
       record { there = c .0; rest = rw (c .2, c .1) refl }
+
+  -- to the first child, with nothing ahead but the other children
+  pub ahead-children : (x y : FullNodeId) → present (s .nodes) x ≡ true → head? (turned side (childIds s x)) ≡ some y
+      → turned side (childIds s x) ≡ y ∷ ahead side s 0 y
+  unfolding ahead flatMap
+  ahead-children x y there e =
+      next-child x _ y there (turned-head side (childIds s x) y e) .2 ∙ ap (λ (zs : List FullNodeId). y ∷ zs) (sym (append-nil (siblings side s y)))
 
   -- up to the parent, where no sibling is left
   pub ahead-up : (level : ℕ) (x : FullNodeId) (l : ParentAndIndex) → linkAt (s .nodes) x ≡ some l → siblings side s x ≡ []

@@ -10,3 +10,7 @@ pub mod Shown
 pub mod Deepest
 pub mod Exact
 pub mod Answers
+pub mod Few
+pub mod Places
+pub mod Slices
+pub mod Kept

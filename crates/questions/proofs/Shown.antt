@@ -38,14 +38,14 @@ module _ (filter : FullNodeId → FilterResult) (side : Side) (s : Forest) (h : 
 -- ## How many nodes a walk can still meet
 
 -- a node and all below it
-everything : Side → Forest → FullNodeId → List FullNodeId
+unfoldable pub everything : Side → Forest → FullNodeId → List FullNodeId
 everything side s x = gather (λ y. y ∷ []) (λ y. turned side (childIds s y)) (length (s .nodes)) x
 
-pub mass : Side → Forest → List FullNodeId → ℕ
+unfoldable pub mass : Side → Forest → List FullNodeId → ℕ
 mass side s xs = length (flatMap (everything side s) xs)
 
 module _ (side : Side) (s : Forest) (h : Shape s) (x : FullNodeId) (there : present (s .nodes) x ≡ true) (ys : List FullNodeId) where
-  mass-step : everything side s x ≡ x ∷ flatMap (everything side s) (turned side (childIds s x))
+  pub mass-step : everything side s x ≡ x ∷ flatMap (everything side s) (turned side (childIds s x))
   unfolding everything
   mass-step = gather-step s h (λ y. y ∷ []) (λ y. turned side (childIds s y)) (λ y z i. turned-member side (childIds s y) z i) x there
 

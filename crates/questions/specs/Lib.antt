@@ -10,3 +10,4 @@ pub mod ExampleQuestions
 pub mod LinkCases
 pub mod FilterCases
 pub mod WalkCases
+pub mod Kept

@@ -1,0 +1,12 @@
+-- `iterators_shown::filtered_child` meets its contract: the first node of the list. Assumes nothing.
+use Rattle.questions.specs.Filters.{filterOf}
+use Rattle.iterators_shown.proofs.Shown.{child-found}
+use borrow.Author.Needs.{needs}
+use Rattle.iterators_shown.proofs.filtered_child.Statement.{statement}
+use Rattle.iterators_shown.proofs.filtered_child.Tie as tie
+
+returns : tie.Need-returns
+returns c = λ sound there. child-found _ _ sound (filterOf _ _) _ _ (c .shown-child .ensures sound there)
+
+pub filtered-child-spec : {M : Type 1} → statement M
+filtered-child-spec = tie.close (tie.spec (λ c κs. search needs) returns)

@@ -1,0 +1,21 @@
+-- `iterators_shown::is_exclude_node` meets its contract, case by case. Assumes nothing.
+use mathlib.Core.Path.{sym, ap}
+use borrow.Author.Needs.{needs}
+use Rattle.iterators_shown.specs.Shown.{isExcludeNode}
+use Rattle.iterators_shown.proofs.is_exclude_node.Statement.{statement}
+use Rattle.iterators_shown.proofs.is_exclude_node.Tie as tie
+
+returns : tie.Need-returns
+unfolding isExcludeNode
+returns c = sym (ap isExcludeNode (c .enum-told .given .1))
+
+returns-2 : tie.Need-returns-2
+unfolding isExcludeNode
+returns-2 c = sym (ap isExcludeNode (c .enum-told2 .given .1))
+
+returns-3 : tie.Need-returns-3
+unfolding isExcludeNode
+returns-3 c = sym (ap isExcludeNode (c .enum-told3 .given .1))
+
+pub is-exclude-node-spec : {M : Type 1} → statement M
+is-exclude-node-spec = tie.close (tie.spec (λ c. search needs) (λ c. search needs) (λ c. search needs) returns returns-2 returns-3)

@@ -1,0 +1,14 @@
+-- `iterators_shown::shown_child` meets its contract: what is met from the first child on are the children. Assumes nothing.
+use mathlib.Core.List.{flatMap}
+use mathlib.Core.Path.{sym, ap, _∙_}
+use Rattle.iterators_shown.proofs.Shown.{met-children}
+use borrow.Author.Needs.{needs}
+use Rattle.iterators_shown.proofs.shown_child.Statement.{statement}
+use Rattle.iterators_shown.proofs.shown_child.Tie as tie
+
+returns : tie.Need-returns
+returns c = λ sound there.
+    ap (flatMap _) (sym (met-children _ _ sound _ _ there (c .before .first-child-slot .ensures sound there))) ∙ c .shown-from .ensures
+
+pub shown-child-spec : {M : Type 1} → statement M
+shown-child-spec = tie.close (tie.spec (λ c κs. search needs) (λ c κs. search needs) returns)
