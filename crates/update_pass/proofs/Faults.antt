@@ -10,22 +10,26 @@ use lib.Dec.{eqb}
 use lib.ListN.{length, getD, take, set}
 use lib.Seq.{take-suc, getD-set-same, getD-set-other}
 use borrow.Author.Tests.{eqb-true, eqb-false}
-use Rattle.base.specs.Tests.{_&&_, if_then_else_, isSome, isNil, sameOption, has, given}
+use Rattle.base.specs.Tests.{_&&_, if_then_else_, isSome, sameOption, has}
 use Rattle.base.specs.Tables.{first}
 use Rattle.base.proofs.Tests.{both, joined, iff, and-false, not-true}
 use Rattle.base.proofs.Lists.{any-append}
-use Rattle.base.proofs.Bytes.{all-below-at}
+use Rattle.base.proofs.Bytes.{all-below-at, all-below-fails}
+use Rattle.base.proofs.Loops.{Passing}
 use Rattle.base.proofs.Indexed.{all-below-each, all-below-cong}
 use Rattle.base.proofs.Tables.{found-alone}
-use Rattle.ids.specs.Ids.{ROOT, sameTree, sameNode}
+use Rattle.ids.specs.Ids.{sameTree, sameNode}
 use Rattle.ids.specs.declared.TreeId.{TreeId}
 use Rattle.ids.specs.declared.NodeId.{NodeId}
 use Rattle.record.specs.Batch.{graft?, hasGraft, Listed, Batch}
-use Rattle.record_reader.specs.Reader.{noNode, listedAt}
+use Rattle.record_reader.specs.Reader.{noNode, listedAt, batchIn}
 use Rattle.state.specs.State.{Forest, graftAt}
 use Rattle.update.specs.Words.{here, claim}
-use Rattle.update.specs.Pass.{Event, names, places, fault}
+use Rattle.update.specs.Pass.{Event, names, fault}
 use Rattle.update_notes.specs.Layout.{CLAIMS}
+use Rattle.update_notes.specs.declared.Scope.{Scope}
+use Rattle.update_notes.specs.Setting.{asked}
+use Rattle.update_notes.specs.Says.{Told, READ}
 use Rattle.update_pass.specs.Steps.{seen, isTaken, unclaimedIn}
 
 -- ## A child that is named
@@ -49,57 +53,16 @@ seen-has cs (suc j) x h =
     last false true = refl
     last false false = refl
 
--- what one node claims, as a list
-module _ (s : Forest) (b : Batch) (l : Listed) where
-  -- nothing
-  claims-none : claim s b l ≡ none → given (claim s b) (l ∷ []) ≡ []
-  claims-none e = ap (λ o. elim o as (λ _. List TreeId) [ none ↦ [] | some t ↦ t ∷ [] ]) e
+module _ (s : Forest) (b : Batch) (seen : List NodeId) (claimed : List TreeId) (es : List Event) (c : NodeId) where
+  -- named before
+  pub fault-twice : has sameNode seen c ≡ true → fault s b seen claimed (names c ∷ es) ≡ 9
+  unfolding fault first
+  fault-twice h = rw h
 
-  -- a tree
-  claims-some : (t : TreeId) → claim s b l ≡ some t → given (claim s b) (l ∷ []) ≡ t ∷ []
-  claims-some t e = ap (λ o. elim o as (λ _. List TreeId) [ none ↦ [] | some t ↦ t ∷ [] ]) e
-
-module _ (s : Forest) (b : Batch) (seen : List NodeId) (claimed : List TreeId) (es : List Event) where
-  module _ (c : NodeId) where
-    -- named before
-    pub fault-twice : has sameNode seen c ≡ true → fault s b seen claimed (names c ∷ es) ≡ 9
-    unfolding fault first
-    fault-twice h = rw h
-
-    -- named for the first time
-    pub fault-once : has sameNode seen c ≡ false → fault s b seen claimed (names c ∷ es) ≡ fault s b (c ∷ seen) claimed es
-    unfolding fault first
-    fault-once h = rw h (found-alone (fault s b (c ∷ seen) claimed es))
-
-  -- ## A node that is placed
-
-  module _ (l : Listed) where
-    -- a graft node with children
-    pub fault-ten : isSome (graft? (l .body)) && not (isNil (l .body .children)) ≡ true → fault s b seen claimed (places l ∷ es) ≡ 10
-    unfolding fault first
-    fault-ten h = rw h
-
-    module _ (h : isSome (graft? (l .body)) && not (isNil (l .body .children)) ≡ false) where
-      -- one that claims nothing
-      pub fault-claimless : claim s b l ≡ none → fault s b seen claimed (places l ∷ es) ≡ fault s b seen claimed es
-      unfolding fault first
-      fault-claimless e = rw (h, claims-none s b l e) (found-alone (fault s b seen claimed es))
-
-      module _ (t : TreeId) (e : claim s b l ≡ some t) where
-        -- one that claims ROOT
-        pub fault-eleven : sameTree ROOT t ≡ true → fault s b seen claimed (places l ∷ es) ≡ 11
-        unfolding fault first
-        fault-eleven r = rw (h, claims-some s b l t e, r)
-
-        -- one that claims a tree claimed before
-        pub fault-twelve : sameTree ROOT t ≡ false → has sameTree claimed t ≡ true → fault s b seen claimed (places l ∷ es) ≡ 12
-        unfolding fault first
-        fault-twelve r k = rw (h, claims-some s b l t e, r, k)
-
-        -- one that claims a tree first
-        pub fault-claim : sameTree ROOT t ≡ false → has sameTree claimed t ≡ false → fault s b seen claimed (places l ∷ es) ≡ fault s b seen (t ∷ claimed) es
-        unfolding fault first
-        fault-claim r k = rw (h, claims-some s b l t e, r, k) (found-alone (fault s b seen (t ∷ claimed) es))
+  -- named for the first time
+  pub fault-once : has sameNode seen c ≡ false → fault s b seen claimed (names c ∷ es) ≡ fault s b (c ∷ seen) claimed es
+  unfolding fault first
+  fault-once h = rw h (found-alone (fault s b (c ∷ seen) claimed es))
 
 -- ## The trees that are claimed
 
@@ -174,3 +137,13 @@ module _ (b : Batch) (notes done : List ℕ) (i : ℕ) (t : TreeId) where
       after : (m : ℕ) → not (same i) ≡ true → free done m ≡ true → (c : Bool) → eqb m i ≡ c → free (set done i 1) m ≡ true
       after m a h true q = free-apart (set done i 1) m (rw (eqb-true m i q) (not-true a))
       after m a h false q = free-other m (eqb-false m i q) ∙ h
+
+-- whether no node that is done claims the tree t, as the code asks it
+module _ {state bytes : List ℕ} {c : Scope} {notes : List ℕ} {i : ℕ} (told : Told READ state bytes c notes) (done : List ℕ) (t : TreeId) where
+  pub unclaimed-fails : {r : Bool} → i < c .listed → r ≡ isTaken (batchIn bytes) notes done t i → r ≡ true → false ≡ unclaimedIn (asked bytes c) notes done t
+  unfolding unclaimedIn isTaken listedAt asked
+  unclaimed-fails h e q = sym (all-below-fails _ _ i (omega (arith, told .given .scoped .listed)) (ap not (sym e ∙ q)))
+
+  pub unclaimed-holds : Passing (isTaken (batchIn bytes) notes done t) (c .listed) i → c .listed ≤ i → true ≡ unclaimedIn (asked bytes c) notes done t
+  unfolding unclaimedIn isTaken listedAt asked
+  unclaimed-holds g h = sym (all-below-each _ _ (λ m l. ap not (g .passed m (omega (arith, told .given .scoped .listed)))))

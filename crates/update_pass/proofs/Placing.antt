@@ -2,30 +2,34 @@
 use mathlib.Core.Bool.{Bool, true, false, not, _||_, false≢true, true≢false}
 use mathlib.Core.Bool as bool
 use mathlib.Core.List.{List, [], _∷_}
+use mathlib.Core.Option.{none, some}
 use mathlib.Core.Path.{_≡_, refl, sym, ap, ap₂, _∙_}
 use Prim.Native.Nat.{ℕ, suc, _+_, _≤_, _<_}
 use native.Mathlib.Omega.{arith}
-use lib.Dec.{eqb, ltb}
+use lib.Dec.{ltb}
 use lib.ListN.{length, getD}
-use borrow.Author.Tests.{lt-ltb}
-use Rattle.base.specs.Tests.{_&&_, isSome, isNil}
+use borrow.Author.Tests.{lt-ltb, eq-eqb, ne-eqb}
+use Rattle.base.specs.Tests.{_&&_, isSome, isNil, given}
+use Rattle.base.specs.Tables.{first}
+use Rattle.base.proofs.Tables.{found-alone}
 use Rattle.base.proofs.Lists.{none-of}
 use Rattle.ids.specs.Ids.{ROOT, sameTree}
 use Rattle.ids.specs.declared.TreeId.{TreeId}
 use Rattle.ids.specs.declared.NodeId.{NodeId}
-use Rattle.record.specs.Batch.{NodeData, graft?, Batch}
+use Rattle.record.specs.Batch.{NodeData, graft?, Listed, Batch}
 use Rattle.record_reader.specs.Reader.{batchIn, listedAt}
 use Rattle.state.specs.State.{Forest}
 use Rattle.update.specs.Words.{claim}
 use Rattle.update.specs.Pass.{Event, places, fault}
 use Rattle.update_notes.specs.Layout.{CLAIMS}
 use Rattle.update_notes.specs.declared.Scope.{Scope}
-use Rattle.update_notes.specs.Setting.{asked}
+use Rattle.update_notes.specs.Setting.{asked, forest}
 use Rattle.update_notes.specs.Says.{Told, READ}
 use Rattle.update_notes.proofs.Setting.{batched-at}
 use Rattle.update_notes.proofs.Told.{batched}
-use Rattle.update_pass.specs.Steps.{unclaimedIn, Claimed, PlacedIs}
-use Rattle.update_pass.proofs.Faults.{fault-ten, fault-claimless, fault-eleven, fault-twelve, fault-claim, claim-given, done-claimless, done-claims}
+use Rattle.update_pass.specs.Steps.{unclaimedIn, Claimed, GoesOn, PlacedIs}
+use Rattle.update_pass.proofs.Faults.{claim-given, done-claimless, done-claims}
+use Rattle.update_pass.proofs.Read.{claim-listed}
 use Rattle.update_pass.proofs.Steps.{placing-here, placing-past}
 
 -- a graft node with children
@@ -59,97 +63,104 @@ taken false c d e = absurd (true≢false e)
 
 -- ## A node, and the trees that are claimed before it
 
-module _ {s : Forest} {b : Batch} {notes done : List ℕ} {i : ℕ} where
-  -- nothing is placed
-  pub placed-past : length (b .nodes) ≤ i → PlacedIs s b notes done i 0
-  placed-past h =
-      record {
-        goes = λ _ _ claimed before. record {
-          after = claimed;
-          claimed-after = λ t. before t ∙ ap not (sym (done-claimless b notes done i t (λ m n e. absurd (omega arith))));
-          left = λ seen es. rw (placing-past b i h);
-        };
-        meets = λ z. absurd (omega arith);
-      }
+-- what one node claims, as a list: nothing, or a tree
+module _ (s : Forest) (b : Batch) (l : Listed) where
+  claims-none : claim s b l ≡ none → given (claim s b) (l ∷ []) ≡ []
+  claims-none e = ap (λ o. elim o as (λ _. List TreeId) [ none ↦ [] | some t ↦ t ∷ [] ]) e
 
-  module _ (h : i < length (b .nodes)) where
+  claims-some : (t : TreeId) → claim s b l ≡ some t → given (claim s b) (l ∷ []) ≡ t ∷ []
+  claims-some t e = ap (λ o. elim o as (λ _. List TreeId) [ none ↦ [] | some t ↦ t ∷ [] ]) e
+
+module _ {state bytes : List ℕ} {c : Scope} {notes : List ℕ} {i : ℕ} (told : Told READ state bytes c notes) where
+  -- the pass goes on, and these trees are claimed then
+  goes-on : (done : List ℕ) → ((claimed : List TreeId) → i < length done → Claimed (asked bytes c) notes done claimed → GoesOn (forest state) (asked bytes c) notes done i claimed)
+      → PlacedIs (forest state) (asked bytes c) notes done i 0
+  goes-on done f = record { goes = λ _ k claimed. f claimed k; meets = λ z. absurd (omega arith) }
+
+  -- nothing is placed
+  pub placed-past : {done : List ℕ} → c .listed ≤ i → PlacedIs (forest state) (asked bytes c) notes done i 0
+  placed-past {done} h =
+      let past : length (asked bytes c .nodes) ≤ i = omega (arith, told .given .scoped .listed) in
+      goes-on done (λ claimed _ before. record {
+        after = claimed;
+        claimed-after = λ t. before t ∙ ap not (sym (done-claimless (asked bytes c) notes done i t (λ m n e. absurd (omega arith))));
+        left = λ seen es. rw (placing-past (asked bytes c) i past);
+      })
+
+  -- a listed node, as the record says whether it is a graft node and how many children it has
+  module _ (h : i < c .listed) {g : Bool} {n : ℕ} (grafts : g ≡ isSome (graft? (listedAt (batchIn bytes) i .body)))
+      (count : n ≡ length (listedAt (batchIn bytes) i .body .children)) where
+    is-here : i < length (asked bytes c .nodes)
+    is-here = omega (arith, told .given .scoped .listed)
+
+    same-node : listedAt (batchIn bytes) i ≡ listedAt (asked bytes c) i
+    same-node = batched-at bytes (asked bytes c) (batched state bytes c (told .given)) i
+
+    crowded-at : {v : Bool} → bool._&&_ g (ltb 0 n) ≡ v → crowded (listedAt (asked bytes c) i .body) ≡ v
+    crowded-at e = rw same-node at (crowded-is (listedAt (batchIn bytes) i .body) grafts count e)
+
     -- a number that the node alone says
-    meets-number : (r : ℕ) → 0 < r
-        → ((claimed : List TreeId) → Claimed b notes done claimed → (seen : List NodeId) (es : List Event) → fault s b seen claimed (places (listedAt b i) ∷ es) ≡ r)
-        → PlacedIs s b notes done i r
-    meets-number r z e =
+    meets-number : (done : List ℕ) (r : ℕ) → 0 < r → ((claimed : List TreeId) → Claimed (asked bytes c) notes done claimed
+        → (seen : List NodeId) (es : List Event) → fault (forest state) (asked bytes c) seen claimed (places (listedAt (asked bytes c) i) ∷ es) ≡ r)
+        → PlacedIs (forest state) (asked bytes c) notes done i r
+    meets-number done r z e =
         record {
           goes = λ n. absurd (omega arith);
-          meets = λ _ claimed before seen es. rw (placing-here b i h) (e claimed before seen es);
+          meets = λ _ claimed before seen es. rw (placing-here (asked bytes c) i is-here) (e claimed before seen es);
         }
 
     -- row 10
-    pub placed-ten : crowded (listedAt b i .body) ≡ true → PlacedIs s b notes done i 10
-    placed-ten e = meets-number 10 (omega arith) (λ claimed before seen es. fault-ten s b seen claimed es (listedAt b i) e)
+    pub placed-ten : {done : List ℕ} → bool._&&_ g (ltb 0 n) ≡ true → PlacedIs (forest state) (asked bytes c) notes done i 10
+    unfolding fault first
+    placed-ten {done} e = meets-number done 10 (omega arith) (λ claimed before seen es. rw (crowded-at e))
 
-    module _ (alone : crowded (listedAt b i .body) ≡ false) (say : eqb (getD notes (CLAIMS + i) 0) 1 ≡ isSome (claim s b (listedAt b i))) where
+    module _ (few : bool._&&_ g (ltb 0 n) ≡ false) where
       -- a node without a claim
-      pub placed-claimless : eqb (getD notes (CLAIMS + i) 0) 1 ≡ false → PlacedIs s b notes done i 0
-      placed-claimless e =
-          record {
-            goes = λ _ _ claimed before. record {
-              after = claimed;
-              claimed-after = λ t. before t ∙ ap not (sym (done-claimless b notes done i t (λ m n q. rw q e)));
-              left = λ seen es. rw (placing-here b i h)
-                  (fault-claimless s b seen claimed es (listedAt b i) alone (none-of (claim s b (listedAt b i)) (ap not (sym say ∙ e))));
-            };
-            meets = λ z. absurd (omega arith);
-          }
+      pub placed-claimless : {done : List ℕ} → (getD notes (CLAIMS + i) 0 ≡ 1 → ⊥) → PlacedIs (forest state) (asked bytes c) notes done i 0
+      unfolding fault first
+      placed-claimless {done} e =
+          let none-claimed = ne-eqb (getD notes (CLAIMS + i) 0) 1 e in
+          let unclaimed = none-of (claim (forest state) (asked bytes c) (listedAt (asked bytes c) i)) (ap not (sym (claim-listed told i h) ∙ none-claimed)) in
+          goes-on done (λ claimed _ before. record {
+            after = claimed;
+            claimed-after = λ t. before t ∙ ap not (sym (done-claimless (asked bytes c) notes done i t (λ m n q. rw q none-claimed)));
+            left = λ seen es. rw (placing-here (asked bytes c) i is-here, crowded-at few, claims-none (forest state) (asked bytes c) _ unclaimed)
+                (found-alone (fault (forest state) (asked bytes c) seen claimed es));
+          })
 
-      module _ (e : eqb (getD notes (CLAIMS + i) 0) 1 ≡ true) where
+      -- one that claims its graft t
+      module _ (claims : getD notes (CLAIMS + i) 0 ≡ 1) {t : TreeId} (graft : t ≡ listedAt (batchIn bytes) i .body .graft) {r : Bool} (root : r ≡ sameTree ROOT t) where
+        graft-at : listedAt (asked bytes c) i .body .graft ≡ t
+        graft-at = sym (rw same-node at graft)
+
+        claims-graft : given (claim (forest state) (asked bytes c)) (listedAt (asked bytes c) i ∷ []) ≡ t ∷ []
+        claims-graft = claims-some (forest state) (asked bytes c) (listedAt (asked bytes c) i) t
+            (claim-given (forest state) (asked bytes c) (listedAt (asked bytes c) i) (sym (claim-listed told i h) ∙ eq-eqb _ _ claims) ∙ ap some graft-at)
+
         -- row 11
-        pub placed-eleven : sameTree ROOT (listedAt b i .body .graft) ≡ true → PlacedIs s b notes done i 11
-        placed-eleven r = meets-number 11 (omega arith) (λ claimed before seen es.
-            fault-eleven s b seen claimed es (listedAt b i) alone (listedAt b i .body .graft) (claim-given s b (listedAt b i) (sym say ∙ e)) r)
+        pub placed-eleven : {done : List ℕ} → r ≡ true → PlacedIs (forest state) (asked bytes c) notes done i 11
+        unfolding fault first
+        placed-eleven {done} e = meets-number done 11 (omega arith) (λ claimed before seen es. rw (crowded-at few, claims-graft, sym root ∙ e))
 
-        module _ (r : sameTree ROOT (listedAt b i .body .graft) ≡ false) where
+        module _ (other : r ≡ false) {done : List ℕ} {u : Bool} (free : u ≡ unclaimedIn (asked bytes c) notes done t) where
           -- row 12
-          pub placed-twelve : unclaimedIn b notes done (listedAt b i .body .graft) ≡ false → PlacedIs s b notes done i 12
-          placed-twelve u = meets-number 12 (omega arith) (λ claimed before seen es.
-              fault-twelve s b seen claimed es (listedAt b i) alone (listedAt b i .body .graft) (claim-given s b (listedAt b i) (sym say ∙ e)) r
-              (before (listedAt b i .body .graft) ∙ ap not u))
+          pub placed-twelve : u ≡ false → PlacedIs (forest state) (asked bytes c) notes done i 12
+          unfolding fault first
+          placed-twelve e =
+              meets-number done 12 (omega arith) (λ claimed before seen es. rw (crowded-at few, claims-graft, sym root ∙ other, before t ∙ ap not (sym free ∙ e)))
 
           -- a node that claims a tree first
-          pub placed-claim : unclaimedIn b notes done (listedAt b i .body .graft) ≡ true → PlacedIs s b notes done i 0
-          unfolding _&&_
-          placed-claim u =
-              record {
-                goes = λ _ k claimed before. record {
-                  after = listedAt b i .body .graft ∷ claimed;
-                  claimed-after = λ t. ap (λ f. sameTree t (listedAt b i .body .graft) || f) (before t)
-                      ∙ either (sameTree t (listedAt b i .body .graft)) (unclaimedIn b notes done t) ∙ ap not (sym (done-claims b notes done i t h k e));
-                  left = λ seen es. rw (placing-here b i h)
-                      (fault-claim s b seen claimed es (listedAt b i) alone (listedAt b i .body .graft) (claim-given s b (listedAt b i) (sym say ∙ e)) r
-                      (before (listedAt b i .body .graft) ∙ ap not u));
-                };
-                meets = λ z. absurd (omega arith);
-              }
+          pub placed-claim : u ≡ true → PlacedIs (forest state) (asked bytes c) notes done i 0
+          unfolding fault first _&&_
+          placed-claim e =
+              goes-on done (λ claimed k before. record {
+                after = t ∷ claimed;
+                claimed-after = λ x. ap (λ f. sameTree x t || f) (before x) ∙ either (sameTree x t) (unclaimedIn (asked bytes c) notes done x)
+                    ∙ ap not (sym (rw graft-at at (done-claims (asked bytes c) notes done i x is-here k (eq-eqb _ _ claims))));
+                left = λ seen es. rw (placing-here (asked bytes c) i is-here, crowded-at few, claims-graft, sym root ∙ other, before t ∙ ap not (sym free ∙ e))
+                    (found-alone (fault (forest state) (asked bytes c) seen (t ∷ claimed) es));
+              })
             where
               either : (a c : Bool) → (a || not c) ≡ not (not a && c)
               either true c = refl
               either false c = refl
-
--- ## As the code finds it
-
-module _ {state bytes : List ℕ} {c : Scope} {notes : List ℕ} (told : Told READ state bytes c notes) (i : ℕ) where
-  -- no node
-  pub is-past : c .listed ≤ i → length (asked bytes c .nodes) ≤ i
-  is-past h = omega (arith, told .given .scoped .listed)
-
-  -- a listed node
-  pub is-here : i < c .listed → i < length (asked bytes c .nodes)
-  is-here h = omega (arith, told .given .scoped .listed)
-
-  -- it is crowded, as the record says it
-  pub crowded-at : {g v : Bool} {n : ℕ} → g ≡ isSome (graft? (listedAt (batchIn bytes) i .body)) → n ≡ length (listedAt (batchIn bytes) i .body .children)
-      → bool._&&_ g (ltb 0 n) ≡ v → crowded (listedAt (asked bytes c) i .body) ≡ v
-  crowded-at g n e = rw (batched-at bytes (asked bytes c) (batched state bytes c (told .given)) i) at (crowded-is (listedAt (batchIn bytes) i .body) g n e)
-
-  -- its graft
-  pub graft-at : {t : TreeId} → t ≡ listedAt (batchIn bytes) i .body .graft → t ≡ listedAt (asked bytes c) i .body .graft
-  graft-at e = rw (batched-at bytes (asked bytes c) (batched state bytes c (told .given)) i) at e

@@ -25,7 +25,6 @@ use Rattle.update_notes.specs.declared.Scope.{Scope}
 use Rattle.update_notes.specs.Setting.{asked, forest, rootIn}
 use Rattle.update_notes.specs.Codes.{idAt, slotAt}
 use Rattle.update_notes.specs.Says.{namingMark, PositionIn, listedWord, namedWord, endWord, listedSlot, namedSlot, namingWord, claimWord, Told, READ}
-use Rattle.update_notes.proofs.Told.{few-listed, few-named}
 use Rattle.update_notes.proofs.Positions.{first-unique, position-first}
 use Rattle.update_notes.proofs.Places.{slot-old, slot-id, forest-length}
 use Rattle.update_notes.proofs.Marks.{here-mine}
@@ -46,10 +45,6 @@ naming-is s b j h =
 
 module _ {state bytes : List ℕ} {c : Scope} {notes : List ℕ} (told : Told READ state bytes c notes) where
   -- ## Listed nodes
-
-  -- there are at most 64
-  pub listed-room : (i : ℕ) → i < c .listed → i < 64
-  listed-room i h = omega (arith, few-listed state bytes c (told .given))
 
   -- its number
   listed-word : (i : ℕ) → i < c .listed → getD notes (LISTED + i) 0 ≡ listedAt (asked bytes c) i .id .0
@@ -79,13 +74,12 @@ module _ {state bytes : List ℕ} {c : Scope} {notes : List ℕ} (told : Told RE
     listed-new l = sym (old-listed i n h e) ∙ le-ltb _ n l
 
   -- whether it is the root
-  pub root-listed : (i : ℕ) → i < c .listed
-      → sameOption sameId (rootIn c) (some (record { tree = c .tree; node = record { 0 = getD notes (LISTED + i) 0 } }))
-      ≡ isRoot (forest state) (asked bytes c) (here (forest state) (asked bytes c) (listedAt (asked bytes c) i .id))
+  pub root-listed : {i : ℕ} {r v : Bool} → i < c .listed → r ≡ sameOption sameId (rootIn c) (some (record { tree = c .tree; node = record { 0 = getD notes (LISTED + i) 0 } }))
+      → r ≡ v → isRoot (forest state) (asked bytes c) (here (forest state) (asked bytes c) (listedAt (asked bytes c) i .id)) ≡ v
   unfolding isRoot here
-  root-listed i h =
-      ap₂ (λ r (x : FullNodeId). sameOption sameId r (some x)) (told .given .scoped .root)
-      (ap₂ (λ t w. record { tree = t; node = record { 0 = w } }) (told .given .scoped .tree) (listed-word i h))
+  root-listed {i} h e f =
+      ap₂ (λ r (x : FullNodeId). sameOption sameId r (some x)) (sym (told .given .scoped .root))
+      (ap₂ (λ t w. record { tree = t; node = record { 0 = w } }) (sym (told .given .scoped .tree)) (sym (listed-word i h))) ∙ sym e ∙ f
 
   -- whether it claims a tree
   pub claim-listed : (i : ℕ) → i < c .listed → eqb (getD notes (CLAIMS + i) 0) 1 ≡ isSome (claim (forest state) (asked bytes c) (listedAt (asked bytes c) i))
@@ -101,10 +95,6 @@ module _ {state bytes : List ℕ} {c : Scope} {notes : List ℕ} (told : Told RE
       (searched (λ m. getD notes (LISTED + m) 0) (λ m. listedAt (asked bytes c) m .id) (c .listed) x p listed-word f)
 
   -- ## Named children
-
-  -- there are at most 256
-  pub named-room : (j : ℕ) → j < c .named → j < 256
-  named-room j h = omega (arith, few-named state bytes c (told .given))
 
   -- a child's number
   pub named-word : (j : ℕ) → j < c .named → getD notes (NAMED + j) 0 ≡ getD (namedIds (asked bytes c .nodes)) j noNode .0

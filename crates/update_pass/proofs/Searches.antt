@@ -5,18 +5,15 @@ use mathlib.Core.Option.{none, some}
 use mathlib.Core.Path.{_≡_, refl, sym, ap, _∙_}
 use Prim.Native.Nat.{ℕ, zero, suc, _+_, _≤_, _<_}
 use native.Mathlib.Decide.{decLt}
-use native.Mathlib.Nat.{zero-add}
 use native.Mathlib.Numerals.{add-one}
 use native.Mathlib.Omega.{arith}
 use lib.Dec.{eqb, ltb, leb}
-use lib.ListN.{length, getD, take, set, replicate, length-replicate}
-use lib.Seq.{length-take-le, take-all, getD-take}
+use lib.ListN.{length, getD, take}
+use lib.Seq.{length-take-le, getD-take}
 use borrow.Author.Tests.{eqb-true, eq-eqb, ltb-false, lt-ltb, le-ltb, le-leb}
-use Rattle.base.specs.Tests.{if_then_else_, any, has, position}
+use Rattle.base.specs.Tests.{if_then_else_, has, position}
 use Rattle.base.specs.Bytes.{listOf}
 use Rattle.base.specs.Search.{First}
-use Rattle.base.specs.Regions.{fill}
-use Rattle.base.proofs.Regions.{fill-more, fill-put}
 use Rattle.base.proofs.Tests.{iff, or-right}
 use Rattle.base.proofs.Search.{first-here, first-end, first-any, ltb-suc}
 use Rattle.ids.specs.Ids.{sameNode}
@@ -28,7 +25,7 @@ use Rattle.state.specs.State.{Forest}
 use Rattle.update.specs.Words.{listing, here, old, isRoot}
 use Rattle.update.specs.Pass.{placedAtTurn}
 use Rattle.update_notes.proofs.Positions.{first-cong, position-first, first-given-at}
-use Rattle.update_pass.specs.Steps.{dueOf, Due}
+use Rattle.update_pass.specs.Steps.{dueOf}
 
 -- ## Numbers and nodes
 
@@ -57,13 +54,6 @@ module _ {A : Type 0} where
   pub search-has : (same : A → A → Bool) (x : A) (xs : List A) (d : A) (j r : ℕ) → j ≤ length xs → First (λ m. same x (getD xs m d)) j r
       → ltb r j ≡ has same (take j xs) x
   search-has same x xs d j r h f = first-any (same x) j (λ m. getD xs m d) r f ∙ ap (λ ys. has same ys x) (list-of-take xs d j h)
-
-  -- a search among all tells whether one passes
-  pub any-first : (p : A → Bool) (xs : List A) (d : A) (f : ℕ → Bool) (n r : ℕ) → n ≡ length xs → ((m : ℕ) → m < n → f m ≡ p (getD xs m d)) → First f n r
-      → ltb r n ≡ any p xs
-  any-first p xs d f n r e same h =
-      first-any p n (λ m. getD xs m d) r (first-cong f (λ m. p (getD xs m d)) n r same h)
-      ∙ ap (any p) (list-of-take xs d n (omega arith) ∙ take-all n xs (omega arith))
 
   -- the position among all tells whether x is among them
   pub has-before : (same : A → A → Bool) (x : A) (xs : List A) (j : ℕ) → j ≤ length xs → has same (take j xs) x ≡ ltb (position same xs x) j
@@ -122,10 +112,10 @@ module _ (s : Forest) (b : Batch) (i : ℕ) where
   due-root e = rw (or-right (old s b (here s b (listedAt b i .id))) e)
 
   -- any other
-  pub due-named : old s b (here s b (listedAt b i .id)) ≡ false → isRoot s b (here s b (listedAt b i .id)) ≡ false
-      → dueOf s b i ≡ suc (position sameNode (namedIds (b .nodes)) (listedAt b i .id))
+  pub due-named : {p : ℕ} → old s b (here s b (listedAt b i .id)) ≡ false → isRoot s b (here s b (listedAt b i .id)) ≡ false
+      → p ≡ position sameNode (namedIds (b .nodes)) (listedAt b i .id) → p + 1 ≡ dueOf s b i
   unfolding dueOf placedAtTurn
-  due-named e r = rw (e, r)
+  due-named e r q = rw (e, r, add-one, q)
 
   -- after j children
   pub due-reached : (j : ℕ) → j ≤ length (namedIds (b .nodes))
@@ -161,13 +151,3 @@ module _ (s : Forest) (b : Batch) (i : ℕ) where
       go : (t : Bool) → (if t then 0 else suc (position sameNode (namedIds (b .nodes)) (listedAt b i .id))) ≤ length (namedIds (b .nodes)) + 1
       go true = omega arith
       go false = omega (arith, position-first sameNode (listedAt b i .id) noNode (namedIds (b .nodes)) .within)
-
-  -- ## The column of these
-
-  -- one node more
-  pub due-more : fill 0 (i + 1) (dueOf s b) (replicate 64 0) ≡ set (fill 0 i (dueOf s b) (replicate 64 0)) i (dueOf s b i)
-  due-more = rw (zero-add i) at (fill-more 0 (dueOf s b) i (replicate 64 0))
-
-  -- all of them
-  pub due-all : i ≡ length (b .nodes) → i ≤ 64 → Due s b (fill 0 i (dueOf s b) (replicate 64 0))
-  due-all e h m l = rw (zero-add m) at (fill-put 0 (dueOf s b) i (replicate 64 0) (rw (length-replicate {A = ℕ} 64 0) (omega arith)) m (omega arith))

@@ -3,9 +3,12 @@ use mathlib.Core.Bool.{Bool, true, false, not}
 use mathlib.Core.List.{List, [], _∷_, append-nil}
 use mathlib.Core.Option.{Option, none}
 use mathlib.Core.Path.{_≡_, sym, ap, ap₂, _∙_}
-use Prim.Native.Nat.{ℕ, _+_, _<_}
+use Prim.Native.Nat.{ℕ, _+_, _≤_, _<_}
 use native.Mathlib.Numerals.{add-one}
 use native.Mathlib.Omega.{arith}
+use Rattle.base.specs.Regions.{fill}
+use Rattle.base.proofs.Regions.{fill-length}
+use Rattle.update_notes.proofs.Columns.{holds-fill}
 use lib.Dec.{ltb}
 use lib.ListN.{length, getD, take, length-append}
 use lib.Seq.{take-suc}
@@ -36,7 +39,7 @@ use Rattle.update_notes.proofs.Marks.{turn-mark, naming-mark}
 use Rattle.update_notes.proofs.Grafts.{graft-slot}
 use Rattle.update_notes.proofs.Setting.{batched-at}
 use Rattle.update_notes.proofs.Told.{batched, told-below, told-more}
-use Rattle.update_reading.specs.Reading.{slotWord, Marked, claimOf}
+use Rattle.update_reading.specs.Reading.{slotWord, MarkRoom, Marked, claimOf}
 use Rattle.update_reading.proofs.Marks.{mark-is}
 
 -- ## The record
@@ -46,7 +49,7 @@ le-two : (s : List ℕ) → ((k : ℕ) → getD s k 0 < 256) → (at : ℕ) → 
 le-two s byte at = rw (le-add s at 1 1, le-one s at, le-one s (at + 1)) (omega (arith, byte at, byte (at + 1)))
 
 -- so is a number of two bytes within a node record
-pub field-small : (s : List ℕ) → ((k : ℕ) → getD s k 0 < 256) → (i offset : ℕ) → fieldAt 2 s i offset < 65536
+field-small : (s : List ℕ) → ((k : ℕ) → getD s k 0 < 256) → (i offset : ℕ) → fieldAt 2 s i offset < 65536
 unfolding fieldAt
 field-small s byte i offset = go (ltb i (nodeCount s))
   where
@@ -54,9 +57,9 @@ field-small s byte i offset = go (ltb i (nodeCount s))
     go true = le-two s byte (recordAt i + offset)
     go false = omega arith
 
--- and the number of a node's children
-pub children-small : (s : List ℕ) → ((k : ℕ) → getD s k 0 < 256) → (i : ℕ) → length (listedAt (batchIn s) i .body .children) < 65536
-children-small s byte i = rw (← children-count s i) (field-small s byte i 34)
+-- so where a node's children end is no large number
+pub end-small : (s : List ℕ) → ((k : ℕ) → getD s k 0 < 256) → (i : ℕ) {a n : ℕ} → a ≡ fieldAt 2 s i 32 → n ≡ length (listedAt (batchIn s) i .body .children) → a + n < 131072
+end-small s byte i e f = omega (arith, field-small s byte i 32, children-count s i, field-small s byte i 34)
 
 -- the children that one more node names
 named-next : (ls : List Listed) (i : ℕ) (d : Listed) → i < length ls
@@ -113,6 +116,16 @@ module _ (state bytes : List ℕ) (c : Scope) (g : Given state bytes c) where
       (ap (λ t. flag t) (claims-some (graft? (listedAt (asked bytes c) i .body)) (graftAt (forest state .nodes) (here (forest state) (asked bytes c) (listedAt (asked bytes c) i .id)))))
 
 -- ## Marks
+
+-- there is room for marks where zeros were stored
+pub mark-room : (s : List ℕ) {from count to n : ℕ} → length s ≡ 4096 → from + count ≤ to → to + n ≤ 4096 → n ≤ 320 → MarkRoom from count to n (fill to n (λ i. 0) s)
+mark-room s {to = to} {n} long before room few = record {
+  before = before;
+  room = room;
+  few = few;
+  long = fill-length to (λ i. 0) n s ∙ long;
+  zeros = holds-fill to n (λ i. 0) s (omega arith);
+}
 
 module _ (state bytes : List ℕ) (c : Scope) (s t : List ℕ) where
   pub turns-told : Told 5 state bytes c s → Marked LISTED-SLOTS (c .listed) TURNS (slotsOf state) s t → Told 6 state bytes c t

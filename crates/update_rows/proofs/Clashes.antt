@@ -1,16 +1,18 @@
 -- Row 18: a listed node that has other data than before and goes, as the notes say it. Assumes nothing.
 use mathlib.Core.Bool.{Bool, true, false, not, false≢true}
-use mathlib.Core.List.{List, [], _∷_}
+use mathlib.Core.List.{List}
 use mathlib.Core.Option.{Option, none, some}
 use mathlib.Core.Path.{_≡_, refl, sym, ap, _∙_}
-use Prim.Native.Nat.{ℕ, zero, suc, _+_, _<_}
+use Prim.Native.Nat.{ℕ, _+_, _≤_, _<_}
 use native.Mathlib.Omega.{arith}
 use lib.Dec.{eqb}
 use lib.ListN.{length, getD}
 use borrow.Author.Tests.{ltb-true, eq-eqb, ne-eqb}
-use Rattle.base.specs.Tests.{_&&_, isSome, any}
-use Rattle.base.proofs.Tests.{and-false, and-right, or-right, bit-is}
+use Rattle.base.specs.Tests.{_&&_, isSome}
+use Rattle.base.proofs.Tests.{and-false, and-right, bit-is}
 use Rattle.record.specs.Batch.{sameData, Listed, Batch}
+use Rattle.base.proofs.Loops.{Passing, any-at, any-passed}
+use Rattle.update_rows.specs.Rows.{clashes}
 use Rattle.ids.specs.declared.FullNodeId.{FullNodeId}
 use Rattle.record_reader.specs.Reader.{blank, listedAt}
 use Rattle.state.specs.State.{NodeState, Forest, find, present}
@@ -42,7 +44,7 @@ module _ (s : Forest) (b : Batch) (l : Listed) where
   unfolding updatedAndRemoved differs
   clash-is = refl
 
-module _ (state bytes : List ℕ) (c : Scope) (notes : List ℕ) (told : Told COMPARED state bytes c notes) (i : ℕ) (h : i < c .listed) where
+module _ {state bytes : List ℕ} {c : Scope} {notes : List ℕ} (told : Told COMPARED state bytes c notes) {i : ℕ} (h : i < c .listed) where
   abbrev s : Forest
   s = forest state
 
@@ -87,22 +89,13 @@ module _ (state bytes : List ℕ) (c : Scope) (notes : List ℕ) (told : Told CO
 
 -- ## All of them
 
-module _ (p : Listed → Bool) (b : Batch) where
-  -- one passes
-  pub any-here : (i : ℕ) → i < length (b .nodes) → p (listedAt b i) ≡ true → any p (b .nodes) ≡ true
+module _ {state bytes : List ℕ} {c : Scope} {notes : List ℕ} (told : Told COMPARED state bytes c notes) {i : ℕ} where
+  -- one does
+  pub clashes-some : {r : Bool} → i < c .listed → r ≡ updatedAndRemoved (forest state) (asked bytes c) (listedAt (asked bytes c) i) → r ≡ true → true ≡ clashes state bytes c
   unfolding listedAt
-  any-here i h e = go (b .nodes) i h e
-    where
-      go : (ls : List Listed) (j : ℕ) → j < length ls → p (getD ls j blank) ≡ true → any p ls ≡ true
-      go [] j l q = absurd (omega arith)
-      go (x ∷ ls) zero l q = rw q
-      go (x ∷ ls) (suc j) l q = or-right (p x) (go ls j (omega arith) q)
+  clashes-some h e q = any-at _ (asked bytes c .nodes) blank (told .given .scoped .listed) h e q
 
   -- none does
-  pub any-nowhere : ((i : ℕ) → i < length (b .nodes) → p (listedAt b i) ≡ false) → any p (b .nodes) ≡ false
+  pub clashes-none : Passing (λ j. updatedAndRemoved (forest state) (asked bytes c) (listedAt (asked bytes c) j)) (c .listed) i → c .listed ≤ i → false ≡ clashes state bytes c
   unfolding listedAt
-  any-nowhere e = go (b .nodes) e
-    where
-      go : (ls : List Listed) → ((j : ℕ) → j < length ls → p (getD ls j blank) ≡ false) → any p ls ≡ false
-      go [] q = refl
-      go (x ∷ ls) q = rw (q 0 (omega arith)) (go ls (λ j l. q (suc j) (omega arith)))
+  clashes-none g h = any-passed _ (asked bytes c .nodes) blank g (told .given .scoped .listed) h

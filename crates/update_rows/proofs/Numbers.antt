@@ -2,22 +2,21 @@
 -- Assumes nothing.
 use mathlib.Core.Bool.{Bool, true, false, not, _||_}
 use mathlib.Core.List.{List, [], _∷_}
-use mathlib.Core.Option.{some}
 use mathlib.Core.Path.{_≡_, refl, sym, _∙_}
-use Prim.Native.Nat.{ℕ, zero, suc}
+use Prim.Native.Nat.{ℕ}
 use native.Mathlib.Omega.{arith}
 use lib.Dec.{ltb, leb}
 use lib.ListN.{length}
 use borrow.Author.Tests.{lt-ltb, leb-false}
-use Rattle.base.specs.Tests.{_&&_, isNone, any, distinct}
+use Rattle.base.specs.Tests.{_&&_, isSome, isNone, any, distinct}
 use Rattle.base.specs.Tables.{row, found, first}
-use Rattle.base.proofs.Tables.{first-zero, first-found-zero, found-counts, found-passes, found-alone, first-append, first-append-none}
-use Rattle.base.proofs.Tests.{not-false}
+use Rattle.base.proofs.Tables.{first-zero, first-found-zero, first-append, first-append-none}
+use Rattle.base.proofs.Tests.{not-false, call-true}
 use Rattle.ids.specs.Ids.{ROOT, sameTree, sameNode}
+use Rattle.ids.specs.declared.TreeId.{TreeId}
 use Rattle.record.specs.Batch.{Batch, listedIds, namedIds}
-use Rattle.record.specs.Parse.{wellFormed, parse}
+use Rattle.record.specs.Parse.{wellFormed}
 use Rattle.record_reader.specs.Reader.{batchIn}
-use Rattle.record_reader.proofs.Reader.{batch-in}
 use Rattle.state.specs.State.{Forest, holder, subtreeOf}
 use Rattle.state.specs.Sound.{sound}
 use Rattle.update.specs.Words.{known, withTreeData}
@@ -68,16 +67,6 @@ module _ (s : Forest) (b : Batch) where
       let three = first-zero (row 14 names) [] (λ (z : _≡_ {A = ℕ} 14 0) t. omega arith) (two .1) in
       rw (one .0, two .0, three .0)
 
-  -- the two in one
-  pub later-number : laterRows s b ≡ first (found (passRows s b) ∷ found (lastRows s b) ∷ [])
-  later-number = go (passRows s b) refl
-    where
-      go : (k : ℕ) → passRows s b ≡ k → laterRows s b ≡ first (found (passRows s b) ∷ found (lastRows s b) ∷ [])
-      go zero e = later-last e ∙ sym (found-passes (passRows s b) _ e ∙ found-alone (lastRows s b))
-      go (suc k) e =
-          let wrong : passRows s b ≡ 0 → ⊥ = λ z. omega (arith, sym e ∙ z) in
-          later-early wrong ∙ sym (found-counts (passRows s b) _ wrong)
-
   -- ## What holds after rows 5 to 8
 
   -- each node is listed once, and the tree has a number or there is one for it
@@ -115,12 +104,6 @@ module _ (s : Forest) (bytes : List ℕ) where
       let z = first-zero (row 2 (not (wellFormed bytes))) _ (λ n _. omega arith) (y .1) in
       record { is-sound = not-false (y .0); formed = not-false (z .0); before = z .1 }
 
-  -- then the pass's number, then the last rows'
-  pub batch-number : (b : Batch) → firstNumber s bytes ≡ 0 → parse bytes ≡ some b
-      → batchNumber s b ≡ first (found (passRows s b) ∷ found (lastRows s b) ∷ [])
-  batch-number b e p =
-      batch-later s b (rw (batch-in bytes b p) at (first-passed e .before)) ∙ later-number s b
-
 -- ## A start
 
 -- rows 6 to 8 of ROOT, where there is room for its number
@@ -142,6 +125,12 @@ module _ (b : Batch) where
       rw e
       (dropped (not (distinct sameNode (listedIds (b .nodes)))) (withTreeData s d) (isNone (holder (s .nodes) (b .tree))) (isNone (subtreeOf s (b .tree)))
       (not (known s d)))
+
+-- past rows 2 and 3, as the code asks them
+pub start-past : (bytes : List ℕ) {w d r : Bool} {t : TreeId} {j : ℕ} → w ≡ wellFormed bytes → not w ≡ false → d ≡ isSome (batchIn bytes .root) → not d ≡ false
+    → t ≡ batchIn bytes .tree → r ≡ sameTree t ROOT → j ≡ first (row 4 (not r) ∷ row 5 (not (distinct sameNode (listedIds (batchIn bytes .nodes)))) ∷ []) → j ≡ startRows bytes
+unfolding startRows first
+start-past bytes f v g q e h k = k ∙ sym (rw (call-true f v, call-true g q, h, e))
 
 module _ (bytes : List ℕ) where
   -- rows 2 to 5 passed

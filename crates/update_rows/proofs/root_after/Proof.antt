@@ -12,9 +12,6 @@ returns : tie.Need-returns
 returns c = let a = c .before .before .before .before .args in
     rw (c .tree-root .ensures) (root-given (view (now (a .state)) .forest) (batchIn (now (a .batch))) (sym (c .before .before .has-tree-data .ensures) ∙ c .before .if1 .taken))
 
-enum-told : tie.Need-enum-told
-enum-told c = search needs
-
 returns-2 : tie.Need-returns-2
 returns-2 c = let a = c .before .before .before .before .before .before .before .args in
     root-missing (view (now (a .state)) .forest) (batchIn (now (a .batch))) _ (rw (c .before .before .before .tree-id .ensures) at (c .before .before .tree-of .ensures)) (sym (c .before .before .before .before .before .has-tree-data .ensures) ∙ c .before .before .before .before .if1 .left) (c .enum-told .given .1)
@@ -27,12 +24,9 @@ pub root-after-spec : {M : Type 1} → statement M
 root-after-spec =
     tie.close
     (tie.spec
-    (λ c κs. search needs)
-    (λ c κs. search needs)
+    (λ c κs. search needs) (λ c κs. search needs)
     returns
-    (λ c κs. search needs)
-    (λ c κs. search needs)
-    (λ c. search needs)
-    enum-told
+    (λ c κs. search needs) (λ c κs. search needs)
+    (λ c. search needs) (λ c. search needs)
     returns-2
     returns-3)
