@@ -1,9 +1,10 @@
 -- Laws of links and of the parents' slots. Assumes nothing.
-use mathlib.Core.Bool.{true}
+use mathlib.Core.Bool.{Bool, true}
 use mathlib.Core.List.{List}
 use mathlib.Core.Option.{Option, none, some}
 use mathlib.Core.Path.{_≡_, sym, ap, _∙_}
 use Prim.Native.Nat.{ℕ, _<_}
+use native.Mathlib.Omega.{arith}
 use lib.ListN.{length}
 use borrow.Author.Tests.{eq-eqb, ne-eqb, lt-ltb, ltb-true}
 use Rattle.base.proofs.Tests.{joined}
@@ -50,20 +51,22 @@ module _ (l : LinkRow) where
 
 module _ (state : List ℕ) (l : LinkRow) where
   -- there is none
-  pub slot-top : l .linked ≡ 0 → slotsOf state ≡ slotAbove state (linkOf l)
+  pub slot-top : {n : ℕ} → n ≡ slotsOf state → l .linked ≡ 0 → n ≡ slotAbove state (linkOf l)
   unfolding slotAbove
-  slot-top e = rw (no-link l e)
+  slot-top count e = count ∙ rw (no-link l e)
 
-  module _ (up : ascending (forest state .nodes) ≡ true) (r : ℕ) (linked : l .linked ≡ 0 → ⊥) where
+  module _ (up : ascending (forest state .nodes) ≡ true) {r : ℕ} (linked : l .linked ≡ 0 → ⊥) where
     -- a search finds it
     pub slot-under : SlotOf state (l .parent) r → r ≡ slotAbove state (linkOf l)
     unfolding slotAbove
     slot-under found = rw (a-link l linked) (slot-of-place state (l .parent) r up found)
 
     -- it stands in a slot
-    pub slot-near : r < slotsOf state → sameId (l .parent) (idIn state r) ≡ true → r ≡ slotAbove state (linkOf l)
+    pub slot-near : {n : ℕ} {y : FullNodeId} {v : Bool} → n ≡ slotsOf state → r < n → y ≡ idIn state r → v ≡ sameId (l .parent) y → v ≡ true
+        → r ≡ slotAbove state (linkOf l)
     unfolding inSlot
-    slot-near h e = slot-under (slot-here (idIn state) (slotsOf state) (l .parent) r (joined (lt-ltb r (slotsOf state) h) e))
+    slot-near count h id same e =
+        slot-under (slot-here (idIn state) (slotsOf state) (l .parent) r (joined (lt-ltb r (slotsOf state) (omega arith)) (ap (sameId (l .parent)) (sym id) ∙ sym same ∙ e)))
 
 -- the word of the column
 pub above-is : (state bytes : List ℕ) (c : Scope) (i : ℕ) → i < slotsOf state → slotAbove state (linkOf (linkIn state i)) ≡ aboveWord state bytes c i

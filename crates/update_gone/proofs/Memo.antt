@@ -33,7 +33,7 @@ module _ (state bytes : List ℕ) (c : Scope) where
       go j h (yes e) = inr (omega arith, fates j h ∙ e, e)
       go j h (no e) = inl (fates j h ∙ fate-settled state bytes c (told .given .kept) j h e)
 
-  module _ (notes : List ℕ) (k : ℕ) (f : Fated k state bytes c notes) where
+  module _ {notes : List ℕ} {k : ℕ} (f : Fated k state bytes c notes) where
     -- what stands there, by what it is
     pub memo-known : (at : ℕ) → at < slotsOf state → (getD notes (GOES + at) 0 ≡ 2 → ⊥) → getD notes (GOES + at) 0 ≡ goesWord state bytes c at
     memo-known at h other = go (f .memo at h)
@@ -77,20 +77,17 @@ module _ (state bytes : List ℕ) (c : Scope) where
         told = told-set state bytes c notes ABOVE-TOLD (f .told) (GOES + at) v (omega arith);
         memo = memo-at k (λ j l q. l);
       }
-
       -- and so the first slots are
-      pub memo-next : at ≡ k → Fated (k + 1) state bytes c (set notes (GOES + at) v)
-      memo-next q = record {
-        told = told-set state bytes c notes ABOVE-TOLD (f .told) (GOES + at) v (omega arith);
-        memo = memo-at (k + 1) (λ j l p. past j l (λ w. p (w ∙ sym q)));
-      }
-        where
-          past : (j : ℕ) → k ≤ j → (j ≡ k → ⊥) → k + 1 ≤ j
-          past j l p = omega arith
+
+    pub memo-next : {n v : ℕ} → n ≡ slotsOf state → k < n → v ≡ goesWord state bytes c k → Fated (k + 1) state bytes c (set notes (GOES + k) v)
+    memo-next {v = v} count h e = record {
+      told = told-set state bytes c notes ABOVE-TOLD (f .told) (GOES + k) v (omega arith);
+      memo = memo-at k v (omega arith) e (k + 1) (λ j l p. omega arith);
+    }
 
     -- at last all are
-    pub memo-done : slotsOf state ≤ k → Told GONE state bytes c notes
-    memo-done h = told-more state bytes c notes ABOVE-TOLD (f .told) (λ i l. go i l (f .memo i l))
+    pub memo-done : {n : ℕ} → n ≡ slotsOf state → n ≤ k → Told GONE state bytes c notes
+    memo-done count h = told-more state bytes c notes ABOVE-TOLD (f .told) (λ i l. go i l (f .memo i l))
       where
         go : (i : ℕ) → i < slotsOf state → Cell k state bytes c notes i → getD notes (GOES + i) 0 ≡ goesWord state bytes c i
         go i l (inl e) = e
