@@ -18,10 +18,10 @@ use Rattle.update_notes.proofs.Places.{forest-id}
 use Rattle.update_outcome.proofs.Codes.{code-old, code-new}
 use Rattle.update_plan.specs.Plan.{Among, Valid}
 
-module _ (state bytes : List ℕ) (c : Scope) (notes : List ℕ) (told : Told COMPARED state bytes c notes) (code : ℕ) (valid : Valid state c code) where
+module _ {state bytes : List ℕ} {c : Scope} {notes : List ℕ} (told : Told COMPARED state bytes c notes) {code : ℕ} (valid : Valid state c code) where
   -- of a slot
-  pub id-old : code < 320 → idIn state code ≡ codeId (forest state) (asked bytes c) code
-  id-old l = sym (code-old (forest state) (asked bytes c) code l ∙ forest-id state code (valid .0 l))
+  pub id-old : {y : FullNodeId} → code < 320 → y ≡ idIn state code → y ≡ codeId (forest state) (asked bytes c) code
+  id-old l e = e ∙ sym (code-old (forest state) (asked bytes c) code l ∙ forest-id state code (valid .0 l))
 
   -- of a listed node
   pub id-new : 320 ≤ code → _≡_ {A = FullNodeId} (record { tree = c .tree; node = record { 0 = getD notes (LISTED + (code - 320)) 0 } }) (codeId (forest state) (asked bytes c) code)
@@ -32,11 +32,7 @@ module _ (state bytes : List ℕ) (c : Scope) (notes : List ℕ) (told : Told CO
       (λ i. record { tree = tree-is i; node = record { 0 = number-is i } }) ∙ sym (code-new (forest state) (asked bytes c) code l)
 
 module _ (state bytes : List ℕ) (c : Scope) (j : ℕ) (l : j < c .listed) where
-  -- the code of listed node j is one
-  pub listed-valid : Valid state c (320 + j)
-  listed-valid = (λ m. absurd (omega arith), λ m. omega arith)
-
-  -- and so are those that are planned before it
+  -- the codes that are planned before listed node j are valid
   pub among-valid : (code : ℕ) → Among (forest state) (asked bytes c) (slotsOf state) j code → Valid state c code
   among-valid code (inl p) = (λ m. p .0, λ m. absurd (omega (arith, p .0)))
   among-valid code (inr p) = (λ m. absurd (omega (arith, p .2)), λ m. omega (arith, p .1, p .2))

@@ -36,12 +36,6 @@ module _ (s : Forest) (b : Batch) (kept : Kept s) (few : length (b .nodes) ≤ 6
   -- ## What belongs in the end
 
   -- an old node that stays or a listed one that is new
-  among-coded : (code : ℕ) → Among s b (length (s .nodes)) (length (b .nodes)) code → Coded s b code
-  among-coded code (inl p) = record { stays = λ _. p; new = λ m. absurd (omega (arith, p .0, kept .few-nodes)) }
-  among-coded code (inr p) =
-      let first : code - 320 ≡ p .0 = omega (arith, p .2) in
-      record { stays = λ m. absurd (omega (arith, p .2)); new = λ m. (rw first (p .1), ap (old s b) (ap (codeId s b) (p .2) ∙ code-listed s b (p .0)) ∙ p .3) }
-
   coded-among : (code : ℕ) → Coded s b code → Among s b (length (s .nodes)) (length (b .nodes)) code
   coded-among code h = go (decLt code 320)
     where

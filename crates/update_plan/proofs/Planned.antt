@@ -21,7 +21,7 @@ use Rattle.update_notes.specs.Setting.{asked, forest}
 use Rattle.update_notes.specs.Codes.{idAt, slotAt, flag, codeId}
 use Rattle.update_notes.specs.Says.{goesWord, listedSlot, Told, COMPARED}
 use Rattle.update_notes.proofs.Places.{slot-old, forest-length}
-use Rattle.update_notes.proofs.Told.{few-listed, told-set, told-below}
+use Rattle.update_notes.proofs.Told.{told-set, told-below}
 use Rattle.update_plan.specs.Plan.{Codes, Among, PlaceIn, Inserted, Planned}
 use Rattle.update_plan.proofs.Steps.{keep-more, keep-less, add-same, add-more}
 
@@ -37,6 +37,11 @@ plan-none state bytes c notes told = record {
     none code (inl p) = absurd (omega (arith, p .0))
     none code (inr p) = absurd (omega (arith, p .1))
 
+-- at last all are
+pub plan-end : {i j m k : ℕ} {state bytes : List ℕ} {c : Scope} {notes : List ℕ} {count : ℕ} → Planned i j state bytes c notes count → i ≡ m → j ≡ k
+    → Planned m k state bytes c notes count
+plan-end h p q = rw (p, q) at h
+
 -- a flag that is set, and one that is not
 flag-true : (t : Bool) → flag t ≡ 1 → t ≡ true
 flag-true true e = refl
@@ -48,7 +53,7 @@ flag-false false e = refl
 
 -- ## Old nodes
 
-module _ (state bytes : List ℕ) (c : Scope) (notes : List ℕ) (i count : ℕ) (h : Planned i 0 state bytes c notes count) (l : i < slotsOf state) where
+module _ {state bytes : List ℕ} {c : Scope} {notes : List ℕ} {i count : ℕ} (h : Planned i 0 state bytes c notes count) (l : i < slotsOf state) where
   goes-at : getD notes (GOES + i) 0 ≡ flag (gone (forest state) (asked bytes c) (idAt (forest state) i))
   unfolding goesWord
   goes-at = h .told .written 9 (omega arith) i l
@@ -73,7 +78,7 @@ module _ (state bytes : List ℕ) (c : Scope) (notes : List ℕ) (i count : ℕ)
 
 -- ## Listed nodes
 
-module _ (state bytes : List ℕ) (c : Scope) (notes : List ℕ) (j count : ℕ) (h : Planned (slotsOf state) j state bytes c notes count) (l : j < c .listed) where
+module _ {state bytes : List ℕ} {c : Scope} {notes : List ℕ} {j count : ℕ} (h : Planned (slotsOf state) j state bytes c notes count) (l : j < c .listed) {n : ℕ} (size : n ≡ slotsOf state) where
   abbrev s : Forest
   s = forest state
 
@@ -83,22 +88,18 @@ module _ (state bytes : List ℕ) (c : Scope) (notes : List ℕ) (j count : ℕ)
   abbrev x : FullNodeId
   x = here (forest state) (asked bytes c) (listedAt (asked bytes c) j .id)
 
-  -- there is room
-  pub count-few : count < 512
-  count-few = omega (arith, h .few, few-listed state bytes c (h .told .given))
-
   slot-at : getD notes (LISTED-SLOTS + j) 0 ≡ slotAt s x
   unfolding listedSlot
   slot-at = h .told .written 3 (omega arith) j l
 
-  old-at : old s b x ≡ ltb (getD notes (LISTED-SLOTS + j) 0) (slotsOf state)
-  old-at = slot-old s x b ∙ rw (slot-at, forest-length state)
+  old-at : old s b x ≡ ltb (getD notes (LISTED-SLOTS + j) 0) n
+  old-at = slot-old s x b ∙ rw (slot-at, forest-length state, size)
 
   codes : Codes (codeId s b) (Among s b (length (s .nodes)) j) count notes
   codes = rw (forest-length state) (h .codes)
 
   -- listed node j is old
-  pub plan-old : getD notes (LISTED-SLOTS + j) 0 < slotsOf state → Planned (slotsOf state) (j + 1) state bytes c notes count
+  pub plan-old : getD notes (LISTED-SLOTS + j) 0 < n → Planned (slotsOf state) (j + 1) state bytes c notes count
   plan-old e = record {
     told = h .told;
     few = omega (arith, h .few);
@@ -106,9 +107,9 @@ module _ (state bytes : List ℕ) (c : Scope) (notes : List ℕ) (j count : ℕ)
   }
 
   -- it is new
-  pub plan-new : slotsOf state ≤ getD notes (LISTED-SLOTS + j) 0 → (at : ℕ) (col : List ℕ) → PlaceIn state bytes c notes j count at
+  pub plan-new : {at : ℕ} {col : List ℕ} → n ≤ getD notes (LISTED-SLOTS + j) 0 → PlaceIn state bytes c notes j count at
       → Inserted notes count at (320 + j) col → Planned (slotsOf state) (j + 1) state bytes c col (count + 1)
-  plan-new e at col place put = record {
+  plan-new {at} {col} e place put = record {
     told = told-below state bytes c notes COMPARED (h .told) col (record { long = put .kept .long; kept = λ k m. put .kept .kept k (omega arith) });
     few = omega (arith, h .few);
     codes =

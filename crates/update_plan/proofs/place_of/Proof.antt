@@ -10,8 +10,7 @@ use Rattle.update_notes.specs.Codes.{codeId}
 use Rattle.update_notes.proofs.Told.{few-listed}
 use Rattle.update_plan.specs.Plan.{codeIn}
 use Rattle.update_plan.proofs.Codes.{under-middle, over-middle}
-use Rattle.update_plan.proofs.Ids.{listed-valid, among-valid}
-use Rattle.update_plan.proofs.Planned.{count-few}
+use Rattle.update_plan.proofs.Ids.{among-valid}
 use borrow.Author.Needs.{needs}
 use native.Mathlib.Omega.{arith}
 use Rattle.update_plan.proofs.place_of.Statement.{statement}
@@ -28,43 +27,14 @@ Inv-loop state batch scope notes j count x low₀ high₀ low high =
 abbrev μ-loop : tie.MeasureT-loop
 μ-loop state batch scope notes j count x low₀ high₀ low high = high - low
 
-add-id-of : tie.Need-add-id-of Inv-loop μ-loop
-add-id-of c = omega (arith, few-listed _ _ _ (c .before .pre .0 .told .given))
-
-id-of-requires : tie.Need-id-of-requires Inv-loop μ-loop
-id-of-requires c κs = let s = c .before in (s .pre .0 .told, listed-valid (now (s .args .state)) (now (s .args .batch)) (s .args .scope) (s .args .j) (s .pre .1))
-
 loop-holds : tie.Need-loop-holds Inv-loop μ-loop
-loop-holds c =
-    let s = c .before .before in
-    (omega arith, omega arith, count-few _ _ _ _ _ _ (s .pre .0) (s .pre .1), λ k h. absurd (omega arith), λ k h l. absurd (omega arith))
-
-sub-middle : tie.Need-sub-middle Inv-loop μ-loop
-sub-middle c = omega arith
-
-add-middle : tie.Need-add-middle Inv-loop μ-loop
-add-middle c = omega arith
-
-add-code : tie.Need-add-code Inv-loop μ-loop
-add-code c = omega arith
-
-mul-code : tie.Need-mul-code Inv-loop μ-loop
-mul-code c = omega arith
-
-element-copy-out-code : tie.Need-element-copy-out-code Inv-loop μ-loop
-element-copy-out-code c = omega arith
+loop-holds c = (omega arith, omega arith, omega (arith, few-listed), λ k h. absurd (omega arith), λ k h l. absurd (omega arith))
 
 id-of-requires-2 : tie.Need-id-of-requires-2 Inv-loop μ-loop
 id-of-requires-2 c κs =
     let s = c .before .before .before .before .before in
     let l = c .before .before .loop in
     (s .pre .0 .told, among-valid (now (s .args .state)) (now (s .args .batch)) (s .args .scope) (s .args .j) (s .pre .1) _ (s .pre .0 .codes .are (l .low + (l .high - l .low) / 2) (omega arith)))
-
-add-low : tie.Need-add-low Inv-loop μ-loop
-add-low c = omega arith
-
-loop-less : tie.Need-loop-less Inv-loop μ-loop
-loop-less c = omega arith
 
 loop-again : tie.Need-loop-again Inv-loop μ-loop
 loop-again c =
@@ -79,9 +49,6 @@ loop-again c =
       under-middle id (s .args .count) (s .pre .0 .codes .up) x (l .low + (l .high - l .low) / 2) (y .result) (y .ensures) (omega arith) (sym (c .before .is-before .ensures) ∙ c .if1 .taken),
       l .inv .4,
     )
-
-loop-less-2 : tie.Need-loop-less-2 Inv-loop μ-loop
-loop-less-2 c = omega arith
 
 loop-again-2 : tie.Need-loop-again-2 Inv-loop μ-loop
 loop-again-2 c =
@@ -112,19 +79,14 @@ place-of-spec =
     (tie.spec
     Inv-loop
     μ-loop
-    add-id-of
-    id-of-requires
+    (λ c. omega (arith, few-listed))
+    (λ c κs. (c .before .pre .0 .told, omega arith))
     loop-holds
-    sub-middle
-    add-middle
-    add-code
-    mul-code
-    element-copy-out-code
+    (λ c. omega arith) (λ c. omega arith) (λ c. omega arith) (λ c. omega arith) (λ c. omega arith)
     id-of-requires-2
     (λ c κs. search needs)
-    add-low
-    loop-less
+    (λ c. omega arith) (λ c. omega arith)
     loop-again
-    loop-less-2
+    (λ c. omega arith)
     loop-again-2
     returns)
