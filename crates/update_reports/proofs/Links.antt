@@ -17,11 +17,11 @@ module _ (was next : LinkRow) where
   unlinked-unchanged e = rw (eq-eqb (next .linked) 0 e)
 
   -- any other does where the place or the parent differs
-  pub link-changed-is : (next .linked ≡ 0 → ⊥)
-      → ((eqb (was .linked) 0 || not (eqb (was .index) (next .index))) || not (sameId (was .parent) (next .parent)))
+  pub link-changed-is : {v : Bool} → (next .linked ≡ 0 → ⊥) → v ≡ sameId (was .parent) (next .parent)
+      → ((eqb (was .linked) 0 || not (eqb (was .index) (next .index))) || not v)
       ≡ (isSome (linkOf next) && not (sameOption sameLink (linkOf was) (linkOf next)))
   unfolding linkOf sameLink _&&_
-  link-changed-is h = rw (ne-eqb (next .linked) 0 h) (go (eqb (was .linked) 0))
+  link-changed-is h same = rw (ne-eqb (next .linked) 0 h, same) (go (eqb (was .linked) 0))
     where
       on : (i p : Bool) → (not i || not p) ≡ not (p && i)
       on true true = refl
@@ -44,10 +44,10 @@ module _ (was next : LinkRow) where
       go false = refl
 
   -- to a parent
-  pub parent-changed-is : (next .linked ≡ 0 → ⊥)
-      → (eqb (was .linked) 0 || not (sameId (was .parent) (next .parent))) ≡ not (sameOption sameId (parentOf (linkOf was)) (parentOf (linkOf next)))
+  pub parent-changed-is : {v : Bool} → (next .linked ≡ 0 → ⊥) → v ≡ sameId (was .parent) (next .parent)
+      → (eqb (was .linked) 0 || not v) ≡ not (sameOption sameId (parentOf (linkOf was)) (parentOf (linkOf next)))
   unfolding linkOf parentOf
-  parent-changed-is h = rw (ne-eqb (next .linked) 0 h) (go (eqb (was .linked) 0))
+  parent-changed-is h same = rw (ne-eqb (next .linked) 0 h, same) (go (eqb (was .linked) 0))
     where
       go : (c : Bool) → (c || not (sameId (was .parent) (next .parent)))
           ≡ not (sameOption sameId (parentOf (if c then none else some (record { parent = was .parent; index = was .index }))) (some (next .parent)))

@@ -5,6 +5,7 @@ use mathlib.Core.Path.{_≡_, refl, sym, ap, ap₂, _∙_}
 use Prim.Native.Nat.{ℕ, suc, _+_, _-_, _≤_, _<_}
 use native.Mathlib.Omega.{arith}
 use lib.Dec.{ltb}
+use borrow.Author.Tests.{lt-ltb, le-ltb}
 use lib.ListN.{length, getD, length-append}
 use Rattle.base.specs.Tests.{_&&_, if_then_else_, keep, has}
 use Rattle.base.specs.Bytes.{bit, listOf}
@@ -112,13 +113,21 @@ module _ (weight : ℕ) (notes : List ℕ) (start : ℕ) (state : List ℕ) (f :
       ∙ map-keep (λ n. n .id) q (f .nodes)
 
 -- a node is picked where the word of its slot has the bit
-pub picked-has : (weight : ℕ) (notes : List ℕ) (start : ℕ) (state : List ℕ) → ascending (forest state .nodes) ≡ true → (x : FullNodeId)
-    → has sameId (picked weight notes start state) x
-    ≡ (ltb (slotAt (forest state) x) (slotsOf state) && taken weight notes start (slotAt (forest state) x))
-picked-has weight notes start state up x =
-    let s = forest state in
-    let q : FullNodeId → Bool = λ y. taken weight notes start (slotAt s y) in
-    ap (λ l. has sameId l x)
-    (picked-ids weight notes start state s refl q (λ i h. ap (taken weight notes start) (sym (slot-self s up i (omega (arith, forest-length state))))))
-    ∙ has-keep sameId same-id→≡ q (idsOf (s .nodes)) x
-    ∙ ap (λ (t : Bool). t && q x) (sym (present-has (s .nodes) x) ∙ slot-present s x ∙ ap (ltb (slotAt s x)) (forest-length state))
+module _ (weight : ℕ) (notes : List ℕ) (start : ℕ) (state : List ℕ) (up : ascending (forest state .nodes) ≡ true) (x : FullNodeId) {i n : ℕ}
+    (at : i ≡ slotAt (forest state) x) (count : n ≡ slotsOf state) where
+  picked-has : has sameId (picked weight notes start state) x ≡ (ltb i n && taken weight notes start i)
+  picked-has =
+      let s = forest state in
+      let q : FullNodeId → Bool = λ y. taken weight notes start (slotAt s y) in
+      ap (λ l. has sameId l x)
+      (picked-ids weight notes start state s refl q (λ i h. ap (taken weight notes start) (sym (slot-self s up i (omega (arith, forest-length state))))))
+      ∙ has-keep sameId same-id→≡ q (idsOf (s .nodes)) x
+      ∙ rw (at, count) (ap (λ (t : Bool). t && q x) (sym (present-has (s .nodes) x) ∙ slot-present s x ∙ ap (ltb (slotAt s x)) (forest-length state)))
+
+  pub picked-absent : n ≤ i → false ≡ has sameId (picked weight notes start state) x
+  unfolding _&&_
+  picked-absent l = sym (picked-has ∙ rw (le-ltb i n l))
+
+  pub picked-there : {v : Bool} → i < n → v ≡ taken weight notes start i → v ≡ has sameId (picked weight notes start state) x
+  unfolding _&&_
+  picked-there l e = e ∙ sym (picked-has ∙ rw (lt-ltb i n l))

@@ -10,11 +10,12 @@ returns c = let t = bool.and-eq-true-iff (c .before .args .updated) (c .before .
 returns-2 : tie.Need-returns-2
 returns-2 c = let t = rw (c .if2 .taken) at (c .before .if1 .left) in rw (c .if2 .taken, t)
 
-returns-3 : tie.Need-returns-3
-returns-3 c = rw (c .before .if2 .left, c .if3 .taken)
-
-returns-4 : tie.Need-returns-4
-returns-4 c = rw (c .before .if2 .left, c .if3 .left)
-
 pub change-of-spec : {M : Type 1} → statement M
-change-of-spec = tie.close (tie.spec (λ c. search needs) returns returns-2 returns-3 returns-4)
+change-of-spec =
+    tie.close
+    (tie.spec
+    (λ c. search needs)
+    returns
+    returns-2
+    (λ c. rw (c .before .if2 .left, c .if3 .taken))
+    (λ c. rw (c .before .if2 .left, c .if3 .left)))
