@@ -10,7 +10,6 @@ use borrow.Author.Tests.{lt-ltb, le-ltb, leb-true, leb-false}
 use lib.Dec.{leb}
 use Rattle.base.specs.Tests.{if_then_else_}
 use Rattle.ids.specs.declared.FullNodeId.{FullNodeId}
-use Rattle.state_array.specs.Layout.{SLOTS}
 use Rattle.state_array.specs.View.{idIn, slotsOf}
 use Rattle.update.specs.Reports.{Changes, words, changeWords, lent}
 use Rattle.update_reports.specs.declared.Lists.{Lists}
@@ -90,39 +89,34 @@ module _ (weight : ℕ) (notes : List ℕ) (start : ℕ) (state before : List �
   pub list-empty : ListBelow 0 before at
   list-empty = rw slots-none (list-none before at)
 
-  module _ (i : ℕ) (changes : List ℕ) (to : ℕ) (h : ListBelow i changes to) where
-    -- after a slot that is picked, and one that is not
-    pub list-hit : taken weight notes start i ≡ true → to + 2 ≤ length before
-        → ListBelow (i + 1) (set (set changes to (idIn state i .tree .0)) (to + 1) (idIn state i .node .0)) (to + 2)
-    list-hit e room =
-        rw (slots-hit weight notes start i e, map-append (idIn state) (slotsWith weight notes start i) (i ∷ []))
-        (list-one before at (idsAt state (slotsWith weight notes start i)) (idIn state i) changes to h room)
+  module _ (i : ℕ) (changes : List ℕ) (to : ℕ) (h : ListBelow i changes to) {v : Bool} (bit-is : v ≡ taken weight notes start i) where
+    -- after a slot that is not picked
+    pub list-miss : v ≡ false → ListBelow (i + 1) changes to
+    list-miss e = rw (slots-miss weight notes start i (sym bit-is ∙ e)) h
 
-    -- one that is picked has room, where all have
-    pub list-room : i < slotsOf state → taken weight notes start i ≡ true → Room weight notes start state at before → to + 2 ≤ length before
-    list-room l e room =
-        omega (
-          arith,
-          count-within weight notes start i (slotsOf state) l e,
-          h .end-is,
-          room .fits,
-          length-map (slotsWith weight notes start i) (idIn state),
-          length-map (slotsWith weight notes start (slotsOf state)) (idIn state),
-        )
+    module _ (e : v ≡ true) (room : Room weight notes start state at before) {n : ℕ} (count : n ≡ slotsOf state) (l : i < n) where
+      -- one that is picked has room, where all have
+      pub list-room : to + 2 ≤ length before
+      list-room =
+          omega (
+            arith,
+            count-within weight notes start i (slotsOf state) (omega arith) (sym bit-is ∙ e),
+            h .end-is,
+            room .fits,
+            length-map (slotsWith weight notes start i) (idIn state),
+            length-map (slotsWith weight notes start (slotsOf state)) (idIn state),
+          )
 
-    pub list-miss : taken weight notes start i ≡ false → ListBelow (i + 1) changes to
-    list-miss e = rw (slots-miss weight notes start i e) h
+      pub list-hit : {x : FullNodeId} → x ≡ idIn state i → ListBelow (i + 1) (set (set changes to (x .tree .0)) (to + 1) (x .node .0)) (to + 2)
+      list-hit id =
+          rw (id, slots-hit weight notes start i (sym bit-is ∙ e), map-append (idIn state) (slotsWith weight notes start i) (i ∷ []))
+          (list-one before at (idsAt state (slotsWith weight notes start i)) (idIn state i) changes to h list-room)
 
 -- as many ids as slots
 pub picked-count : (weight : ℕ) (notes : List ℕ) (start : ℕ) (state : List ℕ) (n r : ℕ) → Counted weight notes start n r → n ≡ slotsOf state
     → r ≡ length (picked weight notes start state)
 picked-count weight notes start state n r k e =
     k .count-is ∙ ap (λ m. length (slotsWith weight notes start m)) e ∙ sym (length-map (slotsWith weight notes start (slotsOf state)) (idIn state))
-
--- room for them
-pub room-for : (weight : ℕ) (notes : List ℕ) (start : ℕ) (state : List ℕ) (at : ℕ) (slice : List ℕ) → start + SLOTS ≤ 4096 → 0 < weight
-    → at + 2 * length (picked weight notes start state) ≤ length slice → Room weight notes start state at slice
-room-for weight notes start state at slice h w fits = record { marks = record { within = omega arith; some = w }; fits = fits }
 
 -- ## Lists one after another
 
