@@ -1,8 +1,11 @@
 -- Where the children of listed nodes start and end among those that are named, and whose an entry is. Assumes nothing.
+use Rattle.state_array.specs.declared.LinkRow.{LinkRow}
+use Rattle.state_array.specs.Stored.{linkRow}
+use Rattle.record_reader.specs.Reader.{listedAt}
 use mathlib.Core.Bool.{Bool, true, false}
 use mathlib.Core.List.{List, [], _∷_}
 use mathlib.Core.Option.{some}
-use mathlib.Core.Path.{_≡_, refl, ap, _∙_}
+use mathlib.Core.Path.{_≡_, refl, ap, _∙_, ap₂}
 use Prim.Native.Nat.{ℕ, zero, suc, _+_, _-_, _≤_, _<_}
 use native.Mathlib.Decide.{decLt}
 use native.Mathlib.Numerals.{add-one}
@@ -18,14 +21,14 @@ use Rattle.ids.specs.Ids.{sameNode}
 use Rattle.ids.specs.declared.FullNodeId.{FullNodeId}
 use Rattle.record.specs.Batch.{Listed, Batch, namedIds}
 use Rattle.state.specs.State.{Forest}
-use Rattle.update.specs.Words.{mine, naming}
+use Rattle.update.specs.Words.{here, mine, naming}
 use Rattle.update_notes.specs.Layout.{ENDS}
 use Rattle.update_notes.specs.declared.Scope.{Scope}
 use Rattle.update_notes.specs.Setting.{asked, forest}
 use Rattle.update_notes.specs.Says.{namingMark, endWord, Told, COMPARED}
 use Rattle.update_notes.proofs.Positions.{first-cong}
 use Rattle.update_notes.proofs.Marks.{naming-link}
-use Rattle.update_links.specs.Links.{namedBefore, namedLink, Rises, Owns}
+use Rattle.update_links.specs.Links.{namedBefore, namedLink, Rises, Owns, namedRow}
 
 -- more listed nodes name no fewer children
 named-rises : (ls : List Listed) (i l : ℕ) → i ≤ l → length (namedIds (take i ls)) ≤ length (namedIds (take l ls))
@@ -81,17 +84,43 @@ module _ {state bytes : List ℕ} {c : Scope} {notes : List ℕ} (told : Told CO
       omega (arith, told .written 2 (omega arith) i (omega arith), told .written 2 (omega arith) l m, named-rises (asked bytes c .nodes) (i + 1) (l + 1) (omega arith))
 
   -- where the children of listed node i start, if it is not the first: where those of the node before it end
-  pub start-is : {i : ℕ} → 1 ≤ i → i < length (asked bytes c .nodes) → getD notes (ENDS + (i - 1)) 0 ≡ namedBefore (asked bytes c) i
+  start-is : {i : ℕ} → 1 ≤ i → i < length (asked bytes c .nodes) → getD notes (ENDS + (i - 1)) 0 ≡ namedBefore (asked bytes c) i
   unfolding endWord
   start-is {i} h l =
       let at : (i - 1) + 1 ≡ i = omega arith in
       told .written 2 (omega arith) (i - 1) (omega (arith, told .given .scoped .listed)) ∙ ap (namedBefore (asked bytes c)) at
 
   -- who names a node with a mark, by a search of that column
-  pub owner-there : (x : FullNodeId) (j r : ℕ) → namingMark (forest state) (asked bytes c) x ≡ suc j
-      → First (λ i. ltb j (getD notes (ENDS + i) 0)) (c .listed) r
-      → Owns (asked bytes c) r j × (naming (forest state) (asked bytes c) x ≡ some (namedLink (forest state) (asked bytes c) r j))
-  unfolding endWord
-  owner-there x j r e first =
-      named-first (asked bytes c) (forest state) x j r (c .listed) (told .given .scoped .listed) e
-      (first-cong _ _ (c .listed) r (λ i l. ap (ltb j) (told .written 2 (omega arith) i l)) first)
+  module _ (x : FullNodeId) {count owner : ℕ} (mark : count ≡ namingMark (forest state) (asked bytes c) x) (some-mark : 1 ≤ count)
+      (first : First (λ i. ltb (count - 1) (getD notes (ENDS + i) 0)) (c .listed) owner) where
+    owner-there : Owns (asked bytes c) owner (count - 1)
+        × (naming (forest state) (asked bytes c) x ≡ some (namedLink (forest state) (asked bytes c) owner (count - 1)))
+    unfolding endWord
+    owner-there =
+        named-first (asked bytes c) (forest state) x (count - 1) owner (c .listed) (told .given .scoped .listed) (omega arith)
+        (first-cong _ _ (c .listed) owner (λ i l. ap (ltb (count - 1)) (told .written 2 (omega arith) i l)) first)
+
+    pub owner-owns : Owns (asked bytes c) owner (count - 1)
+    owner-owns = owner-there .0
+
+    pub owner-names : naming (forest state) (asked bytes c) x ≡ some (namedLink (forest state) (asked bytes c) owner (count - 1))
+    owner-names = owner-there .1
+
+  -- the words of the link of child j of listed node i
+  module _ (i j : ℕ) {p : FullNodeId} (parent : p ≡ here (forest state) (asked bytes c) (listedAt (asked bytes c) i .id)) where
+    -- the first node's
+    pub named-from-first : {r : LinkRow} → i < 1 → r ≡ linkRow (some (record { parent = p; index = j })) → r ≡ namedRow state bytes c i j
+    unfolding namedLink namedIds
+    named-from-first h e =
+        let first : i ≡ 0 = omega arith in
+        let index : j ≡ j - namedBefore (asked bytes c) i = rw first (omega arith) in
+        e ∙ ap₂ (λ (q : FullNodeId) (k : ℕ). linkRow (some (record { parent = q; index = k }))) parent index
+
+    -- another's
+    module _ (h : 1 ≤ i) (own : Owns (asked bytes c) i j) where
+      pub starts-before : getD notes (ENDS + (i - 1)) 0 ≤ j
+      starts-before = omega (arith, start-is h (own .listed), own .start)
+
+      pub named-from-later : {r : LinkRow} → r ≡ linkRow (some (record { parent = p; index = j - getD notes (ENDS + (i - 1)) 0 })) → r ≡ namedRow state bytes c i j
+      unfolding namedLink
+      named-from-later e = e ∙ ap₂ (λ (q : FullNodeId) (k : ℕ). linkRow (some (record { parent = q; index = j - k }))) parent (start-is h (own .listed))

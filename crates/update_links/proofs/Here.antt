@@ -1,10 +1,12 @@
 -- Laws of the links after of the nodes of the batch's tree. Assumes nothing.
+use Rattle.state_array.specs.declared.LinkRow.{LinkRow}
+use Rattle.update_links.proofs.Ends.{owner-owns, owner-names}
 use mathlib.Core.Bool.{Bool, true, false, not}
 use mathlib.Core.Bool as bool
 use mathlib.Core.List.{List}
 use mathlib.Core.Option.{Option, none, some}
 use mathlib.Core.Path.{_≡_, refl, sym, ap, ap₂, _∙_}
-use Prim.Native.Nat.{ℕ, suc, _+_, _≤_, _<_}
+use Prim.Native.Nat.{ℕ, suc, _+_, _≤_, _<_, _-_}
 use native.Mathlib.Omega.{arith}
 use lib.Dec.{eqb, ltb, leb, leb·suc-suc}
 use lib.ListN.{length, getD}
@@ -18,13 +20,13 @@ use Rattle.ids.specs.declared.TreeIndex.{TreeIndex}
 use Rattle.ids.specs.declared.NodeId.{NodeId}
 use Rattle.ids.specs.declared.FullNodeId.{FullNodeId}
 use Rattle.record.specs.Batch.{graft?, Batch, listedIds, namedIds}
-use Rattle.record_reader.specs.Reader.{noNode, listedAt}
+use Rattle.record_reader.specs.Reader.{noNode, listedAt, batchIn}
 use Rattle.state.specs.State.{ParentAndIndex, NodeState, Forest, holder}
-use Rattle.state_array.specs.Stored.{noState}
+use Rattle.state_array.specs.Stored.{noState, linkRow}
 use Rattle.state_array.specs.View.{idIn, graftIn, bodyIn, nodeIn, slotsOf}
 use Rattle.update.specs.Words.{here, mine, old, listed, turn, naming, isRoot}
 use Rattle.update.specs.Outcome.{underGraft, paneRoot, cutLasts, linkIsCut, linkHere, linkElsewhere, linkAfter}
-use Rattle.update_notes.specs.Layout.{LISTED, NAMED}
+use Rattle.update_notes.specs.Layout.{LISTED, NAMED, ENDS}
 use Rattle.update_notes.specs.declared.Scope.{Scope}
 use Rattle.update_notes.specs.Setting.{rootIn, Scoped, asked, forest}
 use Rattle.update_notes.specs.Codes.{nodeAt, idAt}
@@ -32,7 +34,7 @@ use Rattle.update_notes.specs.Says.{turnMark, namingMark, HolderIs, PositionIn,
 use Rattle.update_notes.proofs.Positions.{first-unique, first-cong, position-first, has-position, first-given-at}
 use Rattle.update_notes.proofs.Places.{forest-length, forest-node, forest-id}
 use Rattle.update_notes.proofs.Marks.{here-mine, turn-self, naming-none}
-use Rattle.update_links.specs.Links.{namedLink, cutMark, graftLink}
+use Rattle.update_links.specs.Links.{namedLink, cutMark, graftLink, LinkHereIs, namedRow}
 
 -- ## A cut
 
@@ -76,13 +78,13 @@ module _ {s : Forest} {b : Batch} {c : Scope} (scoped : Scoped s b c) (x : FullN
 
   module _ (o : Option ParentAndIndex) where
     -- the root that tree data gives a pane: under the graft holder
-    pub link-here-pane : paneTest c root ≡ true → graftLink s (b .tree) ≡ linkHere s b x o
+    link-here-pane : paneTest c root ≡ true → graftLink s (b .tree) ≡ linkHere s b x o
     unfolding linkHere graftLink
     link-here-pane e = rw (← pane-is, e)
 
     module _ (e : paneTest c root ≡ false) {mark : ℕ} (q : mark ≡ cutMark s b x) where
       -- a node that is not named: where it stood, if it is not cut
-      pub link-here-unnamed : (old s b x ≡ false → o ≡ none) → namingMark s b x ≡ 0 → {t : Bool}
+      link-here-unnamed : (old s b x ≡ false → o ≡ none) → namingMark s b x ≡ 0 → {t : Bool}
           → bool._&&_ (bool._&&_ root (c .«is_root_tree»)) (ltb 0 mark) ≡ t
           → (if t then none else o) ≡ linkHere s b x o
       unfolding linkHere cutLasts linkIsCut cutMark turnMark
@@ -100,7 +102,7 @@ module _ {s : Forest} {b : Batch} {c : Scope} (scoped : Scoped s b c) (x : FullN
           (sym (cut-unnamed (turn s b x) (isRoot s b x) (sameTree (b .tree) ROOT) (listed s b x) (old s b x) o new))
 
       -- a node that is named: under that name, if it is not cut after that
-      pub link-here-named : distinct sameNode (listedIds (b .nodes)) ≡ true → (r j : ℕ) → r < length (b .nodes)
+      link-here-named : distinct sameNode (listedIds (b .nodes)) ≡ true → (r j : ℕ) → r < length (b .nodes)
           → naming s b x ≡ some (namedLink s b r j) → {t : Bool}
           → bool._&&_ (bool._&&_ root (c .«is_root_tree»)) (ltb r mark) ≡ t
           → (if t then none else some (namedLink s b r j)) ≡ linkHere s b x o
@@ -133,15 +135,49 @@ module _ (state : List ℕ) (t : TreeId) {slot : ℕ} (held : HolderIs state t s
       (rw (forest-length state) (first-cong _ _ (slotsOf state) slot test held))
       ∙ rw (forest-length state)
 
-  -- no node grafts the tree
-  pub graft-link-none : slotsOf state ≤ slot → none ≡ graftLink (forest state) t
-  unfolding graftLink
-  graft-link-none h = rw (holder-is, graftLink, le-ltb slot (slotsOf state) h)
+  module _ {n : ℕ} (count : n ≡ slotsOf state) {r : LinkRow} where
+    -- no node grafts the tree
+    pub graft-link-none : n ≤ slot → r ≡ linkRow none → r ≡ linkRow (graftLink (forest state) t)
+    unfolding graftLink
+    graft-link-none h e = e ∙ ap linkRow (rw (holder-is, graftLink, le-ltb slot (slotsOf state) (rw count at h)))
 
-  -- the first that does
-  pub graft-link-some : slot < slotsOf state → underGraft (idIn state slot) ≡ graftLink (forest state) t
-  unfolding graftLink
-  graft-link-some h = rw (holder-is, graftLink, lt-ltb slot (slotsOf state) h, forest-id state slot h)
+    -- the first that does
+    pub graft-link-some : {g : FullNodeId} → slot < n → g ≡ idIn state slot → r ≡ linkRow (some (record { parent = g; index = 0 })) → r ≡ linkRow (graftLink (forest state) t)
+    unfolding graftLink underGraft
+    graft-link-some h id e =
+        let there : slot < slotsOf state = rw count at h in
+        e ∙ ap (λ (g : FullNodeId). linkRow (underGraft g)) id ∙ ap linkRow (rw (holder-is, graftLink, lt-ltb slot (slotsOf state) there, forest-id state slot there))
+
+-- ## As the code finds it
+
+module _ {state bytes : List ℕ} {c : Scope} {notes : List ℕ} (told : Told COMPARED state bytes c notes) (x : FullNodeId) {was : LinkRow} {turn : ℕ} {root : Bool}
+    (root-is : root ≡ sameOption sameId (rootIn c) (some x)) where
+  -- the root that tree data gives a pane
+  pub here-pane : {t : TreeId} {r : LinkRow} → paneTest c root ≡ true → t ≡ batchIn bytes .tree → r ≡ linkRow (graftLink (forest state) t)
+      → LinkHereIs state bytes c x was turn r
+  unfolding asked
+  here-pane e tree q o is cut new =
+      q ∙ ap (λ t. linkRow (graftLink (forest state) t)) tree ∙ ap linkRow (link-here-pane (told .given .scoped) x root-is o e)
+
+  module _ (e : paneTest c root ≡ false) {naming : ℕ} (mark : naming ≡ namingMark (forest state) (asked bytes c) x) where
+    -- a node that is not named: cut, or as it was
+    pub here-cut : {r : LinkRow} → naming < 1 → bool._&&_ (bool._&&_ root (c .«is_root_tree»)) (ltb 0 turn) ≡ true → r ≡ linkRow none
+        → LinkHereIs state bytes c x was turn r
+    here-cut h t q o is cut new = q ∙ ap linkRow (link-here-unnamed (told .given .scoped) x root-is o e cut new (omega arith) t)
+
+    pub here-kept : naming < 1 → bool._&&_ (bool._&&_ root (c .«is_root_tree»)) (ltb 0 turn) ≡ false → LinkHereIs state bytes c x was turn was
+    here-kept h t o is cut new = is ∙ ap linkRow (link-here-unnamed (told .given .scoped) x root-is o e cut new (omega arith) t)
+
+    -- a node that is: cut after that, or under that name
+    module _ (h : 1 ≤ naming) {owner : ℕ} (first : First (λ i. ltb (naming - 1) (getD notes (ENDS + i) 0)) (c .listed) owner) {r : LinkRow} where
+      pub here-cut-after : bool._&&_ (bool._&&_ root (c .«is_root_tree»)) (ltb owner turn) ≡ true → r ≡ linkRow none → LinkHereIs state bytes c x was turn r
+      here-cut-after t q o is cut new =
+          q ∙ ap linkRow (link-here-named (told .given .scoped) x root-is o e cut (told .given .once) owner (naming - 1) (owner-owns told x mark h first .listed) (owner-names told x mark h first) t)
+
+      pub here-named : bool._&&_ (bool._&&_ root (c .«is_root_tree»)) (ltb owner turn) ≡ false → r ≡ namedRow state bytes c owner (naming - 1)
+          → LinkHereIs state bytes c x was turn r
+      here-named t q o is cut new =
+          q ∙ ap linkRow (link-here-named (told .given .scoped) x root-is o e cut (told .given .once) owner (naming - 1) (owner-owns told x mark h first .listed) (owner-names told x mark h first) t)
 
 -- ## Of the batch's tree or of another
 
