@@ -19,18 +19,18 @@ use Rattle.update_outcome.proofs.Codes.{gone-absent}
 use Rattle.update_notes.proofs.Places.{slot-present, slot-id, forest-length}
 use Rattle.base.proofs.Tests.{bit-is}
 
-module _ (state bytes : List ℕ) (c : Scope) (notes : List ℕ) (told : Told PLANNED state bytes c notes) (x : FullNodeId) (i : ℕ)
-    (slot : i ≡ slotAt (forest state) x) where
+module _ {state bytes : List ℕ} {c : Scope} {notes : List ℕ} (told : Told PLANNED state bytes c notes) (x : FullNodeId) {i n : ℕ}
+    (slot : i ≡ slotAt (forest state) x) (count : n ≡ slotsOf state) where
   -- a node without a slot does not go
-  pub absent-stays : slotsOf state ≤ i → false ≡ gone (forest state) (asked bytes c) x
+  pub absent-stays : n ≤ i → false ≡ gone (forest state) (asked bytes c) x
   absent-stays h =
       sym (gone-absent (forest state) (asked bytes c) x
       (slot-present (forest state) x ∙ le-ltb (slotAt (forest state) x) (length (forest state .nodes)) (omega (arith, slot, forest-length state))))
 
   -- of a node with one the mark tells
-  pub mark-tells : i < slotsOf state → eqb (getD notes (GOES + i) 0) 1 ≡ gone (forest state) (asked bytes c) x
+  pub mark-tells : i < n → eqb (getD notes (GOES + i) 0) 1 ≡ gone (forest state) (asked bytes c) x
   unfolding goesWord
   mark-tells h =
-      ap (λ (w : ℕ). eqb w 1) (told .written 9 (omega arith) i h)
+      ap (λ (w : ℕ). eqb w 1) (told .written 9 (omega arith) i (omega arith))
       ∙ bit-is (gone (forest state) (asked bytes c) (idAt (forest state) i))
       ∙ ap (gone (forest state) (asked bytes c)) (ap (idAt (forest state)) slot ∙ slot-id (forest state) x (omega (arith, slot, forest-length state)))

@@ -1,4 +1,5 @@
 -- Laws of children: those that a source names, and the runs that they are written in. Assumes nothing.
+use Rattle.state_array.specs.declared.ShapeRow.{ShapeRow}
 use mathlib.Core.List.{List}
 use mathlib.Core.Path.{_≡_, refl, sym, ap, _∙_}
 use Prim.Native.Nat.{ℕ, _+_, _-_, _≤_, _<_}
@@ -33,25 +34,31 @@ module _ (state bytes : List ℕ) (source : ℕ) where
   unfolding sourceChildren nodeIn bodyIn
   slot-children h = rw (lt-ltb source 320 h)
 
-  pub slot-count : source < 320 → shapeIn state source .«child_count» ≡ length (sourceChildren state bytes source)
+  pub slot-count : {d : ShapeRow} → source < 320 → d ≡ shapeIn state source → d .«child_count» ≡ length (sourceChildren state bytes source)
   unfolding childrenOf
-  slot-count h = rw (slot-children h) (sym (length-list-of (shapeIn state source .«child_count») (λ j. record { 0 = slotChild state source j })))
+  slot-count h e = rw (e, slot-children h) (sym (length-list-of (shapeIn state source .«child_count») (λ j. record { 0 = slotChild state source j })))
 
-  pub slot-child : source < 320 → (j : ℕ) → j < length (sourceChildren state bytes source) → slotChild state source j ≡ kidWord (sourceChildren state bytes source) j
+  pub slot-child : {v j : ℕ} → source < 320 → j < length (sourceChildren state bytes source) → v ≡ slotChild state source j → v ≡ kidWord (sourceChildren state bytes source) j
   unfolding childrenOf
-  slot-child h j l =
-      rw (slot-children h)
-      (sym (ap (λ (x : NodeId). x .0) (list-of-at (shapeIn state source .«child_count») j (λ j. record { 0 = slotChild state source j }) noNode (rw (← slot-count h) at l))))
+  slot-child {j = j} h l e =
+      e ∙ rw (slot-children h)
+      (sym (ap (λ (x : NodeId). x .0) (list-of-at (shapeIn state source .«child_count») j (λ j. record { 0 = slotChild state source j }) noNode (rw (← slot-count h refl) at l))))
 
   -- a listed node's
-  pub listed-children : 320 ≤ source → sourceChildren state bytes source ≡ listedAt (batchIn bytes) (source - 320) .body .children
+  listed-children : 320 ≤ source → sourceChildren state bytes source ≡ listedAt (batchIn bytes) (source - 320) .body .children
   unfolding sourceChildren
   listed-children h = rw (le-ltb source 320 h)
 
+  pub listed-count : {n : ℕ} → 320 ≤ source → n ≡ length (listedAt (batchIn bytes) (source - 320) .body .children) → n ≡ length (sourceChildren state bytes source)
+  listed-count h e = e ∙ sym (ap length (listed-children h))
+
+  pub listed-child : {x : NodeId} (j : ℕ) → 320 ≤ source → x ≡ getD (listedAt (batchIn bytes) (source - 320) .body .children) j noNode → x .0 ≡ kidWord (sourceChildren state bytes source) j
+  listed-child j h e = rw (listed-children h) (ap (λ (x : NodeId). x .0) e)
+
   -- the children of the data that comes from it
-  pub source-children : (c : Scope) (body : NodeData) → Batched bytes (asked bytes c) → SourceOf (forest state) (asked bytes c) source body → sourceChildren state bytes source ≡ body .children
+  pub source-children : (c : Scope) {body : NodeData} → Batched bytes (asked bytes c) → SourceOf (forest state) (asked bytes c) source body → sourceChildren state bytes source ≡ body .children
   unfolding nodeIn bodyIn
-  source-children c body batched from = go (decLt source 320)
+  source-children c {body} batched from = go (decLt source 320)
     where
       go : Dec (source < 320) → sourceChildren state bytes source ≡ body .children
       go (yes h) =

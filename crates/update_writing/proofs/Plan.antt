@@ -1,4 +1,5 @@
 -- Laws of the plan: what the notes say of the outcome's nodes. Assumes nothing.
+use Rattle.ids.specs.declared.FullNodeId.{FullNodeId}
 use mathlib.Core.List.{List}
 use mathlib.Core.Path.{_≡_, sym, _∙_}
 use Prim.Native.Nat.{ℕ, _+_, _-_, _≤_, _<_}
@@ -23,7 +24,7 @@ use Rattle.update_outcome.proofs.Nodes.{code-link, source-of}
 use Rattle.update_outcome.proofs.Room.{entries-few}
 use Rattle.update_writing.specs.Written.{nodesAfter}
 
-module _ (state bytes : List ℕ) (c : Scope) (notes : List ℕ) (told : Told PLANNED state bytes c notes) where
+module _ {state bytes : List ℕ} {c : Scope} {notes : List ℕ} (told : Told PLANNED state bytes c notes) where
   abbrev s : Forest
   s = forest state
 
@@ -39,6 +40,10 @@ module _ (state bytes : List ℕ) (c : Scope) (notes : List ℕ) (told : Told PL
   pub nodes-room : length (nodesAfter state bytes c) ≤ 320
   nodes-room = few-after state bytes c (told .given)
 
+  -- a node before the count is one of them
+  pub node-among : {r : ℕ} → r < getD notes COUNT 0 → r < length (nodesAfter state bytes c)
+  node-among h = omega (arith, count-told)
+
   listed-room : length (asked bytes c .nodes) ≤ 64
   listed-room = omega (arith, few-listed state bytes c (told .given), told .given .scoped .listed)
 
@@ -52,7 +57,7 @@ module _ (state bytes : List ℕ) (c : Scope) (notes : List ℕ) (told : Told PL
 
   -- ## Node r
 
-  module _ (r : ℕ) (l : r < length (nodesAfter state bytes c)) where
+  module _ {r : ℕ} (l : r < length (nodesAfter state bytes c)) where
     code-told : getD notes (CODES + r) 0 ≡ codeOf s b (idAt (outcome s b) r)
     unfolding codeWord
     code-told = told .written 12 (omega arith) r l
@@ -78,9 +83,9 @@ module _ (state bytes : List ℕ) (c : Scope) (notes : List ℕ) (told : Told PL
 
   -- ## The id of a code
 
-  module _ (code : ℕ) (there : Coded (forest state) (asked bytes c) code) where
-    pub slot-id : code < 320 → idIn state code ≡ codeId (forest state) (asked bytes c) code
-    slot-id h = sym (code-old s b code h ∙ forest-id state code (rw (forest-length state) at (there .stays h .0)))
+  module _ {code : ℕ} (there : Coded (forest state) (asked bytes c) code) where
+    pub slot-id : {y : FullNodeId} → code < 320 → y ≡ idIn state code → y ≡ codeId (forest state) (asked bytes c) code
+    slot-id h e = e ∙ sym (code-old s b code h ∙ forest-id state code (rw (forest-length state) at (there .stays h .0)))
 
     -- a listed node's place
     pub listed-place : 320 ≤ code → code - 320 < 64

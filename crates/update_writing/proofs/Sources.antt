@@ -23,9 +23,9 @@ use Rattle.update_bodies.specs.Bodies.{BodyIs}
 use Rattle.update_writing.specs.Written.{nodesAfter}
 use Rattle.update_writing.proofs.Plan.{source-there}
 
-module _ (state bytes : List ℕ) (c : Scope) (notes : List ℕ) (told : Told PLANNED state bytes c notes) (r : ℕ) (l : r < length (nodesAfter state bytes c)) where
-  pub body-there : (d : Body) → BodyIs state bytes (getD notes (SOURCES + r) 0) d → d ≡ bodyOf (getD (nodesAfter state bytes c) r noState .body)
-  body-there d is = go (decLt source 320)
+module _ {state bytes : List ℕ} {c : Scope} {notes : List ℕ} (told : Told PLANNED state bytes c notes) {r : ℕ} (l : r < length (nodesAfter state bytes c)) where
+  pub body-there : {d : Body} → BodyIs state bytes (getD notes (SOURCES + r) 0) d → d ≡ bodyOf (getD (nodesAfter state bytes c) r noState .body)
+  body-there {d} is = go (decLt source 320)
     where
       source : ℕ
       source = getD notes (SOURCES + r) 0
@@ -35,13 +35,13 @@ module _ (state bytes : List ℕ) (c : Scope) (notes : List ℕ) (told : Told PL
 
       go : Dec (source < 320) → d ≡ bodyOf body
       go (yes h) =
-          let from = source-there state bytes c notes told r l .kept h in
+          let from = source-there told l .kept h in
           let node : nodeAt (forest state) source ≡ nodeIn state source = forest-node state source (rw (forest-length state) at (from .0)) in
           let fields = all-at (λ n. fieldsOk (n .body)) (forest state .nodes) noState (told .given .kept .fields) source (from .0) in
           is .kept h (rw node at fields) .is ∙ ap (λ (n : NodeState). bodyOf (n .body)) (sym node) ∙ ap bodyOf (from .1)
       go (no h) =
           let past : 320 ≤ source = omega arith in
-          let from = source-there state bytes c notes told r l .read past in
+          let from = source-there told l .read past in
           let record-of = batched state bytes c (told .given) in
           is .read past (told .given .formed) (rw (record-of .nodes) at (from .0)) .is
           ∙ rw (batched-at bytes (asked bytes c) record-of (source - 320)) (ap bodyOf (from .1))
