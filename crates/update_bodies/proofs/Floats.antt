@@ -8,7 +8,7 @@ use lib.Ieee.{fits, ofBits, toBits, binary64}
 use borrow.Author.Tests.{ltb-true}
 use Rattle.base.specs.Tests.{all}
 use Rattle.base.specs.Floats.{isFinite}
-use Rattle.base.proofs.Tests.{both, joined}
+use Rattle.base.proofs.Tests.{both, joined, and-true}
 use Rattle.geometry.specs.Geometry.{rectTest, affineTest}
 use Rattle.record.specs.Batch.{NodeData, fieldsOk}
 use Rattle.record.proofs.Batch.{field-rules}
@@ -33,13 +33,6 @@ pub floats-finite : (d : NodeData) → fieldsOk d ≡ true → all isFinite (flo
 unfolding floatsOf rectTest affineTest
 floats-finite d h =
     let r = field-rules d h in
-    let y1 = both (r .finite-bounds) in
-    let x1 = both (y1 .0) in
-    let y0 = both (x1 .0) in
-    let f = both (r .finite-transform) in
-    let e = both (f .0) in
-    let d = both (e .0) in
-    let c = both (d .0) in
-    let b = both (c .0) in
-    joined (y0 .0) (joined (y0 .1) (joined (x1 .1) (joined (y1 .1)
-    (joined (b .0) (joined (b .1) (joined (c .1) (joined (d .1) (joined (e .1) (joined (f .1) refl)))))))))
+    let p = simp and-true at (r .finite-bounds) in
+    let q = simp and-true at (r .finite-transform) in
+    simp and-true (p .0 .0 .0, (p .0 .0 .1, (p .0 .1, (p .1, (q .0 .0 .0 .0 .0, (q .0 .0 .0 .0 .1, (q .0 .0 .0 .1, (q .0 .0 .1, (q .0 .1, (q .1, refl))))))))))

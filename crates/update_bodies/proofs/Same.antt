@@ -10,7 +10,7 @@ use lib.ListN.{length, getD}
 use borrow.Author.Tests.{eq-eqb, eqb-true}
 use Rattle.base.specs.Tests.{_&&_, sameList}
 use Rattle.base.specs.Bytes.{allBelow, listOf}
-use Rattle.base.proofs.Tests.{both, iff, same-list→≡}
+use Rattle.base.proofs.Tests.{both, iff, same-list→≡, and-true}
 use Rattle.base.proofs.Bytes.{all-below-at}
 use Rattle.base.proofs.Indexed.{all-below-each}
 use Rattle.base.proofs.Compared.{same-list-each, same-list-fails}
@@ -56,33 +56,26 @@ module _ (d : NodeData) (f : DataFits d) where
   bounds-back : boundsOf (map (toBits binary64) (floatsOf d)) ≡ d .bounds
   unfolding boundsOf floatsOf
   bounds-back =
-      let one = both (f .floats) in
-      let two = both (one .1) in
-      let three = both (two .1) in
-      let four = both (three .1) in
-      let x0 = float-forth (d .bounds .x0) (one .0) in
-      let y0 = float-forth (d .bounds .y0) (two .0) in
-      let x1 = float-forth (d .bounds .x1) (three .0) in
-      let y1 = float-forth (d .bounds .y1) (four .0) in
-      λ z. record { x0 = x0 z; y0 = y0 z; x1 = x1 z; y1 = y1 z }
+      let z = simp and-true at (f .floats) in
+      λ i. record {
+        x0 = float-forth (d .bounds .x0) (z .0) i;
+        y0 = float-forth (d .bounds .y0) (z .1 .0) i;
+        x1 = float-forth (d .bounds .x1) (z .1 .1 .0) i;
+        y1 = float-forth (d .bounds .y1) (z .1 .1 .1 .0) i;
+      }
 
   transform-back : transformOf (map (toBits binary64) (floatsOf d)) ≡ d .transform
   unfolding transformOf floatsOf
   transform-back =
-      let four = both (both (both (both (f .floats) .1) .1) .1) in
-      let five = both (four .1) in
-      let six = both (five .1) in
-      let seven = both (six .1) in
-      let eight = both (seven .1) in
-      let nine = both (eight .1) in
-      let ten = both (nine .1) in
-      let a = float-forth (d .transform .a) (five .0) in
-      let b = float-forth (d .transform .b) (six .0) in
-      let c = float-forth (d .transform .c) (seven .0) in
-      let dd = float-forth (d .transform .d) (eight .0) in
-      let e = float-forth (d .transform .e) (nine .0) in
-      let f = float-forth (d .transform .f) (ten .0) in
-      λ z. record { a = a z; b = b z; c = c z; d = dd z; e = e z; f = f z }
+      let z = (simp and-true at (f .floats)) .1 .1 .1 .1 in
+      λ i. record {
+        a = float-forth (d .transform .a) (z .0) i;
+        b = float-forth (d .transform .b) (z .1 .0) i;
+        c = float-forth (d .transform .c) (z .1 .1 .0) i;
+        d = float-forth (d .transform .d) (z .1 .1 .1 .0) i;
+        e = float-forth (d .transform .e) (z .1 .1 .1 .1 .0) i;
+        f = float-forth (d .transform .f) (z .1 .1 .1 .1 .1 .0) i;
+      }
 
 -- what data compares beside the children
 abbrev pub restSame : NodeData → NodeData → Bool → Bool

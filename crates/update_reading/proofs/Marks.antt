@@ -1,4 +1,5 @@
 -- Marks of slots: one more place passed, and what the marks say of a forest. Assumes nothing.
+use Rattle.update_notes.proofs.Columns.{below-none, below-set}
 use mathlib.Core.Bool.{Bool, true, false}
 use mathlib.Core.List.{List}
 use mathlib.Core.Path.{_≡_, refl, sym, ap, _∙_}
@@ -13,9 +14,9 @@ use Rattle.base.specs.Tests.{if_then_else_, position}
 use Rattle.base.specs.Bytes.{listOf}
 use Rattle.base.specs.Search.{First}
 use Rattle.base.proofs.Bytes.{length-list-of, list-of-at}
-use Rattle.update_notes.specs.Columns.{Holds}
+use Rattle.update_notes.specs.Columns.{Holds, Below}
 use Rattle.update_notes.proofs.Positions.{first-cong, position-first}
-use Rattle.update_reading.specs.Reading.{MarkOf, MarksTo}
+use Rattle.update_reading.specs.Reading.{MarkOf, MarksTo, MarkRoom}
 
 -- ## One more place
 
@@ -66,11 +67,11 @@ module _ (slot : ℕ → ℕ) (j i v : ℕ) (before : MarkOf slot j i v) where
 
 module _ (slot : ℕ → ℕ) (j to n : ℕ) (notes : List ℕ) (before : MarksTo slot j to n notes) where
   -- no slot of the column stands at place j
-  pub marks-past : n ≤ slot j → MarksTo slot (j + 1) to n notes
+  marks-past : n ≤ slot j → MarksTo slot (j + 1) to n notes
   marks-past out i h = mark-other slot j i (getD notes (to + i) 0) (before i h) (λ e. omega arith)
 
   -- the slot that stands there is marked already
-  pub marks-kept : 1 ≤ getD notes (to + slot j) 0 → MarksTo slot (j + 1) to n notes
+  marks-kept : 1 ≤ getD notes (to + slot j) 0 → MarksTo slot (j + 1) to n notes
   marks-kept there i h = go (ℕ-discrete (slot j) i)
     where
       go : Dec (slot j ≡ i) → MarkOf slot (j + 1) i (getD notes (to + i) 0)
@@ -78,7 +79,7 @@ module _ (slot : ℕ → ℕ) (j to n : ℕ) (notes : List ℕ) (before : MarksT
       go (no e) = mark-other slot j i (getD notes (to + i) 0) (before i h) e
 
   -- it is not, and its mark is stored
-  pub marks-stored : to + slot j < length notes → getD notes (to + slot j) 0 < 1 → MarksTo slot (j + 1) to n (set notes (to + slot j) (j + 1))
+  marks-stored : to + slot j < length notes → getD notes (to + slot j) 0 < 1 → MarksTo slot (j + 1) to n (set notes (to + slot j) (j + 1))
   marks-stored within none i h = go (ℕ-discrete (slot j) i)
     where
       go : Dec (slot j ≡ i) → MarkOf slot (j + 1) i (getD (set notes (to + slot j) (j + 1)) (to + i) 0)
@@ -89,8 +90,38 @@ module _ (slot : ℕ → ℕ) (j to n : ℕ) (notes : List ℕ) (before : MarksT
           rw (getD-set-other notes (to + slot j) (to + i) (j + 1) 0 (λ q. e (omega arith))) (mark-other slot j i (getD notes (to + i) 0) (before i h) e)
 
 -- no place passed, and no mark
-pub marks-none : (slot : ℕ → ℕ) (to n : ℕ) (notes : List ℕ) → Holds notes to n (λ i. 0) → MarksTo slot 0 to n notes
+marks-none : (slot : ℕ → ℕ) (to n : ℕ) (notes : List ℕ) → Holds notes to n (λ i. 0) → MarksTo slot 0 to n notes
 marks-none slot to n notes zeros i h r f = rw (le-ltb r 0 (omega arith)) (zeros i h)
+
+-- ## The loop
+
+-- the marks of the first j slots from `from` on, and nothing before `to` is other
+pub record Marking (from to n : ℕ) (before : List ℕ) (j : ℕ) (after : List ℕ) : Type 0 where
+  pub below : Below to before after
+  pub marks : MarksTo (λ k. getD before (from + k) 0) j to n after
+
+pub marking-begins : {from count to n : ℕ} {notes : List ℕ} → MarkRoom from count to n notes → Marking from to n notes 0 notes
+marking-begins {to = to} {n} {notes} room = record { below = below-none to notes; marks = marks-none _ to n notes (room .zeros) }
+
+module _ {from count to n j : ℕ} {before after : List ℕ} (room : MarkRoom from count to n before) (m : Marking from to n before j after) (l : j < count) where
+  same : getD after (from + j) 0 ≡ getD before (from + j) 0
+  same = m .below .kept (from + j) (omega (arith, room .before))
+
+  -- no slot of the column
+  pub marking-past : n ≤ getD after (from + j) 0 → Marking from to n before (j + 1) after
+  marking-past h = record { below = m .below; marks = marks-past _ j to n after (m .marks) (rw same at h) }
+
+  -- one that is marked already
+  pub marking-kept : 1 ≤ getD after (to + getD after (from + j) 0) 0 → Marking from to n before (j + 1) after
+  marking-kept h = record { below = m .below; marks = marks-kept _ j to n after (m .marks) (rw same at h) }
+
+  -- one that is marked now
+  pub marking-stored : getD after (from + j) 0 < n → getD after (to + getD after (from + j) 0) 0 < 1
+      → Marking from to n before (j + 1) (set after (to + getD after (from + j) 0) (j + 1))
+  marking-stored h none = record {
+    below = below-set to before after _ _ (omega arith) (m .below);
+    marks = (rw (← same) at (marks-stored (λ k. getD before (from + k) 0) j to n after (m .marks))) (omega (arith, m .below .long, room .long, room .room)) none;
+  }
 
 -- a search ends
 pub first-found : (p : ℕ → Bool) (n : ℕ) → (r : ℕ) × First p n r

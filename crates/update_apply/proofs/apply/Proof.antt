@@ -18,8 +18,7 @@ pub apply-spec : {M : Type 1} → statement M
 apply-spec =
     tie.close
     (tie.spec
-    (λ c κs. search needs)
-    (λ c κs. search needs)
+    (λ c κs. search needs) (λ c κs. search needs)
     (λ c. unfold passNumber in (applied-early _ _ _ _ _ _ (c .before .before .pass-rows .ensures) (c .if1 .taken)))
     (λ c κs. search needs)
     (λ c κs. told-compared (c .before .write .ensures .told))

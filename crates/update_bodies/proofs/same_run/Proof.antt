@@ -31,10 +31,6 @@ loop-again c =
     let l = c .before .before .before .before .loop in
     (omega arith, all-below-more _ (l .k) (l .inv .1) (eq-eqb _ _ (sym (c .before .before .word-in .ensures) ∙ c .if1 .left ∙ c .before .word-in2 .ensures)))
 
-returns-2 : tie.Need-returns-2 Inv-loop μ-loop
-unfolding sameRun
-returns-2 c = sym (all-below-end _ _ _ (omega arith) (c .before .loop .inv .1))
-
 pub same-run-spec : {M : Type 1} → statement M
 same-run-spec =
     tie.close
@@ -46,4 +42,4 @@ same-run-spec =
     returns
     (λ c. search needs) (λ c. search needs)
     loop-again
-    returns-2)
+    (λ c. unfold sameRun in (sym (all-below-end _ _ _ (omega arith) (c .before .loop .inv .1)))))

@@ -21,9 +21,6 @@ Inv-loop state batch notes i at₀ room₀ at room =
 abbrev μ-loop : tie.MeasureT-loop
 μ-loop state batch notes i at₀ room₀ at room = room
 
-loop-holds : tie.Need-loop-holds Inv-loop μ-loop
-loop-holds c = (omega (arith, c .before .before .pre .1), λ scope fated h. rw (c .slots .ensures) (climb-start _ _ scope _ h))
-
 returns : tie.Need-returns Inv-loop μ-loop
 returns c =
     let s = c .before .before .before .before .before .before in
@@ -47,15 +44,9 @@ climbed-spec =
     Inv-loop
     μ-loop
     (λ c κs. search needs)
-    loop-holds
-    (λ c. search needs)
-    (λ c. search needs)
-    (λ c. search needs)
+    (λ c. (omega (arith, c .before .before .pre .1), λ scope fated h. rw (c .slots .ensures) (climb-start _ _ scope _ h)))
+    (λ c. search needs) (λ c. search needs) (λ c. search needs)
     returns
-    (λ c. search needs)
-    (λ c. search needs)
-    (λ c. search needs)
-    (λ c. search needs)
-    (λ c. search needs)
+    (λ c. search needs) (λ c. search needs) (λ c. search needs) (λ c. search needs) (λ c. search needs)
     loop-again
     (λ c. climb-left _ _ _ _ _ _ (c .before .loop .inv .1 _ (c .before .before .before .before .pre .0) (c .before .before .before .before .pre .1)) (c .loop-test .left)))

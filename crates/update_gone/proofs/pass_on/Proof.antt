@@ -23,9 +23,6 @@ Inv-loop state batch notes₀ i goes at₀ room₀ notes at room =
 abbrev μ-loop : tie.MeasureT-loop
 μ-loop state batch notes₀ i goes at₀ room₀ notes at room = room
 
-loop-holds : tie.Need-loop-holds Inv-loop μ-loop
-loop-holds c = (omega (arith, c .before .before .pre .1 .0), λ scope fated h e. (rw (c .slots .ensures) (climb-start _ _ scope _ h), fated))
-
 loop-again : tie.Need-loop-again Inv-loop μ-loop
 loop-again c =
     let s = c .before .before .before .before .before .before .before in
@@ -48,18 +45,10 @@ pass-on-spec =
     Inv-loop
     μ-loop
     (λ c κs. search needs)
-    loop-holds
-    (λ c. search needs)
-    (λ c. search needs)
-    (λ c. search needs)
+    (λ c. (omega (arith, c .before .before .pre .1 .0), λ scope fated h e. (rw (c .slots .ensures) (climb-start _ _ scope _ h), fated)))
+    (λ c. search needs) (λ c. search needs) (λ c. search needs)
     (λ c. c .before .before .before .loop .inv .1 _ (c .before .before .before .before .before .before .pre .0) (c .before .before .before .before .before .before .pre .1 .0) (c .before .before .before .before .before .before .pre .1 .1) .1)
-    (λ c. search needs)
-    (λ c. search needs)
-    (λ c. search needs)
-    (λ c. search needs)
-    (λ c. search needs)
-    (λ c. search needs)
-    (λ c. search needs)
+    (λ c. search needs) (λ c. search needs) (λ c. search needs) (λ c. search needs) (λ c. search needs) (λ c. search needs) (λ c. search needs)
     (λ c. search needs)
     loop-again
     (λ c. c .before .loop .inv .1 _ (c .before .before .before .before .pre .0) (c .before .before .before .before .pre .1 .0) (c .before .before .before .before .pre .1 .1) .1))

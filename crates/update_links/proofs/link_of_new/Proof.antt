@@ -41,7 +41,6 @@ link-of-new-spec =
     (tie.spec
     (λ c κs. search needs)
     (λ c κs. omega (arith, few-named))
-    (λ c κs. search needs)
-    (λ c κs. search needs)
+    (λ c κs. search needs) (λ c κs. search needs)
     link-here-requires
     returns)

@@ -11,11 +11,7 @@ pub takes-spec : {M : Type 1} → statement M
 takes-spec =
     tie.close
     (tie.spec
-    (λ c. search needs)
-    (λ c. search needs)
-    (λ c. search needs)
-    (λ c. search needs)
+    (λ c. search needs) (λ c. search needs) (λ c. search needs) (λ c. search needs)
     (λ c. unfold isTaken in (search untaken))
-    (λ c κs. search needs)
-    (λ c κs. search needs)
+    (λ c κs. search needs) (λ c κs. search needs)
     (λ c. unfold isTaken in (c .same-tree .ensures ∙ ap (sameTree _) (c .before .graft .ensures) ∙ sym (taken _ _ _ (c .before .before .if1 .left)))))

@@ -17,9 +17,6 @@ abbrev μ-loop : tie.MeasureT-loop
 abbrev Inv-loop : tie.InvT-loop
 Inv-loop state batch scope notes₀ count r₀ notes r = Filling SOURCES 320 count (sourceWord state batch scope) notes₀ r notes
 
-loop-holds : tie.Need-loop-holds Inv-loop μ-loop
-loop-holds c = filling-begins (omega (arith, few-after, c .before .before .pre .written 11 (omega arith) 0 (omega arith)))
-
 source-of-requires : tie.Need-source-of-requires Inv-loop μ-loop
 source-of-requires c κs =
     let told = c .before .before .before .before .before .pre in
@@ -37,7 +34,7 @@ write-sources-spec =
     Inv-loop
     μ-loop
     (λ c. search needs)
-    loop-holds
+    (λ c. filling-begins (omega (arith, few-after, c .before .before .pre .written 11 (omega arith) 0 (omega arith))))
     source-of-requires
     (λ c. search needs) (λ c. search needs) (λ c. search needs) (λ c. search needs) (λ c. search needs)
     (λ c. search filling-goes)

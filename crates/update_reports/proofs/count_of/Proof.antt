@@ -39,12 +39,8 @@ count-of-spec =
     Inv-loop
     μ-loop
     (λ c. (omega arith, omega arith, sym (ap length (slots-none _ _ _))))
-    (λ c. search needs)
-    (λ c. search needs)
-    (λ c. search needs)
+    (λ c. search needs) (λ c. search needs) (λ c. search needs)
     (λ c κs. search needs)
-    (λ c. search needs)
-    (λ c. search needs)
-    (λ c. search needs)
+    (λ c. search needs) (λ c. search needs) (λ c. search needs)
     loop-again
     returns)

@@ -12,10 +12,6 @@ root-goes-requires c κs =
     let told = c .before .before .before .before .before .before .before .before .pre .0 in
     (told, omega (arith, trees-few _ _ (told .given .kept) (told .given .numbered)))
 
-returns-4 : tie.Need-returns-4
-unfolding treeRow
-returns-4 c = search other-stays
-
 pub tree-after-spec : {M : Type 1} → statement M
 tree-after-spec =
     tie.close
@@ -28,4 +24,4 @@ tree-after-spec =
     root-goes-requires
     (λ c κs. search needs)
     (λ c. search other-gone)
-    returns-4)
+    (λ c. unfold treeRow in (search other-stays)))

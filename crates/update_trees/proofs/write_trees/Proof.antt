@@ -24,9 +24,6 @@ Inv-loop state batch scope notes next₀ count k₀ next k = (count ≡ length (
 abbrev μ-loop : tie.MeasureT-loop
 μ-loop state batch scope notes next₀ count k₀ next k = count - k
 
-loop-holds : tie.Need-loop-holds Inv-loop μ-loop
-loop-holds c = (c .tree-count .ensures, omega arith, search fills-none)
-
 -- there is room for them
 few : {state bytes : List ℕ} {c : Scope} → Given state bytes c → length (treesAfter state bytes c) ≤ 32
 few g = trees-few _ _ (g .kept) (g .numbered)
@@ -52,10 +49,9 @@ write-trees-spec =
     Inv-loop
     μ-loop
     (λ c κs. search needs)
-    loop-holds
+    (λ c. (c .tree-count .ensures, omega arith, search fills-none))
     (λ c κs. (c .before .before .before .before .pre, omega (arith, c .before .loop .inv .0)))
     (λ c κs. omega (arith, few, c .before .before .before .loop .inv .0))
-    (λ c. search needs)
-    (λ c. search needs)
+    (λ c. search needs) (λ c. search needs)
     loop-again
     returns)
