@@ -6,14 +6,14 @@ use Prim.Native.Nat.{ℕ, _+_, _-_, _≤_, _<_}
 use native.Mathlib.Omega.{arith}
 use lib.Dec.{ltb}
 use lib.ListN.{length, getD}
-use borrow.Author.Tests.{lt-ltb, le-ltb}
+use borrow.Author.Tests.{lt-ltb, le-ltb, eq-eqb, ne-eqb, ltb-true}
 use Rattle.base.specs.Tests.{_&&_, isSome, sameOption}
-use Rattle.base.proofs.Tests.{is-some-if}
-use Rattle.ids.specs.Ids.{sameTree}
+use Rattle.base.proofs.Tests.{is-some-if, joined}
+use Rattle.ids.specs.Ids.{sameTree, sameId}
 use Rattle.ids.specs.declared.FullNodeId.{FullNodeId}
 use Rattle.record.specs.Batch.{graft?}
 use Rattle.record_reader.specs.Reader.{batchIn, listedAt}
-use Rattle.state.specs.State.{graftAt}
+use Rattle.state.specs.State.{graftAt, ParentAndIndex, NodeState, Forest, present, linkAt}
 use Rattle.state_array.specs.declared.LinkRow.{LinkRow}
 use Rattle.state_array.specs.View.{idIn, linkIn, linkOf, slotsOf}
 use Rattle.update.specs.Words.{here, claim, claimedFrom, letsGo}
@@ -22,16 +22,70 @@ use Rattle.update_notes.specs.Layout.{TURNS, NAMINGS, CLAIMS, ABOVE}
 use Rattle.update_notes.specs.Columns.{Holds}
 use Rattle.update_notes.specs.declared.Scope.{Scope}
 use Rattle.update_notes.specs.Setting.{asked, forest}
-use Rattle.update_notes.specs.Codes.{idAt, slotAt, flag}
-use Rattle.update_notes.specs.Says.{turnMark, namingMark, graftBelow, ClaimedFromIs, slotAbove, turnWord, namingWord, claimWord, Told}
-use Rattle.update_notes.proofs.Places.{slot-self, forest-length, forest-id, forest-link}
+use Rattle.update_notes.specs.Codes.{idAt, slotAt, flag, nodeAt}
+use Rattle.update_notes.specs.Says.{turnMark, namingMark, graftBelow, ClaimedFromIs, slotAbove, turnWord, namingWord, claimWord, Told, aboveWord}
+use Rattle.update_notes.proofs.Places.{slot-self, forest-length, forest-id, forest-link, slot-present, slot-id, find-at}
 use Rattle.update_notes.proofs.Marks.{turn-none}
 use Rattle.update_notes.proofs.Grafts.{graft-slot, claimed-from-is, lets-go-turn}
 use Rattle.update_notes.proofs.Setting.{batched-at}
 use Rattle.update_notes.proofs.Told.{batched}
 use Rattle.update_gone.specs.Fates.{fateCode, fateBy, fateMark, fateWord, ReplacedIs, FateHereIs, FateUnderIs, ABOVE-TOLD}
-use Rattle.update_gone.proofs.Above.{link-at, slot-stands, no-link, a-link, above-is}
 use Rattle.update_gone.proofs.Fates.{same-index, other-index, mine-true, mine-false}
+use mathlib.Core.Option.{Option, none, some}
+use Rattle.state.specs.Sound.{ascending}
+use Rattle.state_lookup.specs.Lookup.{inSlot, SlotOf}
+use Rattle.state_lookup.proofs.Order.{slot-here, slot-of-place}
+
+-- ## The nodes of a forest
+
+module _ (s : Forest) where
+  -- the link of the node in a slot
+  pub link-at : ascending (s .nodes) ≡ true → (i : ℕ) → i < length (s .nodes) → linkAt (s .nodes) (idAt s i) ≡ nodeAt s i .parentAndIndex
+  unfolding linkAt
+  link-at up i h = ap (λ (o : Option NodeState). elim o as (λ _. Option ParentAndIndex) [ none ↦ none | some n ↦ n .parentAndIndex ]) (find-at s up i h)
+
+  -- an id that is present stands in its slot
+  pub slot-stands : (x : FullNodeId) → present (s .nodes) x ≡ true → (slotAt s x < length (s .nodes)) × (idAt s (slotAt s x) ≡ x)
+  slot-stands x e = let h = ltb-true (slotAt s x) (length (s .nodes)) (sym (slot-present s x) ∙ e) in (h, slot-id s x h)
+
+-- ## A row's link
+
+module _ (l : LinkRow) where
+  -- a row without a link
+  pub no-link : l .linked ≡ 0 → linkOf l ≡ none
+  unfolding linkOf
+  no-link e = rw (eq-eqb (l .linked) 0 e)
+
+  -- a row with one
+  pub a-link : (l .linked ≡ 0 → ⊥) → linkOf l ≡ some (record { parent = l .parent; index = l .index })
+  unfolding linkOf
+  a-link h = rw (ne-eqb (l .linked) 0 h)
+
+-- ## The slot of a row's parent
+
+module _ (state : List ℕ) (l : LinkRow) where
+  -- there is none
+  pub slot-top : {n : ℕ} → n ≡ slotsOf state → l .linked ≡ 0 → n ≡ slotAbove state (linkOf l)
+  unfolding slotAbove
+  slot-top count e = count ∙ rw (no-link l e)
+
+  module _ (up : ascending (forest state .nodes) ≡ true) {r : ℕ} (linked : l .linked ≡ 0 → ⊥) where
+    -- a search finds it
+    pub slot-under : SlotOf state (l .parent) r → r ≡ slotAbove state (linkOf l)
+    unfolding slotAbove
+    slot-under found = rw (a-link l linked) (slot-of-place state (l .parent) r up found)
+
+    -- it stands in a slot
+    pub slot-near : {n : ℕ} {y : FullNodeId} {v : Bool} → n ≡ slotsOf state → r < n → y ≡ idIn state r → v ≡ sameId (l .parent) y → v ≡ true
+        → r ≡ slotAbove state (linkOf l)
+    unfolding inSlot
+    slot-near count h id same e =
+        slot-under (slot-here (idIn state) (slotsOf state) (l .parent) r (joined (lt-ltb r (slotsOf state) (omega arith)) (ap (sameId (l .parent)) (sym id) ∙ sym same ∙ e)))
+
+-- the word of the column
+pub above-is : (state bytes : List ℕ) (c : Scope) (i : ℕ) → i < slotsOf state → slotAbove state (linkOf (linkIn state i)) ≡ aboveWord state bytes c i
+unfolding aboveWord
+above-is state bytes c i h = ap (slotAbove state) (sym (forest-link state i h))
 
 -- the turn of the node in a slot
 turn-at : {state bytes : List ℕ} {c : Scope} {notes : List ℕ} → Told ABOVE-TOLD state bytes c notes → (i : ℕ) → i < slotsOf state
@@ -137,9 +191,9 @@ module _ {state bytes : List ℕ} {c : Scope} {notes : List ℕ} (told : Told AB
     pub fate-top : {t : Bool} {r : ℕ} → l .linked ≡ 0 → ReplacedIs c x (getD notes (TURNS + i) 0) (getD notes (NAMINGS + i) 0) t → r ≡ fateCode (goesIf t)
         → r ≡ fateWord state bytes c i
     unfolding fateBy
-    fate-top none goes e =
+    fate-top top goes e =
         fate-is (e ∙ ap (λ (t : Bool). fateCode (goesIf t)) ((rw id at goes) (forest state) (asked bytes c) (told .given .scoped) turn-is naming-is)
-        ∙ rw (no-link (linkIn state i) (rw link at none)))
+        ∙ rw (no-link (linkIn state i) (rw link at top)))
 
     module _ (linked : l .linked ≡ 0 → ⊥) where
       parented : linkIn state i .linked ≡ 0 → ⊥

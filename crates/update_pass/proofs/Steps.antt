@@ -8,7 +8,7 @@ use native.Mathlib.Decide.{decLt}
 use native.Mathlib.Omega.{arith}
 use lib.Dec.{ltb, leb}
 use lib.ListN.{length, getD, take}
-use borrow.Author.Tests.{lt-ltb, le-ltb, le-leb, lt-leb}
+use borrow.Author.Tests.{le-ltb, le-leb, lt-leb}
 use Rattle.base.specs.Tests.{if_then_else_, has, position}
 use Rattle.base.specs.Search.{First}
 use Rattle.ids.specs.Ids.{sameNode}
@@ -27,24 +27,12 @@ use Rattle.update_notes.specs.Says.{PositionIn}
 use Rattle.update_notes.proofs.Marks.{turn-first}
 use Rattle.update_notes.proofs.Told.{few-listed, few-named}
 use Rattle.update_pass.specs.Steps.{startOf, At, Standing, rest, seen, placing, waits, Moves}
-use Rattle.update_pass.proofs.Rest.{start-within, start-more, rest-name, rest-own}
-use Rattle.update_pass.proofs.Faults.{seen-has, seen-more, fault-twice, fault-once}
-use Rattle.update_pass.proofs.Searches.{has-before, first-place, listing-found, listing-missing, due-reached, due-is}
-use Rattle.update_pass.proofs.Firsts.{first-listed, first-id, first-unplaced, first-at, first-found}
-use Rattle.update_pass.proofs.Read.{end-word, named-word, named-old, named-mark, named-search}
+use Rattle.update_pass.proofs.Going.{start-within, start-more, rest-name, rest-own}
+use Rattle.update_pass.proofs.Faults.{placing-here, placing-past, seen-has, seen-more, fault-twice, fault-once}
+use Rattle.update_pass.proofs.Read.{has-before, first-place, listing-found, listing-missing, due-reached, due-is, end-word, named-word, named-old, named-mark, named-search}
+use Rattle.update_pass.proofs.Rows.{first-listed, first-id, first-unplaced, first-at, first-found}
 
--- ## The placing of a node
-
-module _ (b : Batch) (i : ℕ) where
-  -- of a listed node
-  pub placing-here : i < length (b .nodes) → placing b i ≡ places (listedAt b i) ∷ []
-  unfolding placing
-  placing-here h = rw (lt-ltb i (length (b .nodes)) h)
-
-  -- past the last
-  pub placing-past : length (b .nodes) ≤ i → placing b i ≡ []
-  unfolding placing
-  placing-past h = rw (le-ltb i (length (b .nodes)) h)
+-- ## A child that waits
 
 module _ (s : Forest) (b : Batch) (earlier : List Listed) (c : NodeId) where
   -- a child that is placed at its turn

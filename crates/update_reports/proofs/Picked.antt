@@ -1,5 +1,4 @@
--- The four lists are what the marks pick. Two sorted lists with the same members are one, so the lists of old nodes that are updated and
--- relinked are picked among the outcome's nodes. Assumes nothing.
+-- Laws of the four lists by the marks, and of the extra ids. Assumes nothing.
 use mathlib.Core.Bool.{Bool, true, false, not, _||_, false≢true}
 use mathlib.Core.List.{List, [], _∷_, _++_}
 use mathlib.Core.Option.{Option, none, some}
@@ -9,7 +8,7 @@ use native.Mathlib.Omega.{arith}
 use lib.Dec.{ltb}
 use lib.ListN.{length, getD}
 use borrow.Author.Tests.{ltb-true}
-use Rattle.base.specs.Tests.{_&&_, if_then_else_, isSome, keep, has}
+use Rattle.base.specs.Tests.{_&&_, if_then_else_, isSome, keep, has, sameOption}
 use Rattle.base.specs.Bytes.{bit}
 use Rattle.base.proofs.Lists.{any-append}
 use Rattle.base.proofs.Tests.{both, has-keep}
@@ -17,7 +16,7 @@ use Rattle.ids.specs.Ids.{sameId}
 use Rattle.ids.specs.declared.FullNodeId.{FullNodeId}
 use Rattle.ids.proofs.Ids.{same-id→≡}
 use Rattle.record.specs.Batch.{Batch}
-use Rattle.state.specs.State.{NodeState, idsOf, Forest, find, present}
+use Rattle.state.specs.State.{NodeState, idsOf, Forest, find, present, State}
 use Rattle.state.specs.Sound.{ascending}
 use Rattle.state.proofs.State.{present-has}
 use Rattle.state.proofs.Order.{find-none, ascending-keep}
@@ -25,7 +24,7 @@ use Rattle.state_array.specs.View.{slotsOf}
 use Rattle.update.specs.Words.{old}
 use Rattle.update.specs.Gone.{gone}
 use Rattle.update.specs.Outcome.{paneRoot, outcome}
-use Rattle.update.specs.Reports.{sorted, added, removed, isUpdated, updated, isRelinked, relinked, changesWith, changesOf}
+use Rattle.update.specs.Reports.{sorted, added, removed, isUpdated, updated, isRelinked, relinked, changesWith, changesOf, Changes, noChanges, unlessIn, focusMoved, extraBefore, extraAfter}
 use Rattle.update.proofs.Outcome.{ascending-outcome}
 use Rattle.update.proofs.Reports.{removed-is, sorted-ids, sorted-keep}
 use Rattle.update.proofs.Sorted.{same-members}
@@ -33,8 +32,7 @@ use Rattle.state_focus.specs.Focus.{foundOf}
 use Rattle.state_focus.specs.declared.FoundNode.{FoundNode}
 use Rattle.state_focus.specs.declared.FoundNode.the-variants as node
 use Rattle.update_notes.specs.declared.Scope.{Scope}
-use Rattle.update_reports.specs.Reported.{unlessBefore, unlessAfter}
-use Rattle.update_reports.proofs.Extras.{unless-there, unless-absent}
+use Rattle.update_reports.specs.Reported.{unlessBefore, unlessAfter, Reported, ReportOf}
 use Rattle.update_notes.specs.Layout.{GOES, CHANGED}
 use Rattle.update_notes.specs.Setting.{asked, forest}
 use Rattle.update_notes.specs.Codes.{nodeAt, idAt, slotAt, flag, changeOf}
@@ -43,7 +41,50 @@ use Rattle.update_notes.proofs.Places.{slot-found, slot-present, slot-id, prese
 use Rattle.update_reports.specs.Outcomes.{changesIn, Outcomes}
 use Rattle.update_reports.specs.Slice.{picked}
 use Rattle.update_reports.proofs.Outcomes.{shows, counted}
-use Rattle.update_reports.proofs.Slots.{picked-ids}
+use Rattle.update_reports.proofs.Slice.{picked-ids}
+use Rattle.state.specs.Focus.{stateFocus}
+use Rattle.update_reports.specs.declared.Report.{Report}
+
+module _ (xs : List FullNodeId) (x : FullNodeId) where
+  -- a node that stands in a list, and one that does not
+  pub unless-there : has sameId xs x ≡ true → none ≡ unlessIn xs (some x)
+  unfolding unlessIn
+  unless-there e = rw e
+
+  pub unless-absent : has sameId xs x ≡ false → some x ≡ unlessIn xs (some x)
+  unfolding unlessIn
+  unless-absent e = rw e
+
+-- no node stands in no list
+pub unless-none : (xs : List FullNodeId) → none ≡ unlessIn xs none
+unfolding unlessIn
+unless-none xs = refl
+
+unless-nothing : (o : Option FullNodeId) → unlessIn [] o ≡ o
+unfolding unlessIn
+unless-nothing none = refl
+unless-nothing (some x) = refl
+
+-- a report of two answers is that of two states whose focus they are
+pub report-is : (s s′ : State) (c : Changes) (before after lost got : FoundNode) (r : Report) → ReportOf before after lost got r
+    → foundOf before ≡ stateFocus s → foundOf after ≡ stateFocus s′
+    → foundOf lost ≡ unlessBefore c (foundOf before) → foundOf got ≡ unlessAfter c (foundOf after) → Reported s s′ c r
+unfolding extraBefore extraAfter focusMoved
+report-is s s′ c before after lost got r says p q l g = record {
+  before-is = says .before-is ∙ p;
+  after-is = says .after-is ∙ q;
+  extra-before-is = says .extra-before-is ∙ rw (l, p, q) (swapped (sameOption sameId (stateFocus s) (stateFocus s′)) (unlessBefore c (stateFocus s)));
+  extra-after-is = says .extra-after-is ∙ rw (g, p, q) (swapped (sameOption sameId (stateFocus s) (stateFocus s′)) (unlessAfter c (stateFocus s′)));
+}
+  where
+    swapped : (t : Bool) (o : Option FullNodeId) → (if t then none else o) ≡ (if not t then o else none)
+    swapped true o = refl
+    swapped false o = refl
+
+-- with empty lists the answers themselves are left
+pub host-left : (o : Option FullNodeId) → (o ≡ unlessBefore noChanges o) × (o ≡ unlessAfter noChanges o)
+unfolding noChanges
+host-left o = (sym (unless-nothing o), sym (unless-nothing o))
 
 -- ## Which nodes stand in a list
 

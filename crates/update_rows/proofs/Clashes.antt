@@ -1,4 +1,4 @@
--- Row 18: a listed node that has other data than before and goes, as the notes say it. Assumes nothing.
+-- Laws of the listed nodes: row 5, and row 18. Assumes nothing.
 use mathlib.Core.Bool.{Bool, true, false, not, false≢true}
 use mathlib.Core.List.{List}
 use mathlib.Core.Option.{Option, none, some}
@@ -8,13 +8,13 @@ use native.Mathlib.Omega.{arith}
 use lib.Dec.{eqb}
 use lib.ListN.{length, getD}
 use borrow.Author.Tests.{ltb-true, eq-eqb, ne-eqb}
-use Rattle.base.specs.Tests.{_&&_, isSome}
+use Rattle.base.specs.Tests.{_&&_, isSome, distinct}
 use Rattle.base.proofs.Tests.{and-false, and-right, bit-is}
-use Rattle.record.specs.Batch.{sameData, Listed, Batch}
+use Rattle.record.specs.Batch.{sameData, Listed, Batch, listedIds}
 use Rattle.base.proofs.Loops.{Passing, any-at, any-passed}
 use Rattle.update_rows.specs.Rows.{clashes}
 use Rattle.ids.specs.declared.FullNodeId.{FullNodeId}
-use Rattle.record_reader.specs.Reader.{blank, listedAt}
+use Rattle.record_reader.specs.Reader.{blank, listedAt, noNode}
 use Rattle.state.specs.State.{NodeState, Forest, find, present}
 use Rattle.state_array.specs.View.{slotsOf}
 use Rattle.update.specs.Words.{here}
@@ -26,6 +26,32 @@ use Rattle.update_notes.specs.Setting.{asked, forest}
 use Rattle.update_notes.specs.Codes.{slotAt, idAt, differs}
 use Rattle.update_notes.specs.Says.{listedSlot, goesWord, differWord, Told, COMPARED}
 use Rattle.update_notes.proofs.Places.{slot-present, slot-id, forest-length}
+use Rattle.base.specs.Bytes.{listOf}
+use Rattle.base.proofs.Columns.{list-of-each}
+use Rattle.base.proofs.Indexed.{distinct-list-of, distinct-twice}
+use Rattle.ids.specs.Ids.{sameNode}
+use Rattle.ids.specs.declared.NodeId.{NodeId}
+use Rattle.record.proofs.Batch.{listed-length, listed-at}
+
+module _ (b : Batch) where
+  -- the number of listed node i
+  abbrev pub listedId : ℕ → NodeId
+  listedId i = listedAt b i .id
+
+  listed-ids : listOf (length (b .nodes)) listedId ≡ listedIds (b .nodes)
+  unfolding listedAt
+  listed-ids = rw (← listed-length (b .nodes)) (list-of-each noNode (listedIds (b .nodes)) listedId (λ i l. sym (listed-at (b .nodes) i blank)))
+
+  -- one stands there twice
+  pub twice-found : (h j : ℕ) → h < j → j < length (b .nodes) → sameNode (listedId h) (listedId j) ≡ true
+      → not (distinct sameNode (listedIds (b .nodes))) ≡ true
+  twice-found h j l m e = ap (λ ids. not (distinct sameNode ids)) (sym listed-ids) ∙ ap not (distinct-twice sameNode (length (b .nodes)) listedId h j l m e)
+
+  -- each two differ
+  pub twice-none : ((j : ℕ) → j < length (b .nodes) → (h : ℕ) → h < j → sameNode (listedId h) (listedId j) ≡ false)
+      → not (distinct sameNode (listedIds (b .nodes))) ≡ false
+  twice-none e =
+      ap (λ ids. not (distinct sameNode ids)) (sym listed-ids) ∙ ap not (distinct-list-of sameNode (length (b .nodes)) listedId (λ h j l m. e j m h l))
 
 -- ## A listed node
 

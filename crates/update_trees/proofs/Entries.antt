@@ -1,4 +1,4 @@
--- Laws of the outcome's table: how many trees it has, and what each entry is. Assumes nothing.
+-- Laws of the table of trees after a batch, entry by entry, and of roots that go. Assumes nothing.
 use Rattle.record_reader.specs.Reader.{batchIn}
 use Rattle.state_array.specs.declared.TreeRow.{TreeRow}
 use mathlib.Core.Bool.{Bool, true, false}
@@ -24,7 +24,7 @@ use Rattle.ids.specs.declared.NodeId.{NodeId}
 use Rattle.ids.specs.declared.FullNodeId.{FullNodeId}
 use Rattle.record.specs.Batch.{Batch}
 use Rattle.state.specs.State.{Subtree, TreeEntry, Forest, SubtreeState, subtreeState, subtreeOf}
-use Rattle.state_array.specs.View.{treeIn, entryIn, treesOf, view}
+use Rattle.state_array.specs.View.{treeIn, entryIn, treesOf, view, slotsOf}
 use Rattle.state_array.specs.Stored.{noTree, treeRow}
 use Rattle.state_lookup.proofs.Trees.{stateOf, tree-absent, tree-unborn, tree-there}
 use Rattle.update.specs.Words.{known, number, here, rootAfter}
@@ -35,6 +35,12 @@ use Rattle.update_notes.specs.declared.Scope.{Scope}
 use Rattle.update_notes.specs.Setting.{rootIn, asked, forest, Given}
 use Rattle.update_notes.proofs.Positions.{first-cong, position-first, has-position}
 use Rattle.update_trees.specs.Trees.{treesAfter, treeAfter, ownEntry}
+use Rattle.update_notes.specs.Layout.{GOES}
+use Rattle.update_notes.specs.Codes.{idAt, slotAt}
+use Rattle.update_notes.specs.Says.{Told, PLANNED, goesWord}
+use Rattle.update_outcome.proofs.Codes.{gone-absent}
+use Rattle.update_notes.proofs.Places.{slot-present, slot-id, forest-length}
+use Rattle.base.proofs.Tests.{bit-is}
 
 -- ## How many trees
 
@@ -223,3 +229,19 @@ module _ {state bytes : List ℕ} {c : Scope} (g : Given state bytes c) where
 
         pub other-stays : {r : TreeRow} → t ≡ false → r ≡ treeRow (record { id = row .id; subtree = some (record { root = row .root; focus = row .focus }) }) → r ≡ treeRow (treeAfter state bytes c i)
         other-stays e q = q ∙ ap treeRow (rw e at other-born)
+
+module _ {state bytes : List ℕ} {c : Scope} {notes : List ℕ} (told : Told PLANNED state bytes c notes) (x : FullNodeId) {i n : ℕ}
+    (slot : i ≡ slotAt (forest state) x) (count : n ≡ slotsOf state) where
+  -- a node without a slot does not go
+  pub absent-stays : n ≤ i → false ≡ gone (forest state) (asked bytes c) x
+  absent-stays h =
+      sym (gone-absent (forest state) (asked bytes c) x
+      (slot-present (forest state) x ∙ le-ltb (slotAt (forest state) x) (length (forest state .nodes)) (omega (arith, slot, forest-length state))))
+
+  -- of a node with one the mark tells
+  pub mark-tells : i < n → eqb (getD notes (GOES + i) 0) 1 ≡ gone (forest state) (asked bytes c) x
+  unfolding goesWord
+  mark-tells h =
+      ap (λ (w : ℕ). eqb w 1) (told .written 9 (omega arith) i (omega arith))
+      ∙ bit-is (gone (forest state) (asked bytes c) (idAt (forest state) i))
+      ∙ ap (gone (forest state) (asked bytes c)) (ap (idAt (forest state)) slot ∙ slot-id (forest state) x (omega (arith, slot, forest-length state)))

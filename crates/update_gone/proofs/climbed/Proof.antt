@@ -7,8 +7,7 @@ use Rattle.state_array.specs.View.{slotsOf}
 use Rattle.update_notes.specs.Layout.{ABOVE}
 use Rattle.update_notes.specs.declared.Scope.{Scope}
 use Rattle.update_gone.specs.Fates.{Fated}
-use Rattle.update_gone.proofs.Climb.{Climbing, climb-start, climb-left, climb-same}
-use Rattle.update_gone.proofs.Memo.{memo-known, memo-step}
+use Rattle.update_gone.proofs.Climb.{Climbing, climb-start, climb-left, climb-same, memo-known, memo-step}
 use native.Mathlib.Omega.{arith}
 use borrow.Author.Needs.{needs}
 use Rattle.update_gone.proofs.climbed.Statement.{statement}

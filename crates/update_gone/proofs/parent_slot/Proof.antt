@@ -1,5 +1,5 @@
 -- `gone::parent_slot` meets its contract. Assumes nothing.
-use Rattle.update_gone.proofs.Above.{slot-top, slot-under, slot-near}
+use Rattle.update_gone.proofs.Slots.{slot-top, slot-under, slot-near}
 use borrow.Author.Needs.{needs}
 use Rattle.update_gone.proofs.parent_slot.Statement.{statement}
 use Rattle.update_gone.proofs.parent_slot.Tie as tie

@@ -8,8 +8,7 @@ use Rattle.update_notes.specs.Layout.{ABOVE}
 use Rattle.update_notes.specs.declared.Scope.{Scope}
 use Rattle.update_notes.specs.Says.{goesWord}
 use Rattle.update_gone.specs.Fates.{Fated}
-use Rattle.update_gone.proofs.Climb.{Climbing, climb-start, climb-same}
-use Rattle.update_gone.proofs.Memo.{memo-step, memo-set}
+use Rattle.update_gone.proofs.Climb.{Climbing, climb-start, climb-same, memo-step, memo-set}
 use native.Mathlib.Omega.{arith}
 use borrow.Author.Needs.{needs}
 use Rattle.update_gone.proofs.pass_on.Statement.{statement}

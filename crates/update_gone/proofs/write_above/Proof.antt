@@ -4,7 +4,7 @@ use Rattle.state_array.specs.View.{linkOf, linkIn}
 use Rattle.update_notes.specs.Layout.{ABOVE}
 use Rattle.update_notes.specs.Says.{slotAbove, READ}
 use Rattle.update_notes.proofs.Told.{told-filled}
-use Rattle.update_gone.proofs.Above.{above-is}
+use Rattle.update_gone.proofs.Slots.{above-is}
 use native.Mathlib.Omega.{arith}
 use borrow.Author.Needs.{needs}
 use Rattle.base.proofs.Loops.{Filling, filling-begins, filling-goes, filling-ends}

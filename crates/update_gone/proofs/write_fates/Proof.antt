@@ -4,7 +4,7 @@ use Rattle.update_notes.specs.Layout.{GOES}
 use Rattle.update_notes.proofs.Columns.{holds-fill}
 use Rattle.update_notes.proofs.Told.{told-fill}
 use Rattle.update_gone.specs.Fates.{fateWord, ABOVE-TOLD}
-use Rattle.update_gone.proofs.Memo.{fated}
+use Rattle.update_gone.proofs.Climb.{fated}
 use native.Mathlib.Omega.{arith}
 use borrow.Author.Needs.{needs}
 use Rattle.base.proofs.Loops.{Filling, filling-begins, filling-goes, filling-ends}

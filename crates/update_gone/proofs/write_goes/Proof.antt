@@ -1,7 +1,7 @@
 -- `gone::write_goes` meets its contract. Assumes nothing.
 use Prim.Native.Nat.{_-_, _≤_}
 use Rattle.update_gone.specs.Fates.{Fated}
-use Rattle.update_gone.proofs.Memo.{memo-next, memo-done}
+use Rattle.update_gone.proofs.Climb.{memo-next, memo-done}
 use native.Mathlib.Omega.{arith}
 use borrow.Author.Needs.{needs}
 use Rattle.update_gone.proofs.write_goes.Statement.{statement}

@@ -1,7 +1,6 @@
 -- `update_links::link_here` meets its contract: a law for the root of a pane, for a node that is not named and for one that is. Assumes nothing.
 use Rattle.update_notes.proofs.Told.{few-listed}
-use Rattle.update_links.proofs.Ends.{ends-rise, owner-owns}
-use Rattle.update_links.proofs.Here.{here-pane, here-cut, here-kept, here-cut-after, here-named}
+use Rattle.update_links.proofs.Here.{ends-rise, owner-owns, here-pane, here-cut, here-kept, here-cut-after, here-named}
 use borrow.Author.Needs.{needs}
 use Rattle.update_links.proofs.link_here.Statement.{statement}
 use Rattle.update_links.proofs.link_here.Tie as tie

@@ -1,5 +1,5 @@
 -- `update_links::link_of_old` meets its contract: what is read of its slot is the node's id, link and marks. Assumes nothing.
-use Rattle.update_links.proofs.Slots.{old-elsewhere, old-here, named-at}
+use Rattle.update_links.proofs.Elsewhere.{old-elsewhere, old-here, named-at}
 use borrow.Author.Needs.{needs}
 use Rattle.update_links.proofs.link_of_old.Statement.{statement}
 use Rattle.update_links.proofs.link_of_old.Tie as tie

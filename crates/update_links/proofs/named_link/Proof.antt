@@ -1,6 +1,6 @@
 -- `update_links::named_link` meets its contract: the parent is listed there, and its children start there. Assumes nothing.
 use Rattle.update_notes.proofs.Told.{few-listed}
-use Rattle.update_links.proofs.Ends.{named-from-first, starts-before, named-from-later}
+use Rattle.update_links.proofs.Here.{named-from-first, starts-before, named-from-later}
 use borrow.Author.Needs.{needs}
 use native.Mathlib.Omega.{arith}
 use Rattle.update_links.proofs.named_link.Statement.{statement}

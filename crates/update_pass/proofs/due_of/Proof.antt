@@ -2,8 +2,7 @@
 use native.Mathlib.Omega.{arith}
 use borrow.Author.Needs.{needs}
 use Rattle.update_notes.proofs.Told.{few-listed, few-named}
-use Rattle.update_pass.proofs.Searches.{due-old, due-root, due-named}
-use Rattle.update_pass.proofs.Read.{listed-old, listed-new, root-listed, named-place}
+use Rattle.update_pass.proofs.Read.{due-old, due-root, due-named, listed-old, listed-new, root-listed, named-place}
 use Rattle.update_pass.proofs.due_of.Statement.{statement}
 use Rattle.update_pass.proofs.due_of.Tie as tie
 

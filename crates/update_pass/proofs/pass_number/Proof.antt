@@ -1,7 +1,7 @@
 -- `update_pass::pass_number` meets its contract: the rows in their order. Assumes nothing.
 use borrow.Author.Needs.{needs}
 use Rattle.update_pass.specs.Rows.{passNumber}
-use Rattle.update_pass.proofs.Firsts.{due-room}
+use Rattle.update_pass.proofs.Rows.{due-room}
 use Rattle.base.proofs.Loops.{rows}
 use Rattle.update_pass.proofs.pass_number.Statement.{statement}
 use Rattle.update_pass.proofs.pass_number.Tie as tie

@@ -2,7 +2,7 @@
 use native.Mathlib.Omega.{arith}
 use borrow.Author.Needs.{needs}
 use Rattle.update_notes.proofs.Told.{few-listed}
-use Rattle.update_pass.proofs.Placing.{placed-past, placed-ten, placed-claimless, placed-eleven, placed-twelve, placed-claim}
+use Rattle.update_pass.proofs.Faults.{placed-past, placed-ten, placed-claimless, placed-eleven, placed-twelve, placed-claim}
 use Rattle.update_pass.proofs.placed.Statement.{statement}
 use Rattle.update_pass.proofs.placed.Tie as tie
 

@@ -3,7 +3,7 @@ use mathlib.Core.Path.{sym, ap, _∙_}
 use borrow.Author.Needs.{needs}
 use Rattle.ids.specs.Ids.{sameTree}
 use Rattle.update_pass.specs.Steps.{isTaken}
-use Rattle.update_pass.proofs.Placing.{untaken, taken}
+use Rattle.update_pass.proofs.Faults.{untaken, taken}
 use Rattle.update_pass.proofs.takes.Statement.{statement}
 use Rattle.update_pass.proofs.takes.Tie as tie
 

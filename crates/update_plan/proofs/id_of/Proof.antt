@@ -1,6 +1,6 @@
 -- `update_plan::id_of` meets its contract. Assumes nothing.
 use Rattle.update_notes.proofs.Told.{few-listed}
-use Rattle.update_plan.proofs.Ids.{id-old, id-new}
+use Rattle.update_plan.proofs.Planned.{id-old, id-new}
 use borrow.Author.Needs.{needs}
 use native.Mathlib.Omega.{arith}
 use Rattle.update_plan.proofs.id_of.Statement.{statement}

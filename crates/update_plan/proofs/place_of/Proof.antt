@@ -6,7 +6,7 @@ use Rattle.update_notes.specs.Codes.{codeId}
 use Rattle.update_notes.proofs.Told.{few-listed}
 use Rattle.update_plan.specs.Plan.{codeIn}
 use Rattle.update_plan.proofs.Codes.{Between, between-all, between-above, between-below, between-ends}
-use Rattle.update_plan.proofs.Ids.{among-valid}
+use Rattle.update_plan.proofs.Planned.{among-valid}
 use borrow.Author.Needs.{needs}
 use native.Mathlib.Omega.{arith}
 use Rattle.update_plan.proofs.place_of.Statement.{statement}

@@ -1,7 +1,7 @@
 -- `reading::mark` meets its contract. Assumes nothing.
 use mathlib.Core.Path.{_≡_}
 use Prim.Native.Nat.{_-_, _≤_}
-use Rattle.update_reading.proofs.Marks.{Marking, marking-begins, marking-past, marking-kept, marking-stored}
+use Rattle.update_reading.proofs.Reading.{Marking, marking-begins, marking-past, marking-kept, marking-stored}
 use native.Mathlib.Omega.{arith}
 use borrow.Author.Needs.{needs}
 use Rattle.update_reading.proofs.mark.Statement.{statement}

@@ -5,7 +5,7 @@ use mathlib.Core.Path.{_≡_, sym, ap, _∙_}
 use Prim.Native.Nat.{_-_, _≤_}
 use lib.ListN.{length}
 use Rattle.update_reports.specs.Slice.{slotsWith}
-use Rattle.update_reports.proofs.Slots.{slots-none, count-hit, count-miss}
+use Rattle.update_reports.proofs.Slice.{slots-none, count-hit, count-miss}
 use borrow.Author.Needs.{needs}
 use native.Mathlib.Omega.{arith}
 use Rattle.update_reports.proofs.count_of.Statement.{statement}

@@ -1,5 +1,5 @@
 -- `update_reports::is_marked` meets its contract: by the word of the node's slot. Assumes nothing.
-use Rattle.update_reports.proofs.Slots.{picked-absent, picked-there}
+use Rattle.update_reports.proofs.Slice.{picked-absent, picked-there}
 use borrow.Author.Needs.{needs}
 use Rattle.update_reports.proofs.is_marked.Statement.{statement}
 use Rattle.update_reports.proofs.is_marked.Tie as tie

@@ -1,5 +1,5 @@
 -- `update_reports::parent_changed` meets its contract: from a parent to none, or to another parent. Assumes nothing.
-use Rattle.update_reports.proofs.Links.{parent-lost, parent-changed-is}
+use Rattle.update_reports.proofs.Changed.{parent-lost, parent-changed-is}
 use borrow.Author.Needs.{needs}
 use Rattle.update_reports.proofs.parent_changed.Statement.{statement}
 use Rattle.update_reports.proofs.parent_changed.Tie as tie

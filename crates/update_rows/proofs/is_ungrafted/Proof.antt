@@ -6,7 +6,7 @@ use Rattle.base.proofs.Tests.{call-true, call-false}
 use Rattle.record_reader.specs.Reader.{batchIn}
 use Rattle.update.specs.Words.{withTreeData}
 use Rattle.update_rows.specs.Parts.{ungrafted}
-use Rattle.update_rows.proofs.Trees.{ungrafted-is}
+use Rattle.update_rows.proofs.Outcomes.{ungrafted-is}
 use borrow.Author.Needs.{needs}
 use Rattle.update_rows.proofs.is_ungrafted.Statement.{statement}
 use Rattle.update_rows.proofs.is_ungrafted.Tie as tie

@@ -12,7 +12,7 @@ use Rattle.ids.specs.declared.NodeId.{NodeId}
 use Rattle.record_reader.specs.Reader.{batchIn}
 use Rattle.update_notes.specs.Setting.{Batched}
 use Rattle.update_notes.proofs.Setting.{batched-facts}
-use Rattle.update_rows.proofs.Listed.{listedId, twice-found, twice-none}
+use Rattle.update_rows.proofs.Clashes.{listedId, twice-found, twice-none}
 use borrow.Author.Needs.{needs}
 use native.Mathlib.Omega.{arith}
 use Rattle.update_rows.proofs.listed_twice.Statement.{statement}

@@ -1,5 +1,5 @@
 -- `update_trees::root_goes` meets its contract: by the root's slot. Assumes nothing.
-use Rattle.update_trees.proofs.Roots.{absent-stays, mark-tells}
+use Rattle.update_trees.proofs.Entries.{absent-stays, mark-tells}
 use borrow.Author.Needs.{needs}
 use Rattle.update_trees.proofs.root_goes.Statement.{statement}
 use Rattle.update_trees.proofs.root_goes.Tie as tie

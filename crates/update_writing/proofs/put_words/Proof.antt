@@ -4,7 +4,7 @@ use mathlib.Core.Path.{_≡_}
 use Prim.Native.Nat.{_-_, _≤_}
 use lib.ListN.{length}
 use Rattle.update_writing.specs.Written.{puts}
-use Rattle.update_writing.proofs.Rows.{puts-none, puts-more}
+use Rattle.update_writing.proofs.Kids.{puts-none, puts-more}
 use borrow.Author.Needs.{needs}
 use native.Mathlib.Omega.{arith}
 use Rattle.update_writing.proofs.put_words.Statement.{statement}

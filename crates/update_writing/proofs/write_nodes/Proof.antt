@@ -8,9 +8,8 @@ use Rattle.base.proofs.Regions.{fills-none}
 use Rattle.state_array.specs.Stored.{linkRow}
 use Rattle.update_links.specs.Links.{linkWord}
 use Rattle.update_writing.specs.Written.{nodesAfter, nodesRegions}
-use Rattle.update_writing.proofs.Plan.{count-told, nodes-room, told-compared, code-there, id-there, link-there}
-use Rattle.update_writing.proofs.Rows.{node-more}
-use Rattle.update_writing.proofs.Sources.{body-there}
+use Rattle.update_writing.proofs.Plan.{count-told, nodes-room, told-compared, code-there, id-there, link-there, body-there}
+use Rattle.update_writing.proofs.Kids.{node-more}
 use borrow.Author.Needs.{needs}
 use native.Mathlib.Omega.{arith}
 use Rattle.update_writing.proofs.write_nodes.Statement.{statement}
