@@ -1,15 +1,14 @@
 -- Laws of the calls: what the bytes decide, the lent slice, tree numbers, the blank state. Assumes nothing.
+use Rattle.update.proofs.Numbers.{first-row, first-found}
 use mathlib.Core.Bool.{true, false, not}
 use mathlib.Core.List.{List, [], _∷_, _++_, map}
 use mathlib.Core.Option.{Option, none, some}
 use mathlib.Core.Path.{_≡_, refl, ap}
 use Prim.Native.Nat.{ℕ, zero, suc}
-use native.Mathlib.Omega.{arith}
 use lib.ListN.{length}
 use borrow.Author.Tests.{ltb-false}
 use Rattle.base.specs.Tests.{_&&_}
 use Rattle.base.specs.Tables.{row, first}
-use Rattle.base.proofs.Tables.{first-zero, first-found-zero}
 use Rattle.ids.specs.declared.TreeId.{TreeId}
 use Rattle.record.specs.Batch.{Batch}
 use Rattle.record.specs.Parse.{parse}
@@ -47,10 +46,8 @@ update-keeps-length s bytes slice = go (parse bytes)
     on : (b : Batch) (n : ℕ) → updateNumber s b slice ≡ n
         → length (judged n s slice (accepted s (after b) (changesOf (s .forest) b) slice) .slice) ≡ length slice
     on b zero e =
-        let after1 = first-zero _ _ (λ q _. omega arith) e in
-        let after20 = first-found-zero _ _ (after1 .1) in
-        let after21 = first-zero _ _ (λ q _. omega arith) (after20 .1) in
-        length-lent slice (changesOf (s .forest) b) (ltb-false (length slice) (length (changeWords (changesOf (s .forest) b))) (after21 .0))
+        let z = simp (first-row, first-found) at e in
+        length-lent slice (changesOf (s .forest) b) (ltb-false (length slice) (length (changeWords (changesOf (s .forest) b))) (z .1 .1 .0))
     on b (suc n) e = refl
 
     go : (o : Option Batch) → length (updateOf s slice o .slice) ≡ length slice

@@ -6,10 +6,10 @@ use mathlib.Core.Path.{_≡_, refl, sym, ap, _∙_}
 use Prim.Native.Nat.{_+_, _≤_}
 use native.Mathlib.Omega.{arith}
 use lib.ListN.{length, length-map}
-use Rattle.base.specs.Tests.{_&&_, if_then_else_, isSome, any, all, keep, has, distinct}
-use Rattle.base.proofs.Tests.{both, joined, or-absorb, or-swap, or-right, all-keep}
+use Rattle.base.specs.Tests.{_&&_, if_then_else_, isSome, all, keep, has, distinct}
+use Rattle.base.proofs.Tests.{both, or-absorb, or-swap, or-right, all-keep}
 use Rattle.base.proofs.Lists.{all-map, count-rest}
-use Rattle.ids.specs.Ids.{sameIndex, sameNode, sameId, before}
+use Rattle.ids.specs.Ids.{sameIndex, sameNode, sameId}
 use Rattle.ids.proofs.Ids.{same-id→≡}
 use Rattle.ids.specs.declared.TreeIndex.{TreeIndex}
 use Rattle.ids.specs.declared.FullNodeId.{FullNodeId}
@@ -21,7 +21,7 @@ use Rattle.state.proofs.Order.{find-keep, ascending-keep, find-map, ascending-m
 use Rattle.update.specs.Words.{listing, number, mine, listed}
 use Rattle.update.specs.Gone.{gone}
 use Rattle.update.specs.Outcome.{renewed, write, writeAll, written, linkAfter, relink, outcome}
-use Rattle.update.proofs.Write.{merged, listing-some, ascending-write-all, length-write-all, find-write-all}
+use Rattle.update.proofs.Write.{merged, listing-some, ascending-write-all, length-write-all, find-write-all, write-cases, all-write}
 
 -- ## Writing
 
@@ -30,18 +30,11 @@ pub has-write : (y : FullNodeId) (d : NodeData) (ns : List NodeState) (x : FullN
     → has sameId (idsOf (write y d ns)) x ≡ (sameId x y || has sameId (idsOf ns) x)
 unfolding write idsOf
 has-write y d [] x = refl
-has-write y d (n ∷ ns) x = go (sameId y (n .id)) refl (before y (n .id)) (has-write y d ns x)
-  where
-    rest : List NodeState
-    rest = write y d ns
-
-    go : (c : Bool) → sameId y (n .id) ≡ c → (e : Bool) → any (sameId x) (idsOf rest) ≡ (sameId x y || any (sameId x) (idsOf ns))
-        → any (sameId x) (idsOf (if c then record { id = n .id; parentAndIndex = n .parentAndIndex; body = renewed (n .body) d } ∷ ns
-        else if e then record { id = y; parentAndIndex = none; body = d } ∷ n ∷ ns else n ∷ rest))
-        ≡ (sameId x y || (sameId x (n .id) || any (sameId x) (idsOf ns)))
-    go true q e h = rw (same-id→≡ y (n .id) q) (sym (or-absorb (sameId x (n .id)) (any (sameId x) (idsOf ns))))
-    go false q true h = refl
-    go false q false h = ap (λ (t : Bool). sameId x (n .id) || t) h ∙ or-swap (sameId x (n .id)) (sameId x y) (any (sameId x) (idsOf ns))
+has-write y d (n ∷ ns) x =
+    write-cases (λ l. has sameId (idsOf l) x ≡ (sameId x y || has sameId (idsOf (n ∷ ns)) x)) y d n ns
+    (λ q. rw (same-id→≡ y (n .id) q) (sym (or-absorb (sameId x (n .id)) (has sameId (idsOf ns) x))))
+    (λ _ _. refl)
+    (λ _ _. ap (λ (t : Bool). sameId x (n .id) || t) (has-write y d ns x) ∙ or-swap (sameId x (n .id)) (sameId x y) (has sameId (idsOf ns) x))
 
 -- what was there stays there
 pub has-write-all : (t : TreeIndex) (ls : List Listed) (ns : List NodeState) (x : FullNodeId)
@@ -197,17 +190,7 @@ module _ (p : NodeData → Bool) where
 
   -- one node written
   holds-write : (x : FullNodeId) (d : NodeData) (ns : List NodeState) → p d ≡ true → Holds ns → Holds (write x d ns)
-  unfolding write
-  holds-write x d [] f e = joined f e
-  holds-write x d (n ∷ ns) f e = go (sameId x (n .id)) (before x (n .id)) (holds-write x d ns f (both e .1))
-    where
-      go : (c k : Bool) → Holds (write x d ns)
-          → Holds (if c then record { id = n .id; parentAndIndex = n .parentAndIndex; body = renewed (n .body) d } ∷ ns
-          else if k then record { id = x; parentAndIndex = none; body = d } ∷ n ∷ ns
-          else n ∷ write x d ns)
-      go true k h = joined (holds-renewed (n .body) d (both e .0) f) (both e .1)
-      go false true h = joined f e
-      go false false h = joined (both e .0) h
+  holds-write x d ns f e = all-write (λ n. p (n .body)) x d f (λ n h. holds-renewed (n .body) d h f) ns e
 
   -- all listed nodes written
   holds-write-all : (t : TreeIndex) (ls : List Listed) (ns : List NodeState) → all (λ l. p (l .body)) ls ≡ true → Holds ns → Holds (writeAll t ls ns)

@@ -1,5 +1,6 @@
 -- Laws of the pass: every listed node that has a place is placed, and a pass without number places no node that claims ROOT.
 -- Assumes nothing.
+use Rattle.record.proofs.Batch.{named-append}
 use mathlib.Core.Bool.{Bool, true, false, not, _||_, true≢false, false≢true}
 use mathlib.Core.List.{List, [], _∷_, _++_, append-assoc, List·Memᴰ, List·Memᴰ·head, List·Memᴰ·tail, Memᴰ·append-left, Memᴰ·append-right}
 use mathlib.Core.Option.{Option, none, some}
@@ -42,18 +43,12 @@ listing-snoc xs l n c e q = rw (listing-append xs (l ∷ []) n, e) (ap (λ (t : 
     go true = refl
     go false = refl
 
--- the children named by two lists in a row
-named-ids-append : (xs ys : List Listed) → namedIds (xs ++ ys) ≡ namedIds xs ++ namedIds ys
-unfolding namedIds
-named-ids-append [] ys = refl
-named-ids-append (x ∷ xs) ys = ap (λ (ns : List NodeId). x .body .children ++ ns) (named-ids-append xs ys) ∙ sym (append-assoc (x .body .children) (namedIds xs) (namedIds ys))
-
 -- the children named by a list, told at one of its nodes
 named-ids-split : (xs : List Listed) (l : Listed) (ls : List Listed) (n : NodeId)
     → has sameNode (namedIds (xs ++ l ∷ ls)) n ≡ (has sameNode (namedIds xs ++ l .body .children) n || has sameNode (namedIds ls) n)
 unfolding namedIds
 named-ids-split xs l ls n =
-    ap (λ (ns : List NodeId). has sameNode ns n) (named-ids-append xs (l ∷ ls) ∙ sym (append-assoc (namedIds xs) (l .body .children) (namedIds ls)))
+    ap (λ (ns : List NodeId). has sameNode ns n) (named-append xs (l ∷ ls) ∙ sym (append-assoc (namedIds xs) (l .body .children) (namedIds ls)))
     ∙ any-append (sameNode n) (namedIds xs ++ l .body .children) (namedIds ls)
 
 -- a node is named where it is among the children of a listed node

@@ -1,33 +1,32 @@
 -- Laws of the reports: an accepted batch leaves exactly the nodes before it, with the added ones joined and the removed ones taken away;
 -- each list is told of the old nodes and the batch; the lists are sorted; the lent slice keeps its length. Assumes nothing.
 use mathlib.Core.Bool.{Bool, true, false, not, _||_, false≢true}
-use mathlib.Core.List.{List, [], _∷_, List·Memᴰ}
+use mathlib.Core.List.{List, [], _∷_}
 use mathlib.Core.Option.{Option, none, some}
 use mathlib.Core.Path.{_≡_, refl, sym, ap, ap₂, _∙_}
 use Prim.Native.Nat.{ℕ, _≤_}
 use native.Mathlib.Omega.{arith}
 use lib.ListN.{length, length-append, length-drop}
-use Rattle.base.specs.Tests.{_&&_, if_then_else_, isSome, any, all, keep, sameOption, has, distinct}
-use Rattle.base.proofs.Tests.{both, joined, and-false, and-right, iff, all-keep, has-keep}
-use Rattle.base.proofs.Lists.{any-of, any-found}
+use Rattle.base.specs.Tests.{_&&_, if_then_else_, isSome, keep, sameOption, has, distinct}
+use Rattle.base.proofs.Tests.{both, joined, all-keep, has-keep}
+use Rattle.base.proofs.Lists.{all-map}
 use Rattle.ids.specs.Ids.{sameNode, sameId, before}
-use Rattle.ids.proofs.Ids.{same-index→≡, same-id→≡, same-index-refl}
+use Rattle.ids.proofs.Ids.{same-id→≡}
 use Rattle.ids.specs.declared.FullNodeId.{FullNodeId}
-use Rattle.record.specs.Batch.{NodeData, fieldsOk, sameData, Listed, Batch, listedIds}
+use Rattle.record.specs.Batch.{NodeData, fieldsOk, sameData, Batch, listedIds}
 use Rattle.record.proofs.Batch.{same-data-refl}
 use Rattle.state.specs.State.{ParentAndIndex, sameLink, NodeState, idsOf, Forest, find, present, linkAt, parentOf, parentAt}
 use Rattle.state.specs.Sound.{ascending, soundShape, sound}
-use Rattle.state.proofs.State.{present-has, find-id, find-member, find-self}
+use Rattle.state.proofs.State.{present-has}
 use Rattle.state.proofs.Order.{ascending-keep}
 use Rattle.state.proofs.Sound.{shape-parts, sound-parts}
-use Rattle.update.specs.Words.{listing, number, here, mine, listed}
+use Rattle.update.specs.Words.{listing, mine, listed}
 use Rattle.update.specs.Gone.{gone}
 use Rattle.update.specs.Outcome.{renewed, written, linkAfter, outcome}
 use Rattle.update.specs.Reports.{Changes, sorted, added, removed, isUpdated, updated, isRelinked, relinked, changesWith, changesOf, changeWords, lent}
-use Rattle.update.specs.Numbers.{updatedAndRemoved}
 use Rattle.update.proofs.Gone.{gone-old}
-use Rattle.update.proofs.Outcome.{old-written, present-outcome, bodyAfter, nodeAfter, find-old-outcome, present-after}
-use Rattle.update.proofs.Write.{listing-some, listing-member, listing-found}
+use Rattle.update.proofs.Outcome.{old-written, present-outcome, bodyAfter, nodeAfter, find-old-outcome}
+use Rattle.update.proofs.Write.{listing-some}
 
 -- ## Added and removed
 
@@ -102,35 +101,7 @@ module _ (s : Forest) (b : Batch) where
       go true (some d) l h = rw (← h) (new d (sameData (n .body) d) refl)
       go false o l h = kept
 
-  -- the data of a node of the batch's tree, by what is listed of it
-  data-changed-at : (n : NodeState) (d : NodeData) → mine s b (n .id) ≡ true → listing (b .nodes) (n .id .node) ≡ some d
-      → dataChanged n ≡ not (sameData (n .body) d)
-  unfolding dataChanged listed _&&_
-  data-changed-at n d e f = rw (e, ← listing-some (b .nodes) (n .id .node), f)
-
-  -- a node whose data changes is of the batch's tree and listed with other data
-  data-changed-from : (n : NodeState) → dataChanged n ≡ true
-      → (d : NodeData) × (mine s b (n .id) ≡ true) × (listing (b .nodes) (n .id .node) ≡ some d) × (not (sameData (n .body) d) ≡ true)
-  unfolding dataChanged listed
-  data-changed-from n e = go (listing (b .nodes) (n .id .node)) refl (both e .1)
-    where
-      go : (o : Option NodeData) → listing (b .nodes) (n .id .node) ≡ o
-          → _≡_ {A = Bool} (elim o [ none ↦ false | some d ↦ not (sameData (n .body) d) ]) true
-          → (d : NodeData) × (mine s b (n .id) ≡ true) × (listing (b .nodes) (n .id .node) ≡ some d) × (not (sameData (n .body) d) ≡ true)
-      go none q f = absurd (false≢true f)
-      go (some d) q f = (d, both (both e .0) .0, q, f)
-
   module _ (ordered : ascending (s .nodes) ≡ true) (once : distinct sameNode (listedIds (b .nodes)) ≡ true) where
-    -- a new node is a listed one
-    pub added-is : (x : FullNodeId) → present (outcome s b .nodes) x ≡ true → not (present (s .nodes) x) ≡ (listed s b x && not (present (s .nodes) x))
-    unfolding _&&_
-    added-is x e = go (gone s b x) (present (s .nodes) x) (listed s b x) (sym (present-after s b ordered once x) ∙ e)
-      where
-        go : (g o l : Bool) → (not g && (o || l)) ≡ true → not o ≡ (l && not o)
-        go true o l h = absurd (false≢true h)
-        go false true l h = sym (and-false l)
-        go false false l h = sym (and-right l ∙ h)
-
     -- an old node is updated where it does not go and its data or its link changes or it is marked
     pub updated-is : (n : NodeState) → find (n .id) (s .nodes) ≡ some n → fieldsOk (n .body) ≡ true
         → (marked : FullNodeId → Bool)
@@ -169,44 +140,12 @@ module _ (s : Forest) (b : Batch) where
         go true = refl
         go false = refl
 
-    -- row 18, by the old nodes: one goes and is listed with other data
-    pub row18-is : any (updatedAndRemoved s b) (b .nodes) ≡ any (λ n. gone s b (n .id) && dataChanged n) (s .nodes)
-    unfolding updatedAndRemoved here mine
-    row18-is = iff (λ e. of-listed (any-found (updatedAndRemoved s b) (b .nodes) e)) (λ e. of-old (any-found goesChanged (s .nodes) e))
-      where
-        goesChanged : NodeState → Bool
-        goesChanged n = gone s b (n .id) && dataChanged n
-
-        of-listed : (l : Listed) × List·Memᴰ l (b .nodes) × (updatedAndRemoved s b l ≡ true) → any goesChanged (s .nodes) ≡ true
-        of-listed (l, i, e) = go (find (here s b (l .id)) (s .nodes)) refl (both e .1)
-          where
-            go : (o : Option NodeState) → find (here s b (l .id)) (s .nodes) ≡ o
-                → _≡_ {A = Bool} (elim o [ none ↦ false | some n ↦ not (sameData (n .body) (l .body)) ]) true → any goesChanged (s .nodes) ≡ true
-            go none q f = absurd (false≢true f)
-            go (some n) q f =
-                let at : n .id ≡ here s b (l .id) = find-id (s .nodes) (here s b (l .id)) n q in
-                let changed : dataChanged n ≡ not (sameData (n .body) (l .body)) =
-                data-changed-at n (l .body) (rw at (same-index-refl (number s b))) (rw at (listing-member (b .nodes) l once i)) in
-                any-of goesChanged (s .nodes) n (find-member (s .nodes) (here s b (l .id)) n q) (joined (rw at (both e .0)) (changed ∙ f))
-
-        of-old : (n : NodeState) × List·Memᴰ n (s .nodes) × (goesChanged n ≡ true) → any (updatedAndRemoved s b) (b .nodes) ≡ true
-        of-old (n, i, e) =
-            let z = data-changed-from n (both e .1) in
-            let at : here s b (n .id .node) ≡ n .id =
-            λ k. record { tree = sym (same-index→≡ (n .id .tree) (number s b) (z .1)) k; node = n .id .node } in
-            any-of (updatedAndRemoved s b) (b .nodes) (record { id = n .id .node; body = z .0 }) (listing-found (b .nodes) (n .id .node) (z .0) (z .2))
-            (joined (rw at (both e .0)) (rw (at, find-self (s .nodes) n ordered i) (z .3)))
-
 -- ## The lists are sorted, so a length is the number of ids in its set
 
 pub sorted-ids : (ns : List NodeState) → ascending ns ≡ true → sorted (idsOf ns) ≡ true
 unfolding sorted ascending idsOf
 sorted-ids [] e = refl
-sorted-ids (n ∷ ns) e = joined (all-ids (before (n .id)) ns ∙ both e .0) (sorted-ids ns (both e .1))
-  where
-    all-ids : (p : FullNodeId → Bool) (ms : List NodeState) → all p (idsOf ms) ≡ all (λ m. p (m .id)) ms
-    all-ids p [] = refl
-    all-ids p (m ∷ ms) = ap {B = Bool} (λ c. p (m .id) && c) (all-ids p ms)
+sorted-ids (n ∷ ns) e = joined (all-map (before (n .id)) (λ m. m .id) ns ∙ both e .0) (sorted-ids ns (both e .1))
 
 pub sorted-keep : (q : FullNodeId → Bool) (xs : List FullNodeId) → sorted xs ≡ true → sorted (keep q xs) ≡ true
 unfolding sorted

@@ -1,4 +1,5 @@
 -- What an accepted batch has passed, and that its outcome is sound. Assumes nothing.
+use Rattle.update.proofs.Numbers.{first-row, first-found}
 use mathlib.Core.Bool.{Bool, true, false, not, true≢false}
 use mathlib.Core.List.{List, [], _∷_, _++_}
 use mathlib.Core.Option.{Option, none, some}
@@ -10,7 +11,6 @@ use lib.ListN.{length, length-append}
 use borrow.Author.Tests.{leb-true, leb-false, le-leb, ltb-false}
 use Rattle.base.specs.Tests.{_&&_, if_then_else_, isNone, any, all, distinct}
 use Rattle.base.proofs.Tests.{not-false}
-use Rattle.base.proofs.Tables.{first-zero, first-found-zero}
 use Rattle.ids.specs.Ids.{ROOT, sameTree, sameNode}
 use Rattle.ids.specs.declared.FullNodeId.{FullNodeId}
 use Rattle.record.specs.Batch.{fieldsOk, Batch, listedIds, namedIds}
@@ -47,35 +47,22 @@ pub record Passed (s : Forest) (b : Batch) : Type 0 where
 pub passed : (s : Forest) (b : Batch) → batchNumber s b ≡ 0 → Passed s b
 unfolding batchNumber rowsBeforePass rowsAfterPass
 passed s b e =
-    let after5 = first-zero _ _ (λ q _. omega arith) e in
-    let after6 = first-zero _ _ (λ q _. omega arith) (after5 .1) in
-    let after7 = first-zero _ _ (λ q _. omega arith) (after6 .1) in
-    let after8 = first-zero _ _ (λ q _. omega arith) (after7 .1) in
-    let after-pass = first-found-zero _ _ (after8 .1) in
-    let after13 = first-zero _ _ (λ q _. omega arith) (after-pass .1) in
-    let after14 = first-zero _ _ (λ q _. omega arith) (after13 .1) in
-    let after12 = first-zero _ _ (λ q _. omega arith) (after14 .1) in
-    let after15 = first-zero _ _ (λ q _. omega arith) (after12 .1) in
-    let after16 = first-zero _ _ (λ q _. omega arith) (after15 .1) in
-    let after17 = first-zero _ _ (λ q _. omega arith) (after16 .1) in
-    let after18 = first-zero _ _ (λ q _. omega arith) (after17 .1) in
-    let after19 = first-zero _ _ (λ q _. omega arith) (after18 .1) in
-    let after20 = first-zero _ _ (λ q _. omega arith) (after19 .1) in
+    let z = simp (first-row, first-found) at e in
     record {
-      row5 = after5 .0;
-      row6 = after6 .0;
-      row7 = after7 .0;
-      row8 = after8 .0;
-      row9-to-12 = after-pass .0;
-      row13 = after13 .0;
-      row14 = after14 .0;
-      row12 = after12 .0;
-      row15 = after15 .0;
-      row16 = after16 .0;
-      row17 = after17 .0;
-      row18 = after18 .0;
-      row19 = after19 .0;
-      row20 = after20 .0;
+      row5 = z .0;
+      row6 = z .1 .0;
+      row7 = z .1 .1 .0;
+      row8 = z .1 .1 .1 .0;
+      row9-to-12 = z .1 .1 .1 .1 .0;
+      row13 = z .1 .1 .1 .1 .1 .0;
+      row14 = z .1 .1 .1 .1 .1 .1 .0;
+      row12 = z .1 .1 .1 .1 .1 .1 .1 .0;
+      row15 = z .1 .1 .1 .1 .1 .1 .1 .1 .0;
+      row16 = z .1 .1 .1 .1 .1 .1 .1 .1 .1 .0;
+      row17 = z .1 .1 .1 .1 .1 .1 .1 .1 .1 .1 .0;
+      row18 = z .1 .1 .1 .1 .1 .1 .1 .1 .1 .1 .1 .0;
+      row19 = z .1 .1 .1 .1 .1 .1 .1 .1 .1 .1 .1 .1 .0;
+      row20 = z .1 .1 .1 .1 .1 .1 .1 .1 .1 .1 .1 .1 .1 .0;
     }
 
 -- ## Tree numbers

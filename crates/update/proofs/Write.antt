@@ -1,16 +1,16 @@
 -- Laws of writing: it keeps the order by id, adds at most what is listed, and what is found afterwards is told by what is listed. Assumes nothing.
-use mathlib.Core.Bool.{Bool, true, false, not, true≢false}
-use mathlib.Core.List.{List, [], _∷_, List·Memᴰ, List·Memᴰ·head, List·Memᴰ·tail}
-use mathlib.Core.Option.{Option, none, some, Option·none-ne-some, Option·some-injective}
+use mathlib.Core.Bool.{Bool, true, false, not}
+use mathlib.Core.List.{List, [], _∷_}
+use mathlib.Core.Option.{Option, none, some}
 use mathlib.Core.Path.{_≡_, refl, sym, ap, _∙_}
 use Prim.Native.Nat.{suc, _+_, _≤_}
 use native.Mathlib.Omega.{arith}
 use lib.ListN.{length}
-use Rattle.base.specs.Tests.{_&&_, if_then_else_, isSome, all, has, distinct, firstGiven}
-use Rattle.base.proofs.Tests.{both, joined, not-true}
-use Rattle.base.proofs.Lists.{first-given-some, has-map, any-map, none-of}
+use Rattle.base.specs.Tests.{_&&_, if_then_else_, isSome, all, has, distinct}
+use Rattle.base.proofs.Tests.{both, joined}
+use Rattle.base.proofs.Lists.{first-given-some, any-map, none-of}
 use Rattle.ids.specs.Ids.{sameIndex, sameNode, sameId, before}
-use Rattle.ids.proofs.Ids.{same-node→≡, same-node-refl, same-id→≡, same-id-refl, before-trans, before-total}
+use Rattle.ids.proofs.Ids.{same-node→≡, same-id→≡, same-id-refl, before-trans, before-total}
 use Rattle.ids.specs.declared.TreeIndex.{TreeIndex}
 use Rattle.ids.specs.declared.NodeId.{NodeId}
 use Rattle.ids.specs.declared.FullNodeId.{FullNodeId}
@@ -34,20 +34,27 @@ unfoldable pub merged : FullNodeId → NodeData → Option NodeState → NodeSta
 merged x d none = fresh x d
 merged x d (some n) = over n d
 
--- ## The order
-
--- a test of ids that x passes and all nodes pass, all pass after x is written
-all-write : (p : FullNodeId → Bool) (x : FullNodeId) (d : NodeData) (ns : List NodeState) → p x ≡ true → all (λ n. p (n .id)) ns ≡ true
-    → all (λ n. p (n .id)) (write x d ns) ≡ true
+-- the three ways to write before the end of a list: over its first node, before it, or after it
+pub write-cases : (P : List NodeState → Type 0) (x : FullNodeId) (d : NodeData) (n : NodeState) (ns : List NodeState) → (sameId x (n .id) ≡ true → P (over n d ∷ ns))
+    → (sameId x (n .id) ≡ false → before x (n .id) ≡ true → P (fresh x d ∷ n ∷ ns))
+    → (sameId x (n .id) ≡ false → before x (n .id) ≡ false → P (n ∷ write x d ns)) → P (write x d (n ∷ ns))
 unfolding write
-all-write p x d [] h e = joined h refl
-all-write p x d (n ∷ ns) h e = go (sameId x (n .id)) (before x (n .id)) (all-write p x d ns h (both e .1))
+write-cases P x d n ns same front back = go (sameId x (n .id)) refl (before x (n .id)) refl
   where
-    go : (c k : Bool) → all (λ n. p (n .id)) (write x d ns) ≡ true
-        → all (λ n. p (n .id)) (if c then over n d ∷ ns else if k then fresh x d ∷ n ∷ ns else n ∷ write x d ns) ≡ true
-    go true k r = e
-    go false true r = joined h e
-    go false false r = joined (both e .0) r
+    go : (c : Bool) → sameId x (n .id) ≡ c → (k : Bool) → before x (n .id) ≡ k → P (if c then over n d ∷ ns else if k then fresh x d ∷ n ∷ ns else n ∷ write x d ns)
+    go true q k f = same q
+    go false q true f = front q f
+    go false q false f = back q f
+
+-- a test that the new node passes, and each old one still passes once it is written over
+pub all-write : (p : NodeState → Bool) (x : FullNodeId) (d : NodeData) → p (fresh x d) ≡ true → ((n : NodeState) → p n ≡ true → p (over n d) ≡ true)
+    → (ns : List NodeState) → all p ns ≡ true → all p (write x d ns) ≡ true
+unfolding write
+all-write p x d h k [] e = joined h refl
+all-write p x d h k (n ∷ ns) e =
+    write-cases (λ l. all p l ≡ true) x d n ns (λ _. joined (k n (both e .0)) (both e .1)) (λ _ _. joined h e) (λ _ _. joined (both e .0) (all-write p x d h k ns (both e .1)))
+
+-- ## The order
 
 -- what comes before an id comes before all nodes that the id comes before
 all-further : (x y : FullNodeId) (ns : List NodeState) → before x y ≡ true → all (λ n. before y (n .id)) ns ≡ true → all (λ n. before x (n .id)) ns ≡ true
@@ -57,13 +64,9 @@ all-further x y (n ∷ ns) h e = joined (before-trans x y (n .id) h (both e .0))
 pub ascending-write : (x : FullNodeId) (d : NodeData) (ns : List NodeState) → ascending ns ≡ true → ascending (write x d ns) ≡ true
 unfolding write ascending
 ascending-write x d [] e = joined refl refl
-ascending-write x d (n ∷ ns) e = go (sameId x (n .id)) refl (before x (n .id)) refl (ascending-write x d ns (both e .1))
-  where
-    go : (c : Bool) → sameId x (n .id) ≡ c → (k : Bool) → before x (n .id) ≡ k → ascending (write x d ns) ≡ true
-        → ascending (if c then over n d ∷ ns else if k then fresh x d ∷ n ∷ ns else n ∷ write x d ns) ≡ true
-    go true q k f r = e
-    go false q true f r = joined (joined f (all-further x (n .id) ns f (both e .0))) e
-    go false q false f r = joined (all-write (before (n .id)) x d ns (before-total x (n .id) q f) (both e .0)) r
+ascending-write x d (n ∷ ns) e =
+    write-cases (λ l. ascending l ≡ true) x d n ns (λ _. e) (λ _ f. joined (joined f (all-further x (n .id) ns f (both e .0))) e)
+    (λ q f. joined (all-write (λ m. before (n .id) (m .id)) x d (before-total x (n .id) q f) (λ m h. h) ns (both e .0)) (ascending-write x d ns (both e .1)))
 
 pub ascending-write-all : (t : TreeIndex) (ls : List Listed) (ns : List NodeState) → ascending ns ≡ true → ascending (writeAll t ls ns) ≡ true
 unfolding writeAll
@@ -76,13 +79,9 @@ ascending-write-all t (l ∷ ls) ns e =
 length-write : (x : FullNodeId) (d : NodeData) (ns : List NodeState) → length (write x d ns) ≤ suc (length ns)
 unfolding write
 length-write x d [] = omega arith
-length-write x d (n ∷ ns) = go (sameId x (n .id)) (before x (n .id)) (length-write x d ns)
-  where
-    go : (c k : Bool) → length (write x d ns) ≤ suc (length ns)
-        → length (if c then over n d ∷ ns else if k then fresh x d ∷ n ∷ ns else n ∷ write x d ns) ≤ suc (suc (length ns))
-    go true k h = omega arith
-    go false true h = omega arith
-    go false false h = omega arith
+length-write x d (n ∷ ns) =
+    let rest = length-write x d ns in
+    write-cases (λ l. length l ≤ suc (suc (length ns))) x d n ns (λ _. omega arith) (λ _ _. omega arith) (λ _ _. omega arith)
 
 pub length-write-all : (t : TreeIndex) (ls : List Listed) (ns : List NodeState) → length (writeAll t ls ns) ≤ length ns + length ls
 unfolding writeAll
@@ -97,58 +96,22 @@ length-write-all t (l ∷ ls) ns =
 pub find-write : (x : FullNodeId) (d : NodeData) (ns : List NodeState) → ascending ns ≡ true → find x (write x d ns) ≡ some (merged x d (find x ns))
 unfolding write find ascending merged
 find-write x d [] e = rw (same-id-refl x)
-find-write x d (n ∷ ns) e = go (sameId x (n .id)) refl (before x (n .id)) refl (find-write x d ns (both e .1))
-  where
-    go : (c : Bool) → sameId x (n .id) ≡ c → (k : Bool) → before x (n .id) ≡ k → find x (write x d ns) ≡ some (merged x d (find x ns))
-        → find x (if c then over n d ∷ ns else if k then fresh x d ∷ n ∷ ns else n ∷ write x d ns) ≡ some (merged x d (if c then some n else find x ns))
-    go true q k f r = rw q
-    go false q true f r = rw (same-id-refl x, find-none x ns (all-further x (n .id) ns f (both e .0)))
-    go false q false f r = rw q r
+find-write x d (n ∷ ns) e =
+    write-cases (λ l. find x l ≡ some (merged x d (find x (n ∷ ns)))) x d n ns (λ q. rw q)
+    (λ q f. rw (same-id-refl x, q, find-none x ns (all-further x (n .id) ns f (both e .0)))) (λ q _. rw q (find-write x d ns (both e .1)))
 
 -- another node
 pub find-write-other : (x y : FullNodeId) (d : NodeData) (ns : List NodeState) → sameId y x ≡ false → find y (write x d ns) ≡ find y ns
 unfolding write find
 find-write-other x y d [] h = rw h
-find-write-other x y d (n ∷ ns) h = go (sameId x (n .id)) refl (before x (n .id)) (find-write-other x y d ns h)
-  where
-    go : (c : Bool) → sameId x (n .id) ≡ c → (k : Bool) → find y (write x d ns) ≡ find y ns
-        → find y (if c then over n d ∷ ns else if k then fresh x d ∷ n ∷ ns else n ∷ write x d ns) ≡ (if sameId y (n .id) then some n else find y ns)
-    go true q k r = rw (ap (sameId y) (sym (same-id→≡ x (n .id) q)) ∙ h) refl
-    go false q true r = rw h
-    go false q false r = rw r
+find-write-other x y d (n ∷ ns) h =
+    write-cases (λ l. find y l ≡ find y (n ∷ ns)) x d n ns (λ q. rw (ap (sameId y) (sym (same-id→≡ x (n .id) q)) ∙ h)) (λ _ _. rw h)
+    (λ _ _. rw (find-write-other x y d ns h))
 
 -- a node number has listed data where it is listed
 pub listing-some : (ls : List Listed) (n : NodeId) → isSome (listing ls n) ≡ has sameNode (listedIds ls) n
 unfolding listing listedIds
 listing-some ls n = first-given-some (λ l. sameNode n (l .id)) (λ l. l .body) ls ∙ sym (any-map (sameNode n) (λ l. l .id) ls)
-
--- the data of a listed node
-pub listing-member : (ls : List Listed) (l : Listed) → distinct sameNode (listedIds ls) ≡ true → List·Memᴰ l ls → listing ls (l .id) ≡ some (l .body)
-unfolding listing listedIds
-listing-member (k ∷ ls) l u (List·Memᴰ·head q) = rw (q, firstGiven, same-node-refl (k .id))
-listing-member (k ∷ ls) l u (List·Memᴰ·tail i) = go (sameNode (l .id) (k .id)) refl (listing-member ls l (both u .1) i)
-  where
-    go : (c : Bool) → sameNode (l .id) (k .id) ≡ c → listing ls (l .id) ≡ some (l .body)
-        → _≡_ {A = Option NodeData} (elim (if c then some (k .body) else none) [ none ↦ listing ls (l .id) | some d ↦ some d ]) (some (l .body))
-    go true q h =
-        let here : has sameNode (listedIds ls) (l .id) ≡ true = has-map sameNode same-node-refl (λ m. m .id) ls l i in
-        absurd (true≢false (sym here ∙ rw (same-node→≡ (l .id) (k .id) q) (not-true (both u .0))))
-    go false q h = h
-
--- a node with listed data is listed
-pub listing-found : (ls : List Listed) (n : NodeId) (d : NodeData) → listing ls n ≡ some d → List·Memᴰ (record { id = n; body = d }) ls
-unfolding listing
-listing-found [] n d e = absurd (Option·none-ne-some d e)
-listing-found (k ∷ ls) n d e = go (sameNode n (k .id)) refl e (listing-found ls n d)
-  where
-    go : (c : Bool) → sameNode n (k .id) ≡ c
-        → _≡_ {A = Option NodeData} (elim (if c then some (k .body) else none) [ none ↦ listing ls n | some d ↦ some d ]) (some d)
-        → (listing ls n ≡ some d → List·Memᴰ (record { id = n; body = d }) ls) → List·Memᴰ (record { id = n; body = d }) (k ∷ ls)
-    go true q f h =
-        let p : n ≡ k .id = same-node→≡ n (k .id) q in
-        let r : d ≡ k .body = sym (Option·some-injective (k .body) d f) in
-        List·Memᴰ·head (λ i. record { id = p i; body = r i })
-    go false q f h = List·Memᴰ·tail (h f)
 
 -- the node of x after what is listed of it, if anything, is written on what was found
 abbrev laid : FullNodeId → Option NodeData → Option NodeState → Option NodeState

@@ -1,19 +1,19 @@
--- Laws of a node's data as its words: what a record says of a listed node, and what a slot holds, is the image of the data. Assumes nothing.
+-- Laws of the data of a listed node and of a slot, and of the bit patterns of floats. Assumes nothing.
 use mathlib.Core.Bool.{Bool, true, false}
-use mathlib.Core.List.{List, map}
-use mathlib.Core.Path.{_≡_, refl, sym, ap, _∙_}
+use mathlib.Core.List.{List, map, [], _∷_}
+use mathlib.Core.Path.{_≡_, refl, sym, ap, _∙_, ap₂}
 use Prim.Native.Nat.{ℕ, _+_, _*_, _/_, _%_, _^_, _<_}
 use native.Mathlib.Nat.{mod-lt}
 use native.Mathlib.Omega.{arith}
 use lib.Dec.{ltb}
-use lib.Ieee.{ofBits, toBits, binary64}
+use lib.Ieee.{ofBits, toBits, binary64, fits}
 use lib.ListN.{length, drop}
-use borrow.Author.Tests.{lt-ltb}
-use Rattle.base.specs.Tests.{if_then_else_}
+use borrow.Author.Tests.{lt-ltb, ltb-true}
+use Rattle.base.specs.Tests.{if_then_else_, all}
 use Rattle.base.specs.Bytes.{le, listOf}
 use Rattle.base.proofs.Bytes.{all-list-of}
 use Rattle.base.proofs.Indexed.{list-of-cong}
-use Rattle.record.specs.Batch.{fieldsOk}
+use Rattle.record.specs.Batch.{fieldsOk, NodeData}
 use Rattle.record.specs.Layout.{nodeCount, recordAt, labelAt, labelStart, labelLength}
 use Rattle.record.specs.Parse.{nodeOf, wellFormed}
 use Rattle.record.proofs.Parse.{record-facts}
@@ -23,10 +23,35 @@ use Rattle.state_array.specs.Layout.{word, LABEL, FLOATS}
 use Rattle.state_array.specs.View.{labelByte, labelIn, boundsIn, transformIn, bodyIn}
 use Rattle.state_array.specs.Stored.{labelWord, floatsOf, bodyOf, DataFits}
 use Rattle.state_array.specs.declared.Body.{Body}
-use Rattle.state_array.proofs.Labels.{areBytes, le-below, bytes-drop}
+use Rattle.state_array.proofs.Labels.{areBytes, le-below, bytes-drop, float-back, float-fits}
 use Rattle.state_array.proofs.Fits.{bytes-take}
 use Rattle.update_bodies.specs.Bodies.{Bodied, patternsIn}
-use Rattle.update_bodies.proofs.Floats.{patterns-fit, patterns-back, floats-finite}
+use Rattle.base.specs.Floats.{isFinite}
+use Rattle.base.proofs.Tests.{both, joined, and-true}
+use Rattle.geometry.specs.Geometry.{rectTest, affineTest}
+use Rattle.record.proofs.Batch.{field-rules}
+
+-- what is read of patterns fits
+pub patterns-fit : (ws : List ℕ) → all (fits binary64) (map (ofBits binary64) ws) ≡ true
+patterns-fit [] = refl
+patterns-fit (w ∷ ws) = joined (float-fits w) (patterns-fit ws)
+
+-- patterns of finite numbers are written back as they were
+pub patterns-back : (ws : List ℕ) → all (λ w. ltb w (2 ^ 64)) ws ≡ true → all isFinite (map (ofBits binary64) ws) ≡ true
+    → map (toBits binary64) (map (ofBits binary64) ws) ≡ ws
+patterns-back [] small finite = refl
+patterns-back (w ∷ ws) small finite =
+    ap₂ {A = ℕ} {B = List ℕ} {C = List ℕ} (λ x xs. x ∷ xs) (float-back w (ltb-true w (2 ^ 64) (both small .0)) (both finite .0))
+    (patterns-back ws (both small .1) (both finite .1))
+
+-- the floats of data that obeys the rules are finite
+pub floats-finite : (d : NodeData) → fieldsOk d ≡ true → all isFinite (floatsOf d) ≡ true
+unfolding floatsOf rectTest affineTest
+floats-finite d h =
+    let r = field-rules d h in
+    let p = simp and-true at (r .finite-bounds) in
+    let q = simp and-true at (r .finite-transform) in
+    simp and-true (p .0 .0 .0, (p .0 .0 .1, (p .0 .1, (p .1, (q .0 .0 .0 .0 .0, (q .0 .0 .0 .0 .1, (q .0 .0 .0 .1, (q .0 .0 .1, (q .0 .1, (q .1, refl))))))))))
 
 module _ (bytes : List ℕ) (byte : areBytes bytes ≡ true) (formed : wellFormed bytes ≡ true) (i : ℕ) (h : i < length (batchIn bytes .nodes)) where
   within : i < nodeCount bytes

@@ -9,11 +9,13 @@ use native.Mathlib.Omega.{arith}
 use lib.Dec.{eqb, ltb}
 use lib.ListN.{length, getD, List·getD-eq-default}
 use borrow.Author.Tests.{ltb-true, lt-ltb, le-ltb}
+use Rattle.base.proofs.Tests.{call-true, call-false}
 use Rattle.base.specs.Tests.{_&&_, if_then_else_, sameList}
 use Rattle.base.proofs.Bytes.{all-below-at, length-list-of}
 use Rattle.base.proofs.Indexed.{all-below-cong, all-indexed}
 use Rattle.base.proofs.Compared.{getD-within}
 use Rattle.ids.specs.Ids.{sameNode}
+use Rattle.ids.specs.declared.FullNodeId.{FullNodeId}
 use Rattle.ids.specs.declared.NodeId.{NodeId}
 use Rattle.record.specs.Batch.{fieldsOk, sameData, namedIds}
 use Rattle.record.specs.Layout.{nodeCount, entryCount}
@@ -60,8 +62,8 @@ child-is state long own first k = go (decLt (first + k) 512)
 
 -- ## A listed node
 
-module _ (state bytes : List ℕ) (c : Scope) (notes : List ℕ) (told : Told GONE state bytes c notes) (i : ℕ) (h : i < c .listed) where
-  pub in-batch : i < length (batchIn bytes .nodes)
+module _ {state bytes : List ℕ} {c : Scope} {notes : List ℕ} (told : Told GONE state bytes c notes) {i : ℕ} (h : i < c .listed) where
+  in-batch : i < length (batchIn bytes .nodes)
   in-batch = rw (← batched state bytes c (told .given) .nodes) (omega (arith, told .given .scoped .listed))
 
   entries-count : length (entriesOf bytes) ≡ entryCount bytes
@@ -97,7 +99,7 @@ module _ (state bytes : List ℕ) (c : Scope) (notes : List ℕ) (told : Told GO
       ∙ ap (λ (x : NodeId). x .0) (entry-is-child bytes (told .given .formed) i k in-batch l)
 
   -- a run of child entries and the run of its children
-  pub children-same : length state ≡ 9640 → (own : NodeId) (d : ShapeRow) → d .«child_count» ≡ length (listedAt (batchIn bytes) i .body .children)
+  children-same : length state ≡ 9640 → (own : NodeId) (d : ShapeRow) → d .«child_count» ≡ length (listedAt (batchIn bytes) i .body .children)
       → sameRun state (9128 + min (d .«first_child») 512) notes (NAMED + fieldAt 2 bytes i 32) (own .0) (d .«child_count»)
       ≡ sameList sameNode (childrenOf state own d) (listedAt (batchIn bytes) i .body .children)
   unfolding sameRun childrenOf sameNode
@@ -112,7 +114,7 @@ module _ (state bytes : List ℕ) (c : Scope) (notes : List ℕ) (told : Told GO
   -- ## The word
 
   -- it differs if it has a slot, and other data than what stands there
-  pub differ-is : (slot : ℕ) → slot ≡ getD notes (LISTED-SLOTS + i) 0
+  differ-is : (slot : ℕ) → slot ≡ getD notes (LISTED-SLOTS + i) 0
       → differWord state bytes c i ≡ flag (ltb slot (slotsOf state) && not (sameData (nodeIn state slot .body) (listedAt (batchIn bytes) i .body)))
   unfolding differWord differs listedSlot _&&_
   differ-is slot e = ap (λ (t : Bool). flag t) (ap (λ o. elim o as (λ _. Bool) [ none ↦ false | some k ↦ not (sameData (k .body) (listedAt (asked bytes c) i .body)) ]) found ∙ sym (go (ltb slot (slotsOf state)) refl))
@@ -130,9 +132,28 @@ module _ (state bytes : List ℕ) (c : Scope) (notes : List ℕ) (told : Told GO
           (ap (λ l. l .body) (batched-at bytes (asked bytes c) (batched state bytes c (told .given)) i))
       go false q = refl
 
+  module _ {n : ℕ} (count : n ≡ slotsOf state) where
+    -- it has none
+    pub differs-new : n ≤ getD notes (LISTED-SLOTS + i) 0 → 0 ≡ differWord state bytes c i
+    unfolding _&&_
+    differs-new l = sym (differ-is _ refl ∙ rw (le-ltb _ (slotsOf state) (rw count at l)))
+
+    -- it has one, and the data is compared
+    module _ (l : getD notes (LISTED-SLOTS + i) 0 < n) {v : Bool}
+        (same : v ≡ sameData (nodeIn state (getD notes (LISTED-SLOTS + i) 0) .body) (listedAt (batchIn bytes) i .body)) where
+      compared : differWord state bytes c i ≡ flag (not v)
+      unfolding _&&_
+      compared = differ-is _ refl ∙ rw (lt-ltb _ (slotsOf state) (rw count at l), same)
+
+      pub differs-same : v ≡ true → 0 ≡ differWord state bytes c i
+      differs-same e = sym (compared ∙ ap (λ (t : Bool). flag (not t)) e)
+
+      pub differs-other : v ≡ false → 1 ≡ differWord state bytes c i
+      differs-other e = sym (compared ∙ ap (λ (t : Bool). flag (not t)) e)
+
   -- ## The data
 
-  module _ (slot : ℕ) (there : slot < slotsOf state) (old new : Body) (kept : BodyIs state bytes slot old) (read : BodyIs state bytes (320 + i) new) where
+  module _ {slot : ℕ} (there : slot < slotsOf state) {old new : Body} (kept : BodyIs state bytes slot old) (read : BodyIs state bytes (320 + i) new) where
     old-is : Bodied (nodeIn state slot .body) old
     old-is = kept .kept (omega arith) (slot-fields state bytes c (told .given) slot there)
 
@@ -145,18 +166,20 @@ module _ (state bytes : List ℕ) (c : Scope) (notes : List ℕ) (told : Told GO
     images = ap₂ sameBody (old-is .is) (new-is .is)
 
     -- where the images are not the same, it differs
-    pub other-data : sameBody old new ≡ false → sameData (nodeIn state slot .body) (listedAt (batchIn bytes) i .body) ≡ false
-    other-data e = data-differs (nodeIn state slot .body) (listedAt (batchIn bytes) i .body) (old-is .fits) (new-is .fits) (sym images ∙ e)
+    pub other-data : {v : Bool} → v ≡ sameBody old new → not v ≡ true → false ≡ sameData (nodeIn state slot .body) (listedAt (batchIn bytes) i .body)
+    other-data e q =
+        sym (data-differs (nodeIn state slot .body) (listedAt (batchIn bytes) i .body) (old-is .fits) (new-is .fits) (sym images ∙ call-false e q))
 
-    -- where they are, the children decide
-    pub same-data : length state ≡ 9640 → sameBody old new ≡ true
-        → sameRun state (9128 + min (shapeIn state slot .«first_child») 512) notes (NAMED + fieldAt 2 bytes i 32) (idIn state slot .node .0) (shapeIn state slot .«child_count»)
-        ≡ sameData (nodeIn state slot .body) (listedAt (batchIn bytes) i .body)
+    -- where they are, the children decide, as the code finds where they stand
+    pub same-data : {v w : Bool} {own : FullNodeId} {d : ShapeRow} {from to : ℕ} → length state ≡ 9640 → v ≡ sameBody old new → not v ≡ false
+        → own ≡ idIn state slot → d ≡ shapeIn state slot → from ≡ min (d .«first_child») 512 → to ≡ fieldAt 2 bytes i 32
+        → w ≡ sameRun state (9128 + from) notes (NAMED + to) (own .node .0) (d .«child_count»)
+        → w ≡ sameData (nodeIn state slot .body) (listedAt (batchIn bytes) i .body)
     unfolding nodeIn bodyIn childrenOf
-    same-data long e =
+    same-data long e same id shape first start run =
         let d = nodeIn state slot .body in
         let f = listedAt (batchIn bytes) i .body in
-        let q = sym images ∙ e in
+        let q = sym images ∙ call-true e same in
         let count = sym (length-list-of (shapeIn state slot .«child_count») _) ∙ children-counted d f (old-is .fits) (new-is .fits) q in
-        children-same long (idIn state slot .node) (shapeIn state slot) count
+        run ∙ rw (first, shape, id, start) (children-same long (idIn state slot .node) (shapeIn state slot) count)
         ∙ sym (data-by-children d f (old-is .fits) (new-is .fits) q)

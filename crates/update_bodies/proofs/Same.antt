@@ -1,17 +1,17 @@
--- Laws of the comparison by value. Assumes nothing.
+-- Laws of data compared by value: runs, labels, images. Assumes nothing.
 use mathlib.Core.Bool.{Bool, true, false, false≢true}
-use mathlib.Core.List.{List, map}
+use mathlib.Core.List.{List, map, [], _∷_}
 use mathlib.Core.Path.{_≡_, refl, sym, ap, _∙_}
-use Prim.Native.Nat.{ℕ, _<_}
+use Prim.Native.Nat.{ℕ, _<_, suc, _+_, _*_, _/_, _%_, _^_, _≤_}
 use native.Mathlib.Omega.{arith}
 use lib.Dec.{eqb}
 use lib.Ieee.{toBits, binary64}
 use lib.ListN.{length, getD}
-use borrow.Author.Tests.{eq-eqb, eqb-true}
+use borrow.Author.Tests.{eq-eqb, eqb-true, lt-ltb}
 use Rattle.base.specs.Tests.{_&&_, sameList}
 use Rattle.base.specs.Bytes.{allBelow, listOf}
-use Rattle.base.proofs.Tests.{both, iff, same-list→≡}
-use Rattle.base.proofs.Bytes.{all-below-at}
+use Rattle.base.proofs.Tests.{both, iff, same-list→≡, and-true, joined, same-list-refl}
+use Rattle.base.proofs.Bytes.{all-below-at, list-of-at}
 use Rattle.base.proofs.Indexed.{all-below-each}
 use Rattle.base.proofs.Compared.{same-list-each, same-list-fails}
 use Rattle.ids.specs.Ids.{sameTree, sameNode}
@@ -19,11 +19,50 @@ use Rattle.ids.proofs.Ids.{same-node→≡}
 use Rattle.geometry.specs.Geometry.{sameRect, sameAffine}
 use Rattle.record.specs.Batch.{NodeData, sameData}
 use Rattle.record.proofs.Batch.{field-rules}
-use Rattle.state_array.specs.Stored.{floatsOf, bodyOf, DataFits}
+use Rattle.state_array.specs.Stored.{floatsOf, bodyOf, DataFits, labelWord}
 use Rattle.state_array.specs.declared.Body.{Body}
-use Rattle.state_array.proofs.Labels.{float-forth}
+use Rattle.state_array.proofs.Labels.{float-forth, areBytes, le-byte}
 use Rattle.update_bodies.specs.Bodies.{boundsOf, transformOf, sameRun, sameBody}
-use Rattle.update_bodies.proofs.Labels.{label-same}
+use lib.Seq.{ext-getD}
+
+-- ## Lists of bytes
+
+-- a list whose elements are below 256
+pub bytes-all : (l : List ℕ) → ((k : ℕ) → getD l k 0 < 256) → areBytes l ≡ true
+bytes-all [] h = refl
+bytes-all (x ∷ l) h = joined (lt-ltb x 256 (h 0)) (bytes-all l (λ k. h (suc k)))
+
+-- ## Labels
+
+module _ (l m : List ℕ) (bl : areBytes l ≡ true) (bm : areBytes m ≡ true) (sl : length l ≤ 32) where
+  -- the same words, the same label
+  words-same : length l ≡ length m → ((k : ℕ) → k < 4 → labelWord l k ≡ labelWord m k) → l ≡ m
+  words-same e h = ext-getD 0 l m e (λ j b.
+      let at : 8 * (j / 8) + j % 8 ≡ j = omega arith in
+      let same =
+      sym (le-byte 8 (j % 8) (8 * (j / 8)) l bl (omega arith)) ∙ ap (λ w. w / 2 ^ (8 * (j % 8)) % 256) (h (j / 8) (omega arith))
+      ∙ le-byte 8 (j % 8) (8 * (j / 8)) m bm (omega arith) in
+      rw at at same)
+
+  -- compared by its length and its words, or byte by byte
+  pub label-same : (eqb (length l) (length m) && sameRun (listOf 4 (labelWord l)) 0 (listOf 4 (labelWord m)) 0 0 4) ≡ sameList eqb l m
+  unfolding sameRun
+  label-same = iff forth back
+    where
+      forth : (eqb (length l) (length m) && sameRun (listOf 4 (labelWord l)) 0 (listOf 4 (labelWord m)) 0 0 4) ≡ true → sameList eqb l m ≡ true
+      forth e =
+          let run = both e .1 in
+          let words : (k : ℕ) → k < 4 → labelWord l k ≡ labelWord m k = λ k h.
+          let there : 0 + k ≡ k = omega arith in
+          let t : eqb (getD (listOf 4 (labelWord l)) (0 + k) 0) (getD (listOf 4 (labelWord m)) (0 + k) 0) ≡ true = all-below-at _ 4 k run h in
+          sym (list-of-at 4 k (labelWord l) 0 h) ∙ eqb-true _ _ (rw there at t) ∙ list-of-at 4 k (labelWord m) 0 h in
+          rw (← words-same (eqb-true _ _ (both e .0)) words) (same-list-refl eqb (λ x. eq-eqb x x refl) l)
+
+      back : sameList eqb l m ≡ true → (eqb (length l) (length m) && sameRun (listOf 4 (labelWord l)) 0 (listOf 4 (labelWord m)) 0 0 4) ≡ true
+      back e =
+          let word : ℕ → ℕ = λ k. getD (listOf 4 (labelWord l)) (0 + k) 0 in
+          let q : l ≡ m = same-list→≡ eqb (λ x y h. eqb-true x y h) l m e in
+          rw (← q) (joined (eq-eqb (length l) (length l) refl) (all-below-each (λ k. eqb (word k) (word k)) 4 (λ k h. eq-eqb (word k) (word k) refl)))
 
 -- ## Runs
 
@@ -56,33 +95,26 @@ module _ (d : NodeData) (f : DataFits d) where
   bounds-back : boundsOf (map (toBits binary64) (floatsOf d)) ≡ d .bounds
   unfolding boundsOf floatsOf
   bounds-back =
-      let one = both (f .floats) in
-      let two = both (one .1) in
-      let three = both (two .1) in
-      let four = both (three .1) in
-      let x0 = float-forth (d .bounds .x0) (one .0) in
-      let y0 = float-forth (d .bounds .y0) (two .0) in
-      let x1 = float-forth (d .bounds .x1) (three .0) in
-      let y1 = float-forth (d .bounds .y1) (four .0) in
-      λ z. record { x0 = x0 z; y0 = y0 z; x1 = x1 z; y1 = y1 z }
+      let z = simp and-true at (f .floats) in
+      λ i. record {
+        x0 = float-forth (d .bounds .x0) (z .0) i;
+        y0 = float-forth (d .bounds .y0) (z .1 .0) i;
+        x1 = float-forth (d .bounds .x1) (z .1 .1 .0) i;
+        y1 = float-forth (d .bounds .y1) (z .1 .1 .1 .0) i;
+      }
 
   transform-back : transformOf (map (toBits binary64) (floatsOf d)) ≡ d .transform
   unfolding transformOf floatsOf
   transform-back =
-      let four = both (both (both (both (f .floats) .1) .1) .1) in
-      let five = both (four .1) in
-      let six = both (five .1) in
-      let seven = both (six .1) in
-      let eight = both (seven .1) in
-      let nine = both (eight .1) in
-      let ten = both (nine .1) in
-      let a = float-forth (d .transform .a) (five .0) in
-      let b = float-forth (d .transform .b) (six .0) in
-      let c = float-forth (d .transform .c) (seven .0) in
-      let dd = float-forth (d .transform .d) (eight .0) in
-      let e = float-forth (d .transform .e) (nine .0) in
-      let f = float-forth (d .transform .f) (ten .0) in
-      λ z. record { a = a z; b = b z; c = c z; d = dd z; e = e z; f = f z }
+      let z = (simp and-true at (f .floats)) .1 .1 .1 .1 in
+      λ i. record {
+        a = float-forth (d .transform .a) (z .0) i;
+        b = float-forth (d .transform .b) (z .1 .0) i;
+        c = float-forth (d .transform .c) (z .1 .1 .0) i;
+        d = float-forth (d .transform .d) (z .1 .1 .1 .0) i;
+        e = float-forth (d .transform .e) (z .1 .1 .1 .1 .0) i;
+        f = float-forth (d .transform .f) (z .1 .1 .1 .1 .1 .0) i;
+      }
 
 -- what data compares beside the children
 abbrev pub restSame : NodeData → NodeData → Bool → Bool

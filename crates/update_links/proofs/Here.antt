@@ -1,38 +1,137 @@
--- Laws of the links after of the nodes of the batch's tree. Assumes nothing.
+-- Laws of the link of a node of the batch's tree: who names it, and whether it is cut. Assumes nothing.
+use Rattle.state_array.specs.declared.LinkRow.{LinkRow}
 use mathlib.Core.Bool.{Bool, true, false, not}
 use mathlib.Core.Bool as bool
-use mathlib.Core.List.{List}
+use mathlib.Core.List.{List, [], _∷_}
 use mathlib.Core.Option.{Option, none, some}
 use mathlib.Core.Path.{_≡_, refl, sym, ap, ap₂, _∙_}
-use Prim.Native.Nat.{ℕ, suc, _+_, _≤_, _<_}
+use Prim.Native.Nat.{ℕ, suc, _+_, _≤_, _<_, _-_, zero}
 use native.Mathlib.Omega.{arith}
 use lib.Dec.{eqb, ltb, leb, leb·suc-suc}
-use lib.ListN.{length, getD}
-use borrow.Author.Tests.{eqb-true, eq-eqb, ne-eqb, lt-ltb, le-ltb}
-use Rattle.base.specs.Tests.{_&&_, if_then_else_, sameOption, distinct, position}
+use lib.ListN.{length, getD, take, length-append}
+use borrow.Author.Tests.{eqb-true, eq-eqb, ne-eqb, lt-ltb, le-ltb, ltb-true, ltb-false}
+use Rattle.base.specs.Tests.{_&&_, if_then_else_, sameOption, distinct, position, has}
 use Rattle.base.specs.Search.{First}
-use Rattle.base.proofs.Tests.{iff}
+use Rattle.base.proofs.Tests.{iff, both, at-position}
 use Rattle.ids.specs.Ids.{ROOT, sameTree, sameIndex, sameNode, sameId}
 use Rattle.ids.specs.declared.TreeId.{TreeId}
 use Rattle.ids.specs.declared.TreeIndex.{TreeIndex}
 use Rattle.ids.specs.declared.NodeId.{NodeId}
 use Rattle.ids.specs.declared.FullNodeId.{FullNodeId}
-use Rattle.record.specs.Batch.{graft?, Batch, listedIds, namedIds}
-use Rattle.record_reader.specs.Reader.{noNode, listedAt}
+use Rattle.record.specs.Batch.{graft?, Batch, listedIds, namedIds, Listed}
+use Rattle.record_reader.specs.Reader.{noNode, listedAt, batchIn}
 use Rattle.state.specs.State.{ParentAndIndex, NodeState, Forest, holder}
-use Rattle.state_array.specs.Stored.{noState}
+use Rattle.state_array.specs.Stored.{noState, linkRow}
 use Rattle.state_array.specs.View.{idIn, graftIn, bodyIn, nodeIn, slotsOf}
 use Rattle.update.specs.Words.{here, mine, old, listed, turn, naming, isRoot}
 use Rattle.update.specs.Outcome.{underGraft, paneRoot, cutLasts, linkIsCut, linkHere, linkElsewhere, linkAfter}
-use Rattle.update_notes.specs.Layout.{LISTED, NAMED}
+use Rattle.update_notes.specs.Layout.{LISTED, NAMED, ENDS}
 use Rattle.update_notes.specs.declared.Scope.{Scope}
 use Rattle.update_notes.specs.Setting.{rootIn, Scoped, asked, forest}
 use Rattle.update_notes.specs.Codes.{nodeAt, idAt}
-use Rattle.update_notes.specs.Says.{turnMark, namingMark, HolderIs, PositionIn, listedWord, namedWord, Told, COMPARED}
+use Rattle.update_notes.specs.Says.{turnMark, namingMark, HolderIs, PositionIn, listedWord, namedWord, Told, COMPARED, endWord}
 use Rattle.update_notes.proofs.Positions.{first-unique, first-cong, position-first, has-position, first-given-at}
 use Rattle.update_notes.proofs.Places.{forest-length, forest-node, forest-id}
-use Rattle.update_notes.proofs.Marks.{here-mine, turn-self, naming-none}
-use Rattle.update_links.specs.Links.{namedLink, cutMark, graftLink}
+use Rattle.update_notes.proofs.Marks.{here-mine, turn-self, naming-none, naming-link}
+use Rattle.update_links.specs.Links.{namedLink, cutMark, graftLink, LinkHereIs, namedRow, namedBefore, Rises, Owns}
+use native.Mathlib.Decide.{decLt}
+use native.Mathlib.Numerals.{add-one}
+use lib.Seq.{take-length}
+
+-- more listed nodes name no fewer children
+named-rises : (ls : List Listed) (i l : ℕ) → i ≤ l → length (namedIds (take i ls)) ≤ length (namedIds (take l ls))
+unfolding namedIds
+named-rises ls zero l h = omega arith
+named-rises ls (suc i) zero h = absurd (omega arith)
+named-rises [] (suc i) (suc l) h = omega arith
+named-rises (k ∷ ks) (suc i) (suc l) h =
+    let below = named-rises ks i l (omega arith) in
+    omega (arith, length-append (k .body .children) (namedIds (take i ks)), length-append (k .body .children) (namedIds (take l ks)))
+
+module _ (b : Batch) where
+  -- an entry that the children of the nodes before r do not reach
+  past-start : (j r : ℕ) → ((i : ℕ) → i < r → ltb j (namedBefore b (i + 1)) ≡ false) → namedBefore b r ≤ j
+  unfolding namedIds
+  past-start j zero passed = omega arith
+  past-start j (suc r) passed = rw (← add-one r) (ltb-false j (namedBefore b (r + 1)) (passed r (omega arith)))
+
+  -- is one of r's, where those of r are the first that end after it
+  owner-is : (j r k : ℕ) → k ≡ length (b .nodes) → j < length (namedIds (b .nodes)) → First (λ i. ltb j (namedBefore b (i + 1))) k r
+      → Owns b r j × (j < namedBefore b (r + 1))
+  owner-is j r k count h first = go (decLt r k)
+    where
+      low : namedBefore b r ≤ j
+      low = past-start j r (first .passed)
+
+      go : Dec (r < k) → Owns b r j × (j < namedBefore b (r + 1))
+      go (yes l) = (record { listed = omega arith; start = low }, ltb-true j (namedBefore b (r + 1)) (first .hit l))
+      go (no l) =
+          let at : r ≡ length (b .nodes) = omega (arith, first .within) in
+          let all : namedBefore b (length (b .nodes)) ≡ length (namedIds (b .nodes)) = rw (take-length (b .nodes)) in
+          absurd (omega (arith, all, rw at at low))
+
+  -- so a node with a mark is named by that one
+  named-first : (s : Forest) (x : FullNodeId) (j r k : ℕ) → k ≡ length (b .nodes) → namingMark s b x ≡ suc j
+      → First (λ i. ltb j (namedBefore b (i + 1))) k r → Owns b r j × (naming s b x ≡ some (namedLink s b r j))
+  unfolding namingMark namedLink
+  named-first s x j r k count e first = go (mine s b x && has sameNode (namedIds (b .nodes)) (x .node)) refl e
+    where
+      go : (c : Bool) → (mine s b x && has sameNode (namedIds (b .nodes)) (x .node)) ≡ c
+          → (if c then suc (position sameNode (namedIds (b .nodes)) (x .node)) else 0) ≡ suc j
+          → Owns b r j × (naming s b x ≡ some (namedLink s b r j))
+      go true q f =
+          let own = owner-is j r k count (omega (arith, at-position sameNode (namedIds (b .nodes)) (x .node) (x .node) (both q .1) .0)) first in
+          (own .0, naming-link s b x j r e (own .0 .listed) (own .0 .start) (own .1))
+      go false q f = absurd (omega arith)
+
+module _ {state bytes : List ℕ} {c : Scope} {notes : List ℕ} (told : Told COMPARED state bytes c notes) where
+  -- the column of ends never falls
+  pub ends-rise : Rises notes ENDS (c .listed)
+  unfolding endWord
+  ends-rise i l h m =
+      omega (arith, told .written 2 (omega arith) i (omega arith), told .written 2 (omega arith) l m, named-rises (asked bytes c .nodes) (i + 1) (l + 1) (omega arith))
+
+  -- where the children of listed node i start, if it is not the first: where those of the node before it end
+  start-is : {i : ℕ} → 1 ≤ i → i < length (asked bytes c .nodes) → getD notes (ENDS + (i - 1)) 0 ≡ namedBefore (asked bytes c) i
+  unfolding endWord
+  start-is {i} h l =
+      let at : (i - 1) + 1 ≡ i = omega arith in
+      told .written 2 (omega arith) (i - 1) (omega (arith, told .given .scoped .listed)) ∙ ap (namedBefore (asked bytes c)) at
+
+  -- who names a node with a mark, by a search of that column
+  module _ (x : FullNodeId) {count owner : ℕ} (mark : count ≡ namingMark (forest state) (asked bytes c) x) (some-mark : 1 ≤ count)
+      (first : First (λ i. ltb (count - 1) (getD notes (ENDS + i) 0)) (c .listed) owner) where
+    owner-there : Owns (asked bytes c) owner (count - 1)
+        × (naming (forest state) (asked bytes c) x ≡ some (namedLink (forest state) (asked bytes c) owner (count - 1)))
+    unfolding endWord
+    owner-there =
+        named-first (asked bytes c) (forest state) x (count - 1) owner (c .listed) (told .given .scoped .listed) (omega arith)
+        (first-cong _ _ (c .listed) owner (λ i l. ap (ltb (count - 1)) (told .written 2 (omega arith) i l)) first)
+
+    pub owner-owns : Owns (asked bytes c) owner (count - 1)
+    owner-owns = owner-there .0
+
+    pub owner-names : naming (forest state) (asked bytes c) x ≡ some (namedLink (forest state) (asked bytes c) owner (count - 1))
+    owner-names = owner-there .1
+
+  -- the words of the link of child j of listed node i
+  module _ (i j : ℕ) {p : FullNodeId} (parent : p ≡ here (forest state) (asked bytes c) (listedAt (asked bytes c) i .id)) where
+    -- the first node's
+    pub named-from-first : {r : LinkRow} → i < 1 → r ≡ linkRow (some (record { parent = p; index = j })) → r ≡ namedRow state bytes c i j
+    unfolding namedLink namedIds
+    named-from-first h e =
+        let first : i ≡ 0 = omega arith in
+        let index : j ≡ j - namedBefore (asked bytes c) i = rw first (omega arith) in
+        e ∙ ap₂ (λ (q : FullNodeId) (k : ℕ). linkRow (some (record { parent = q; index = k }))) parent index
+
+    -- another's
+    module _ (h : 1 ≤ i) (own : Owns (asked bytes c) i j) where
+      pub starts-before : getD notes (ENDS + (i - 1)) 0 ≤ j
+      starts-before = omega (arith, start-is h (own .listed), own .start)
+
+      pub named-from-later : {r : LinkRow} → r ≡ linkRow (some (record { parent = p; index = j - getD notes (ENDS + (i - 1)) 0 })) → r ≡ namedRow state bytes c i j
+      unfolding namedLink
+      named-from-later e = e ∙ ap₂ (λ (q : FullNodeId) (k : ℕ). linkRow (some (record { parent = q; index = j - k }))) parent (start-is h (own .listed))
 
 -- ## A cut
 
@@ -76,13 +175,13 @@ module _ {s : Forest} {b : Batch} {c : Scope} (scoped : Scoped s b c) (x : FullN
 
   module _ (o : Option ParentAndIndex) where
     -- the root that tree data gives a pane: under the graft holder
-    pub link-here-pane : paneTest c root ≡ true → graftLink s (b .tree) ≡ linkHere s b x o
+    link-here-pane : paneTest c root ≡ true → graftLink s (b .tree) ≡ linkHere s b x o
     unfolding linkHere graftLink
     link-here-pane e = rw (← pane-is, e)
 
     module _ (e : paneTest c root ≡ false) {mark : ℕ} (q : mark ≡ cutMark s b x) where
       -- a node that is not named: where it stood, if it is not cut
-      pub link-here-unnamed : (old s b x ≡ false → o ≡ none) → namingMark s b x ≡ 0 → {t : Bool}
+      link-here-unnamed : (old s b x ≡ false → o ≡ none) → namingMark s b x ≡ 0 → {t : Bool}
           → bool._&&_ (bool._&&_ root (c .«is_root_tree»)) (ltb 0 mark) ≡ t
           → (if t then none else o) ≡ linkHere s b x o
       unfolding linkHere cutLasts linkIsCut cutMark turnMark
@@ -100,7 +199,7 @@ module _ {s : Forest} {b : Batch} {c : Scope} (scoped : Scoped s b c) (x : FullN
           (sym (cut-unnamed (turn s b x) (isRoot s b x) (sameTree (b .tree) ROOT) (listed s b x) (old s b x) o new))
 
       -- a node that is named: under that name, if it is not cut after that
-      pub link-here-named : distinct sameNode (listedIds (b .nodes)) ≡ true → (r j : ℕ) → r < length (b .nodes)
+      link-here-named : distinct sameNode (listedIds (b .nodes)) ≡ true → (r j : ℕ) → r < length (b .nodes)
           → naming s b x ≡ some (namedLink s b r j) → {t : Bool}
           → bool._&&_ (bool._&&_ root (c .«is_root_tree»)) (ltb r mark) ≡ t
           → (if t then none else some (namedLink s b r j)) ≡ linkHere s b x o
@@ -133,15 +232,49 @@ module _ (state : List ℕ) (t : TreeId) {slot : ℕ} (held : HolderIs state t s
       (rw (forest-length state) (first-cong _ _ (slotsOf state) slot test held))
       ∙ rw (forest-length state)
 
-  -- no node grafts the tree
-  pub graft-link-none : slotsOf state ≤ slot → none ≡ graftLink (forest state) t
-  unfolding graftLink
-  graft-link-none h = rw (holder-is, graftLink, le-ltb slot (slotsOf state) h)
+  module _ {n : ℕ} (count : n ≡ slotsOf state) {r : LinkRow} where
+    -- no node grafts the tree
+    pub graft-link-none : n ≤ slot → r ≡ linkRow none → r ≡ linkRow (graftLink (forest state) t)
+    unfolding graftLink
+    graft-link-none h e = e ∙ ap linkRow (rw (holder-is, graftLink, le-ltb slot (slotsOf state) (rw count at h)))
 
-  -- the first that does
-  pub graft-link-some : slot < slotsOf state → underGraft (idIn state slot) ≡ graftLink (forest state) t
-  unfolding graftLink
-  graft-link-some h = rw (holder-is, graftLink, lt-ltb slot (slotsOf state) h, forest-id state slot h)
+    -- the first that does
+    pub graft-link-some : {g : FullNodeId} → slot < n → g ≡ idIn state slot → r ≡ linkRow (some (record { parent = g; index = 0 })) → r ≡ linkRow (graftLink (forest state) t)
+    unfolding graftLink underGraft
+    graft-link-some h id e =
+        let there : slot < slotsOf state = rw count at h in
+        e ∙ ap (λ (g : FullNodeId). linkRow (underGraft g)) id ∙ ap linkRow (rw (holder-is, graftLink, lt-ltb slot (slotsOf state) there, forest-id state slot there))
+
+-- ## As the code finds it
+
+module _ {state bytes : List ℕ} {c : Scope} {notes : List ℕ} (told : Told COMPARED state bytes c notes) (x : FullNodeId) {was : LinkRow} {turn : ℕ} {root : Bool}
+    (root-is : root ≡ sameOption sameId (rootIn c) (some x)) where
+  -- the root that tree data gives a pane
+  pub here-pane : {t : TreeId} {r : LinkRow} → paneTest c root ≡ true → t ≡ batchIn bytes .tree → r ≡ linkRow (graftLink (forest state) t)
+      → LinkHereIs state bytes c x was turn r
+  unfolding asked
+  here-pane e tree q o is cut new =
+      q ∙ ap (λ t. linkRow (graftLink (forest state) t)) tree ∙ ap linkRow (link-here-pane (told .given .scoped) x root-is o e)
+
+  module _ (e : paneTest c root ≡ false) {naming : ℕ} (mark : naming ≡ namingMark (forest state) (asked bytes c) x) where
+    -- a node that is not named: cut, or as it was
+    pub here-cut : {r : LinkRow} → naming < 1 → bool._&&_ (bool._&&_ root (c .«is_root_tree»)) (ltb 0 turn) ≡ true → r ≡ linkRow none
+        → LinkHereIs state bytes c x was turn r
+    here-cut h t q o is cut new = q ∙ ap linkRow (link-here-unnamed (told .given .scoped) x root-is o e cut new (omega arith) t)
+
+    pub here-kept : naming < 1 → bool._&&_ (bool._&&_ root (c .«is_root_tree»)) (ltb 0 turn) ≡ false → LinkHereIs state bytes c x was turn was
+    here-kept h t o is cut new = is ∙ ap linkRow (link-here-unnamed (told .given .scoped) x root-is o e cut new (omega arith) t)
+
+    -- a node that is: cut after that, or under that name
+    module _ (h : 1 ≤ naming) {owner : ℕ} (first : First (λ i. ltb (naming - 1) (getD notes (ENDS + i) 0)) (c .listed) owner) {r : LinkRow} where
+      pub here-cut-after : bool._&&_ (bool._&&_ root (c .«is_root_tree»)) (ltb owner turn) ≡ true → r ≡ linkRow none → LinkHereIs state bytes c x was turn r
+      here-cut-after t q o is cut new =
+          q ∙ ap linkRow (link-here-named (told .given .scoped) x root-is o e cut (told .given .once) owner (naming - 1) (owner-owns told x mark h first .listed) (owner-names told x mark h first) t)
+
+      pub here-named : bool._&&_ (bool._&&_ root (c .«is_root_tree»)) (ltb owner turn) ≡ false → r ≡ namedRow state bytes c owner (naming - 1)
+          → LinkHereIs state bytes c x was turn r
+      here-named t q o is cut new =
+          q ∙ ap linkRow (link-here-named (told .given .scoped) x root-is o e cut (told .given .once) owner (naming - 1) (owner-owns told x mark h first .listed) (owner-names told x mark h first) t)
 
 -- ## Of the batch's tree or of another
 

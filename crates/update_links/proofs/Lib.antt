@@ -1,4 +1,2 @@
 pub mod Elsewhere
-pub mod Ends
 pub mod Here
-pub mod Slots

@@ -1,32 +1,40 @@
 -- Laws of what the pass meets: at a child that is named, and at a node that is placed. Assumes nothing.
-use mathlib.Core.Bool.{Bool, true, false, not, _||_, false≢true}
+use mathlib.Core.Bool.{Bool, true, false, not, _||_, false≢true, true≢false}
 use mathlib.Core.List.{List, [], _∷_}
 use mathlib.Core.Option.{none, some}
-use mathlib.Core.Path.{_≡_, refl, sym, ap, _∙_}
+use mathlib.Core.Path.{_≡_, refl, sym, ap, _∙_, ap₂}
 use Prim.Native.Nat.{ℕ, zero, suc, _+_, _≤_, _<_}
 use native.Mathlib.Numerals.{add-one}
 use native.Mathlib.Omega.{arith}
-use lib.Dec.{eqb}
+use lib.Dec.{eqb, ltb}
 use lib.ListN.{length, getD, take, set}
 use lib.Seq.{take-suc, getD-set-same, getD-set-other}
-use borrow.Author.Tests.{eqb-true, eqb-false}
-use Rattle.base.specs.Tests.{_&&_, if_then_else_, isSome, isNil, sameOption, has, given}
+use borrow.Author.Tests.{eqb-true, eqb-false, lt-ltb, le-ltb, eq-eqb, ne-eqb}
+use Rattle.base.specs.Tests.{_&&_, if_then_else_, isSome, sameOption, has, isNil, given}
 use Rattle.base.specs.Tables.{first}
 use Rattle.base.proofs.Tests.{both, joined, iff, and-false, not-true}
-use Rattle.base.proofs.Lists.{any-append}
-use Rattle.base.proofs.Bytes.{all-below-at}
+use Rattle.base.proofs.Lists.{any-append, none-of}
+use Rattle.base.proofs.Bytes.{all-below-at, all-below-fails}
+use Rattle.base.proofs.Loops.{Passing}
 use Rattle.base.proofs.Indexed.{all-below-each, all-below-cong}
 use Rattle.base.proofs.Tables.{found-alone}
-use Rattle.ids.specs.Ids.{ROOT, sameTree, sameNode}
+use Rattle.ids.specs.Ids.{sameTree, sameNode, ROOT}
 use Rattle.ids.specs.declared.TreeId.{TreeId}
 use Rattle.ids.specs.declared.NodeId.{NodeId}
-use Rattle.record.specs.Batch.{graft?, hasGraft, Listed, Batch}
-use Rattle.record_reader.specs.Reader.{noNode, listedAt}
+use Rattle.record.specs.Batch.{graft?, hasGraft, Listed, Batch, NodeData}
+use Rattle.record_reader.specs.Reader.{noNode, listedAt, batchIn}
 use Rattle.state.specs.State.{Forest, graftAt}
 use Rattle.update.specs.Words.{here, claim}
-use Rattle.update.specs.Pass.{Event, names, places, fault}
+use Rattle.update.specs.Pass.{Event, names, fault, places}
 use Rattle.update_notes.specs.Layout.{CLAIMS}
-use Rattle.update_pass.specs.Steps.{seen, isTaken, unclaimedIn}
+use Rattle.update_notes.specs.declared.Scope.{Scope}
+use Rattle.update_notes.specs.Setting.{asked, forest}
+use Rattle.update_notes.specs.Says.{Told, READ}
+use Rattle.update_pass.specs.Steps.{seen, isTaken, unclaimedIn, placing, Claimed, GoesOn, PlacedIs}
+use mathlib.Core.Bool as bool
+use Rattle.update_notes.proofs.Setting.{batched-at}
+use Rattle.update_notes.proofs.Told.{batched}
+use Rattle.update_pass.proofs.Read.{claim-listed}
 
 -- ## A child that is named
 
@@ -49,57 +57,29 @@ seen-has cs (suc j) x h =
     last false true = refl
     last false false = refl
 
--- what one node claims, as a list
-module _ (s : Forest) (b : Batch) (l : Listed) where
-  -- nothing
-  claims-none : claim s b l ≡ none → given (claim s b) (l ∷ []) ≡ []
-  claims-none e = ap (λ o. elim o as (λ _. List TreeId) [ none ↦ [] | some t ↦ t ∷ [] ]) e
+module _ (s : Forest) (b : Batch) (seen : List NodeId) (claimed : List TreeId) (es : List Event) (c : NodeId) where
+  -- named before
+  pub fault-twice : has sameNode seen c ≡ true → fault s b seen claimed (names c ∷ es) ≡ 9
+  unfolding fault first
+  fault-twice h = rw h
 
-  -- a tree
-  claims-some : (t : TreeId) → claim s b l ≡ some t → given (claim s b) (l ∷ []) ≡ t ∷ []
-  claims-some t e = ap (λ o. elim o as (λ _. List TreeId) [ none ↦ [] | some t ↦ t ∷ [] ]) e
+  -- named for the first time
+  pub fault-once : has sameNode seen c ≡ false → fault s b seen claimed (names c ∷ es) ≡ fault s b (c ∷ seen) claimed es
+  unfolding fault first
+  fault-once h = rw h (found-alone (fault s b (c ∷ seen) claimed es))
 
-module _ (s : Forest) (b : Batch) (seen : List NodeId) (claimed : List TreeId) (es : List Event) where
-  module _ (c : NodeId) where
-    -- named before
-    pub fault-twice : has sameNode seen c ≡ true → fault s b seen claimed (names c ∷ es) ≡ 9
-    unfolding fault first
-    fault-twice h = rw h
+-- ## The placing of a node
 
-    -- named for the first time
-    pub fault-once : has sameNode seen c ≡ false → fault s b seen claimed (names c ∷ es) ≡ fault s b (c ∷ seen) claimed es
-    unfolding fault first
-    fault-once h = rw h (found-alone (fault s b (c ∷ seen) claimed es))
+module _ (b : Batch) (i : ℕ) where
+  -- of a listed node
+  pub placing-here : i < length (b .nodes) → placing b i ≡ places (listedAt b i) ∷ []
+  unfolding placing
+  placing-here h = rw (lt-ltb i (length (b .nodes)) h)
 
-  -- ## A node that is placed
-
-  module _ (l : Listed) where
-    -- a graft node with children
-    pub fault-ten : isSome (graft? (l .body)) && not (isNil (l .body .children)) ≡ true → fault s b seen claimed (places l ∷ es) ≡ 10
-    unfolding fault first
-    fault-ten h = rw h
-
-    module _ (h : isSome (graft? (l .body)) && not (isNil (l .body .children)) ≡ false) where
-      -- one that claims nothing
-      pub fault-claimless : claim s b l ≡ none → fault s b seen claimed (places l ∷ es) ≡ fault s b seen claimed es
-      unfolding fault first
-      fault-claimless e = rw (h, claims-none s b l e) (found-alone (fault s b seen claimed es))
-
-      module _ (t : TreeId) (e : claim s b l ≡ some t) where
-        -- one that claims ROOT
-        pub fault-eleven : sameTree ROOT t ≡ true → fault s b seen claimed (places l ∷ es) ≡ 11
-        unfolding fault first
-        fault-eleven r = rw (h, claims-some s b l t e, r)
-
-        -- one that claims a tree claimed before
-        pub fault-twelve : sameTree ROOT t ≡ false → has sameTree claimed t ≡ true → fault s b seen claimed (places l ∷ es) ≡ 12
-        unfolding fault first
-        fault-twelve r k = rw (h, claims-some s b l t e, r, k)
-
-        -- one that claims a tree first
-        pub fault-claim : sameTree ROOT t ≡ false → has sameTree claimed t ≡ false → fault s b seen claimed (places l ∷ es) ≡ fault s b seen (t ∷ claimed) es
-        unfolding fault first
-        fault-claim r k = rw (h, claims-some s b l t e, r, k) (found-alone (fault s b seen (t ∷ claimed) es))
+  -- past the last
+  pub placing-past : length (b .nodes) ≤ i → placing b i ≡ []
+  unfolding placing
+  placing-past h = rw (le-ltb i (length (b .nodes)) h)
 
 -- ## The trees that are claimed
 
@@ -174,3 +154,146 @@ module _ (b : Batch) (notes done : List ℕ) (i : ℕ) (t : TreeId) where
       after : (m : ℕ) → not (same i) ≡ true → free done m ≡ true → (c : Bool) → eqb m i ≡ c → free (set done i 1) m ≡ true
       after m a h true q = free-apart (set done i 1) m (rw (eqb-true m i q) (not-true a))
       after m a h false q = free-other m (eqb-false m i q) ∙ h
+
+-- whether no node that is done claims the tree t, as the code asks it
+module _ {state bytes : List ℕ} {c : Scope} {notes : List ℕ} {i : ℕ} (told : Told READ state bytes c notes) (done : List ℕ) (t : TreeId) where
+  pub unclaimed-fails : {r : Bool} → i < c .listed → r ≡ isTaken (batchIn bytes) notes done t i → r ≡ true → false ≡ unclaimedIn (asked bytes c) notes done t
+  unfolding unclaimedIn isTaken listedAt asked
+  unclaimed-fails h e q = sym (all-below-fails _ _ i (omega (arith, told .given .scoped .listed)) (ap not (sym e ∙ q)))
+
+  pub unclaimed-holds : Passing (isTaken (batchIn bytes) notes done t) (c .listed) i → c .listed ≤ i → true ≡ unclaimedIn (asked bytes c) notes done t
+  unfolding unclaimedIn isTaken listedAt asked
+  unclaimed-holds g h = sym (all-below-each _ _ (λ m l. ap not (g .passed m (omega (arith, told .given .scoped .listed)))))
+
+-- a graft node with children
+abbrev pub crowded : NodeData → Bool
+crowded d = isSome (graft? d) && not (isNil (d .children))
+
+-- as the code asks it
+crowded-is : (d : NodeData) {g v : Bool} {n : ℕ} → g ≡ isSome (graft? d) → n ≡ length (d .children) → bool._&&_ g (ltb 0 n) ≡ v → crowded d ≡ v
+unfolding _&&_
+crowded-is d g n e = sym (ap₂ bool._&&_ g (ap (ltb 0) n ∙ some-length (d .children))) ∙ e
+  where
+    some-length : (ns : List NodeId) → ltb 0 (length ns) ≡ not (isNil ns)
+    some-length [] = refl
+    some-length (n ∷ ns) = lt-ltb 0 (suc (length ns)) (omega arith)
+
+-- ## A node that is done and claims a tree
+
+-- one of two marks is not there
+pub untaken : (a c d : Bool) → (not a || not c) ≡ true → a && c && d ≡ false
+unfolding _&&_
+untaken true true d e = absurd (false≢true e)
+untaken true false d e = refl
+untaken false c d e = refl
+
+-- both are
+pub taken : (a c d : Bool) → (not a || not c) ≡ false → a && c && d ≡ d
+unfolding _&&_
+taken true true d e = refl
+taken true false d e = absurd (true≢false e)
+taken false c d e = absurd (true≢false e)
+
+-- ## A node, and the trees that are claimed before it
+
+-- what one node claims, as a list: nothing, or a tree
+module _ (s : Forest) (b : Batch) (l : Listed) where
+  claims-none : claim s b l ≡ none → given (claim s b) (l ∷ []) ≡ []
+  claims-none e = ap (λ o. elim o as (λ _. List TreeId) [ none ↦ [] | some t ↦ t ∷ [] ]) e
+
+  claims-some : (t : TreeId) → claim s b l ≡ some t → given (claim s b) (l ∷ []) ≡ t ∷ []
+  claims-some t e = ap (λ o. elim o as (λ _. List TreeId) [ none ↦ [] | some t ↦ t ∷ [] ]) e
+
+module _ {state bytes : List ℕ} {c : Scope} {notes : List ℕ} {i : ℕ} (told : Told READ state bytes c notes) where
+  -- the pass goes on, and these trees are claimed then
+  goes-on : (done : List ℕ) → ((claimed : List TreeId) → i < length done → Claimed (asked bytes c) notes done claimed → GoesOn (forest state) (asked bytes c) notes done i claimed)
+      → PlacedIs (forest state) (asked bytes c) notes done i 0
+  goes-on done f = record { goes = λ _ k claimed. f claimed k; meets = λ z. absurd (omega arith) }
+
+  -- nothing is placed
+  pub placed-past : {done : List ℕ} → c .listed ≤ i → PlacedIs (forest state) (asked bytes c) notes done i 0
+  placed-past {done} h =
+      let past : length (asked bytes c .nodes) ≤ i = omega (arith, told .given .scoped .listed) in
+      goes-on done (λ claimed _ before. record {
+        after = claimed;
+        claimed-after = λ t. before t ∙ ap not (sym (done-claimless (asked bytes c) notes done i t (λ m n e. absurd (omega arith))));
+        left = λ seen es. rw (placing-past (asked bytes c) i past);
+      })
+
+  -- a listed node, as the record says whether it is a graft node and how many children it has
+  module _ (h : i < c .listed) {g : Bool} {n : ℕ} (grafts : g ≡ isSome (graft? (listedAt (batchIn bytes) i .body)))
+      (count : n ≡ length (listedAt (batchIn bytes) i .body .children)) where
+    is-here : i < length (asked bytes c .nodes)
+    is-here = omega (arith, told .given .scoped .listed)
+
+    same-node : listedAt (batchIn bytes) i ≡ listedAt (asked bytes c) i
+    same-node = batched-at bytes (asked bytes c) (batched state bytes c (told .given)) i
+
+    crowded-at : {v : Bool} → bool._&&_ g (ltb 0 n) ≡ v → crowded (listedAt (asked bytes c) i .body) ≡ v
+    crowded-at e = rw same-node at (crowded-is (listedAt (batchIn bytes) i .body) grafts count e)
+
+    -- a number that the node alone says
+    meets-number : (done : List ℕ) (r : ℕ) → 0 < r → ((claimed : List TreeId) → Claimed (asked bytes c) notes done claimed
+        → (seen : List NodeId) (es : List Event) → fault (forest state) (asked bytes c) seen claimed (places (listedAt (asked bytes c) i) ∷ es) ≡ r)
+        → PlacedIs (forest state) (asked bytes c) notes done i r
+    meets-number done r z e =
+        record {
+          goes = λ n. absurd (omega arith);
+          meets = λ _ claimed before seen es. rw (placing-here (asked bytes c) i is-here) (e claimed before seen es);
+        }
+
+    -- row 10
+    pub placed-ten : {done : List ℕ} → bool._&&_ g (ltb 0 n) ≡ true → PlacedIs (forest state) (asked bytes c) notes done i 10
+    unfolding fault first
+    placed-ten {done} e = meets-number done 10 (omega arith) (λ claimed before seen es. rw (crowded-at e))
+
+    module _ (few : bool._&&_ g (ltb 0 n) ≡ false) where
+      -- a node without a claim
+      pub placed-claimless : {done : List ℕ} → (getD notes (CLAIMS + i) 0 ≡ 1 → ⊥) → PlacedIs (forest state) (asked bytes c) notes done i 0
+      unfolding fault first
+      placed-claimless {done} e =
+          let none-claimed = ne-eqb (getD notes (CLAIMS + i) 0) 1 e in
+          let unclaimed = none-of (claim (forest state) (asked bytes c) (listedAt (asked bytes c) i)) (ap not (sym (claim-listed told i h) ∙ none-claimed)) in
+          goes-on done (λ claimed _ before. record {
+            after = claimed;
+            claimed-after = λ t. before t ∙ ap not (sym (done-claimless (asked bytes c) notes done i t (λ m n q. rw q none-claimed)));
+            left = λ seen es. rw (placing-here (asked bytes c) i is-here, crowded-at few, claims-none (forest state) (asked bytes c) _ unclaimed)
+                (found-alone (fault (forest state) (asked bytes c) seen claimed es));
+          })
+
+      -- one that claims its graft t
+      module _ (claims : getD notes (CLAIMS + i) 0 ≡ 1) {t : TreeId} (graft : t ≡ listedAt (batchIn bytes) i .body .graft) {r : Bool} (root : r ≡ sameTree ROOT t) where
+        graft-at : listedAt (asked bytes c) i .body .graft ≡ t
+        graft-at = sym (rw same-node at graft)
+
+        claims-graft : given (claim (forest state) (asked bytes c)) (listedAt (asked bytes c) i ∷ []) ≡ t ∷ []
+        claims-graft = claims-some (forest state) (asked bytes c) (listedAt (asked bytes c) i) t
+            (claim-given (forest state) (asked bytes c) (listedAt (asked bytes c) i) (sym (claim-listed told i h) ∙ eq-eqb _ _ claims) ∙ ap some graft-at)
+
+        -- row 11
+        pub placed-eleven : {done : List ℕ} → r ≡ true → PlacedIs (forest state) (asked bytes c) notes done i 11
+        unfolding fault first
+        placed-eleven {done} e = meets-number done 11 (omega arith) (λ claimed before seen es. rw (crowded-at few, claims-graft, sym root ∙ e))
+
+        module _ (other : r ≡ false) {done : List ℕ} {u : Bool} (free : u ≡ unclaimedIn (asked bytes c) notes done t) where
+          -- row 12
+          pub placed-twelve : u ≡ false → PlacedIs (forest state) (asked bytes c) notes done i 12
+          unfolding fault first
+          placed-twelve e =
+              meets-number done 12 (omega arith) (λ claimed before seen es. rw (crowded-at few, claims-graft, sym root ∙ other, before t ∙ ap not (sym free ∙ e)))
+
+          -- a node that claims a tree first
+          pub placed-claim : u ≡ true → PlacedIs (forest state) (asked bytes c) notes done i 0
+          unfolding fault first _&&_
+          placed-claim e =
+              goes-on done (λ claimed k before. record {
+                after = t ∷ claimed;
+                claimed-after = λ x. ap (λ f. sameTree x t || f) (before x) ∙ either (sameTree x t) (unclaimedIn (asked bytes c) notes done x)
+                    ∙ ap not (sym (rw graft-at at (done-claims (asked bytes c) notes done i x is-here k (eq-eqb _ _ claims))));
+                left = λ seen es. rw (placing-here (asked bytes c) i is-here, crowded-at few, claims-graft, sym root ∙ other, before t ∙ ap not (sym free ∙ e))
+                    (found-alone (fault (forest state) (asked bytes c) seen (t ∷ claimed) es));
+              })
+            where
+              either : (a c : Bool) → (a || not c) ≡ not (not a && c)
+              either true c = refl
+              either false c = refl

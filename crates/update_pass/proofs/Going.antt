@@ -1,23 +1,147 @@
--- Laws of the whole pass: how it begins, goes on and ends. Assumes nothing.
-use mathlib.Core.Bool.{true, false, not}
-use mathlib.Core.List.{List, [], _++_}
-use mathlib.Core.Path.{_≡_, sym, ap, _∙_}
-use Prim.Native.Nat.{ℕ, _+_, _≤_, _<_}
+-- Laws of what is left of the pass: at a child entry, at a node's own turn; and of the whole: how it begins, goes on and ends. Assumes nothing.
+use mathlib.Core.Bool.{true, false, not, Bool, _||_}
+use mathlib.Core.List.{List, [], _++_, _∷_, append-assoc, append-nil}
+use mathlib.Core.Path.{_≡_, sym, ap, _∙_, refl}
+use Prim.Native.Nat.{ℕ, _+_, _≤_, _<_, suc, _-_}
 use native.Mathlib.Omega.{arith}
-use lib.ListN.{length, replicate, set, getD-replicate}
-use Rattle.base.specs.Tests.{_&&_}
+use lib.ListN.{length, replicate, set, getD-replicate, length-set, length-replicate, getD, take, drop, take-append-drop, length-append, length-take, drop-of-length-le}
+use Rattle.base.specs.Tests.{_&&_, if_then_else_, has}
 use Rattle.base.proofs.Indexed.{all-below-each}
 use Rattle.ids.specs.declared.TreeId.{TreeId}
-use Rattle.record.specs.Batch.{Batch, namedIds}
+use Rattle.record.specs.Batch.{Batch, namedIds, NodeData, Listed}
 use Rattle.state.specs.State.{Forest}
-use Rattle.update.specs.Pass.{fault, pass}
+use Rattle.update.specs.Pass.{fault, pass, Event, names, places, placedAtTurn, namings, events}
 use Rattle.update_notes.specs.declared.Scope.{Scope}
 use Rattle.update_notes.specs.Setting.{asked, forest}
 use Rattle.update_notes.specs.Says.{Told, READ}
 use Rattle.update_notes.proofs.Told.{few-listed, few-named}
 use Rattle.update_pass.specs.declared.Step.{Step}
-use Rattle.update_pass.specs.Steps.{At, seen, rest, placing, Moves, isTaken, unclaimedIn, Claimed, GoesOn}
-use Rattle.update_pass.proofs.Rest.{start-within, rest-all, rest-end}
+use Rattle.update_pass.specs.Steps.{At, seen, rest, placing, Moves, isTaken, unclaimedIn, Claimed, PlacedIs, startOf, restOver, waits}
+use mathlib.Core.Option.{Option, none, some}
+use native.Mathlib.Numerals.{add-one}
+use lib.Seq.{take-suc, drop-cons, take-append-seam}
+use Rattle.ids.specs.Ids.{sameNode}
+use Rattle.ids.specs.declared.NodeId.{NodeId}
+use Rattle.record.proofs.Batch.{named-append, named-at}
+use Rattle.record_reader.specs.Reader.{noNode, blank, listedAt}
+use Rattle.update.specs.Words.{listing}
+
+-- ## The children that nodes name
+
+-- the first nodes of a list name the first children
+named-take : (ls : List Listed) (i : ℕ) → namedIds (take i ls) ≡ take (length (namedIds (take i ls))) (namedIds ls)
+named-take ls i =
+    sym
+    (ap (λ l. take (length (namedIds (take i ls))) (namedIds l)) (sym (take-append-drop i ls))
+    ∙ ap (take (length (namedIds (take i ls)))) (named-append (take i ls) (drop i ls))
+    ∙ take-append-seam (namedIds (take i ls)) (namedIds (drop i ls)))
+
+-- a node's children are among all
+pub start-within : (b : Batch) (i : ℕ) → startOf b i ≤ length (namedIds (b .nodes))
+start-within b i =
+    let all = namedIds (b .nodes) in
+    omega (arith, ap length (named-take (b .nodes) i) ∙ length-take (length (namedIds (take i (b .nodes)))) all)
+
+-- one node more
+named-more : (ls : List Listed) (i : ℕ) → i < length ls → namedIds (take (i + 1) ls) ≡ namedIds (take i ls) ++ getD ls i blank .body .children
+unfolding namedIds
+named-more ls i h =
+    rw (add-one, take-suc ls i blank, named-append (take i ls) (getD ls i blank ∷ [])) (ap (λ l. namedIds (take i ls) ++ l) (append-nil (getD ls i blank .body .children)))
+
+module _ (b : Batch) (i : ℕ) (h : i < length (b .nodes)) where
+  -- where the next node's children begin
+  pub start-more : startOf b (i + 1) ≡ startOf b i + length (listedAt b i .body .children)
+  unfolding listedAt
+  start-more = ap length (named-more (b .nodes) i h) ∙ length-append (namedIds (take i (b .nodes))) (getD (b .nodes) i blank .body .children)
+
+  -- the children named up to a node's own turn
+  named-until : namedIds (take i (b .nodes)) ++ listedAt b i .body .children ≡ take (startOf b (i + 1)) (namedIds (b .nodes))
+  unfolding listedAt
+  named-until = sym (named-more (b .nodes) i h) ∙ named-take (b .nodes) (i + 1)
+
+-- ## What is left of the pass
+
+module _ (s : Forest) (b : Batch) where
+  -- a child is named, and placed if it waited for that
+  namings-cons : (earlier : List Listed) (c : NodeId) (cs : List NodeId) → namings s b earlier (c ∷ cs) ≡ names c ∷ (waits s b earlier c ++ namings s b earlier cs)
+  unfolding namings waits
+  namings-cons earlier c cs = ap (λ es. names c ∷ es) (on (listing earlier c))
+    where
+      later : List Event
+      later = namings s b earlier cs
+
+      turn : (v : Event) (t : Bool) → (if t then later else v ∷ later) ≡ (if t then [] else v ∷ []) ++ later
+      turn v true = refl
+      turn v false = refl
+
+      on : (o : Option NodeData)
+          → (elim o as (λ _. List Event) [ none ↦ later | some d ↦ if placedAtTurn s b c then later else places (record { id = c; body = d }) ∷ later ])
+          ≡ (elim o as (λ _. List Event) [ none ↦ [] | some d ↦ if placedAtTurn s b c then [] else places (record { id = c; body = d }) ∷ [] ]) ++ later
+      on none = refl
+      on (some d) = turn (places (record { id = c; body = d })) (placedAtTurn s b c)
+
+  -- all of it, at the first child of the first node
+  over-all : (earlier ls : List Listed) → restOver s b earlier 0 ls ≡ events s b earlier ls
+  unfolding restOver events
+  over-all earlier [] = refl
+  over-all earlier (l ∷ ls) = refl
+
+  -- what happens at a node's own turn
+  abbrev own : List Listed → Listed → List Event
+  own earlier l = if placedAtTurn s b (l .id) || has sameNode (namedIds earlier ++ l .body .children) (l .id) then places l ∷ [] else []
+
+  module _ (earlier : List Listed) (l : Listed) (ls : List Listed) (m : ℕ) where
+    -- at a child
+    over-name : m < length (l .body .children)
+        → restOver s b earlier m (l ∷ ls) ≡ names (getD (l .body .children) m noNode) ∷ (waits s b earlier (getD (l .body .children) m noNode) ++ restOver s b earlier (suc m) (l ∷ ls))
+    unfolding restOver
+    over-name h =
+        let c = getD (l .body .children) m noNode in
+        rw (drop-cons (l .body .children) m noNode h, namings-cons earlier c (drop (suc m) (l .body .children)))
+        (ap (λ es. names c ∷ es) (simp append-assoc))
+
+    -- past the children
+    over-own : length (l .body .children) ≤ m → restOver s b earlier m (l ∷ ls) ≡ own earlier l ++ restOver s b (earlier ++ l ∷ []) 0 ls
+    unfolding restOver namings
+    over-own h = rw (drop-of-length-le (l .body .children) h, over-all (earlier ++ l ∷ []) ls)
+
+  -- the pass begins
+  pub rest-all : rest s b 0 0 ≡ events s b [] (b .nodes)
+  unfolding rest namedIds
+  rest-all = over-all [] (b .nodes)
+
+  -- and ends
+  pub rest-end : (i j : ℕ) → length (b .nodes) ≤ i → rest s b i j ≡ []
+  unfolding rest restOver
+  rest-end i j h = rw (drop-of-length-le (b .nodes) h)
+
+  module _ (i j : ℕ) (at : At b i j) (h : i < length (b .nodes)) where
+    -- at a child entry
+    pub rest-name : j < startOf b (i + 1)
+        → rest s b i j ≡ names (getD (namedIds (b .nodes)) j noNode) ∷ (waits s b (take i (b .nodes)) (getD (namedIds (b .nodes)) j noNode) ++ rest s b i (j + 1))
+    unfolding rest listedAt
+    rest-name e =
+        let l = getD (b .nodes) i blank in
+        let m = j - startOf b i in
+        let short : m < length (l .body .children) = omega (arith, start-more b i h, at .begun) in
+        let here : startOf b i + m ≡ j = omega (arith, at .begun) in
+        let next : j + 1 - startOf b i ≡ suc m = omega (arith, at .begun) in
+        let child : getD (namedIds (b .nodes)) j noNode ≡ getD (l .body .children) m noNode =
+        ap (λ k. getD (namedIds (b .nodes)) k noNode) (sym here) ∙ named-at (b .nodes) i m noNode blank h short in
+        rw (drop-cons (b .nodes) i blank h, child, next) (over-name (take i (b .nodes)) l (drop (suc i) (b .nodes)) m short)
+
+    -- at the node's own turn
+    pub rest-own : j ≡ startOf b (i + 1)
+        → rest s b i j
+        ≡ (if placedAtTurn s b (listedAt b i .id) || has sameNode (take j (namedIds (b .nodes))) (listedAt b i .id) then places (listedAt b i) ∷ [] else []) ++ rest s b (i + 1) j
+    unfolding rest listedAt
+    rest-own e =
+        let l = getD (b .nodes) i blank in
+        let m = j - startOf b i in
+        let none-left : j - startOf b (i + 1) ≡ 0 = omega arith in
+        rw (drop-cons (b .nodes) i blank h)
+        (over-own (take i (b .nodes)) l (drop (suc i) (b .nodes)) m (omega (arith, start-more b i h))
+        ∙ rw (none-left, e, ← named-until b i h, add-one, take-suc (b .nodes) i blank h))
 
 -- the pass stands at child entry j of listed node i, and its answer is what is left to meet
 pub record Going (s : Forest) (b : Batch) (notes done : List ℕ) (i j : ℕ) : Type 0 where
@@ -26,6 +150,7 @@ pub record Going (s : Forest) (b : Batch) (notes done : List ℕ) (i j : ℕ) : 
   pub claimed : List TreeId
   pub claimed-is : Claimed b notes done claimed
   pub left : fault s b (seen (namedIds (b .nodes)) j) claimed (rest s b i j) ≡ pass s b
+  pub long : length done ≡ 65
 
 -- no node is done yet
 none-done : (b : Batch) (notes : List ℕ) (t : TreeId) → length (b .nodes) ≤ 64 → unclaimedIn b notes (replicate 65 0) t ≡ true
@@ -33,49 +158,52 @@ unfolding unclaimedIn isTaken _&&_
 none-done b notes t few =
     all-below-each (λ m. not (isTaken b notes (replicate 65 0) t m)) (length (b .nodes)) (λ m l. rw (getD-replicate {A = ℕ} 65 m 0 0 (omega arith)))
 
-module _ {s : Forest} {b : Batch} {notes : List ℕ} where
-  -- at the first child entry
-  pub begins : length (b .nodes) ≤ 64 → Going s b notes (replicate 65 0) 0 0
-  unfolding namedIds seen pass
-  begins few =
-      record {
-        here = record { begun = omega arith; within = λ h. omega arith };
-        listed = omega arith;
-        claimed = [];
-        claimed-is = λ t. sym (ap not (none-done b notes t few));
-        left = ap (fault s b [] []) (rest-all s b);
-      }
+-- at the first child entry
+pub begins : {state bytes : List ℕ} {c : Scope} {notes : List ℕ} → Told READ state bytes c notes → Going (forest state) (asked bytes c) notes (replicate 65 0) 0 0
+unfolding namedIds seen pass
+begins {state} {bytes} {c} {notes} told =
+    let few : length (asked bytes c .nodes) ≤ 64 = omega (arith, told .given .scoped .listed, few-listed state bytes c (told .given)) in
+    record {
+      here = record { begun = omega arith; within = λ h. omega arith };
+      listed = omega arith;
+      claimed = [];
+      claimed-is = λ t. sym (ap not (none-done (asked bytes c) notes t few));
+      left = ap (fault (forest state) (asked bytes c) [] []) (rest-all (forest state) (asked bytes c));
+      long = length-replicate {A = ℕ} 65 0;
+    }
 
-  module _ {done : List ℕ} {i j : ℕ} (g : Going s b notes done i j) where
-    -- past the last node
-    pub ends : length (b .nodes) ≤ i → 0 ≡ pass s b
-    unfolding fault
-    ends h = sym (ap (fault s b (seen (namedIds (b .nodes)) j) (g .claimed)) (rest-end s b i j h)) ∙ g .left
+-- past the last node
+pub ends : {state bytes : List ℕ} {c : Scope} {notes done : List ℕ} {i j : ℕ} → Told READ state bytes c notes → Going (forest state) (asked bytes c) notes done i j
+    → c .listed ≤ i → 0 ≡ pass (forest state) (asked bytes c)
+unfolding fault
+ends {i = i} {j} told g h = sym (ap (fault _ _ _ (g .claimed)) (rest-end _ _ i j (omega (arith, told .given .scoped .listed)))) ∙ g .left
 
-    module _ {r : Step} (m : Moves s b i j r) where
-      -- at a child named before
-      pub stops-twice : r .twice ≡ true → 9 ≡ pass s b
-      stops-twice e = sym (m .twice (g .claimed) e) ∙ g .left
+module _ {s : Forest} {b : Batch} {notes done : List ℕ} {i j : ℕ} (g : Going s b notes done i j) {r : Step} (m : Moves s b i j r) where
+  -- at a child named before
+  pub stops-twice : r .twice ≡ true → 9 ≡ pass s b
+  stops-twice e = sym (m .twice (g .claimed) e) ∙ g .left
 
-      module _ (e : r .twice ≡ false) where
-        -- what is left after the step
-        after-step : fault s b (seen (namedIds (b .nodes)) (r .j)) (g .claimed) (placing b (r .at) ++ rest s b (r .i) (r .j)) ≡ pass s b
-        after-step = sym (m .once (g .claimed) e) ∙ g .left
+  module _ (e : r .twice ≡ false) {n : ℕ} (placed : PlacedIs s b notes done (r .at) n) where
+    -- what is left after the step
+    after-step : fault s b (seen (namedIds (b .nodes)) (r .j)) (g .claimed) (placing b (r .at) ++ rest s b (r .i) (r .j)) ≡ pass s b
+    after-step = sym (m .once (g .claimed) e) ∙ g .left
 
-        -- at a node whose placing meets a number
-        pub stops : (n : ℕ) → fault s b (seen (namedIds (b .nodes)) (r .j)) (g .claimed) (placing b (r .at) ++ rest s b (r .i) (r .j)) ≡ n → n ≡ pass s b
-        stops n q = sym q ∙ after-step
+    -- at a node whose placing meets a number
+    pub stops : (n ≡ 0 → ⊥) → n ≡ pass s b
+    stops q = sym (placed .meets (omega arith) (g .claimed) (g .claimed-is) (seen (namedIds (b .nodes)) (r .j)) (rest s b (r .i) (r .j))) ∙ after-step
 
-        -- it goes on after the others
-        pub goes : GoesOn s b notes done (r .at) (g .claimed) → Going s b notes (set done (r .at) 1) (r .i) (r .j)
-        goes o =
-            record {
-              here = m .there;
-              listed = m .listed;
-              claimed = o .after;
-              claimed-is = o .claimed-after;
-              left = sym (o .left (seen (namedIds (b .nodes)) (r .j)) (rest s b (r .i) (r .j))) ∙ after-step;
-            }
+    -- it goes on after the others
+    pub goes : n ≡ 0 → Going s b notes (set done (r .at) 1) (r .i) (r .j)
+    goes q =
+        let o = placed .goes q (omega (arith, m .at-within, g .long)) (g .claimed) (g .claimed-is) in
+        record {
+          here = m .there;
+          listed = m .listed;
+          claimed = o .after;
+          claimed-is = o .claimed-after;
+          left = sym (o .left (seen (namedIds (b .nodes)) (r .j)) (rest s b (r .i) (r .j))) ∙ after-step;
+          long = length-set done (r .at) 1 ∙ g .long;
+        }
 
 -- how far it is
 pub going-within : {state bytes : List ℕ} {c : Scope} {notes done : List ℕ} {i j : ℕ} → Told READ state bytes c notes

@@ -1,9 +1,5 @@
-pub mod Rest
 pub mod Faults
-pub mod Searches
 pub mod Read
-pub mod Firsts
 pub mod Steps
-pub mod Placing
 pub mod Going
 pub mod Rows

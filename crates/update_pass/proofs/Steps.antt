@@ -8,7 +8,7 @@ use native.Mathlib.Decide.{decLt}
 use native.Mathlib.Omega.{arith}
 use lib.Dec.{ltb, leb}
 use lib.ListN.{length, getD, take}
-use borrow.Author.Tests.{lt-ltb, le-ltb, le-leb, lt-leb}
+use borrow.Author.Tests.{le-ltb, le-leb, lt-leb}
 use Rattle.base.specs.Tests.{if_then_else_, has, position}
 use Rattle.base.specs.Search.{First}
 use Rattle.ids.specs.Ids.{sameNode}
@@ -20,31 +20,19 @@ use Rattle.state.specs.State.{Forest}
 use Rattle.state_array.specs.View.{slotsOf}
 use Rattle.update.specs.Words.{listing, here, turn}
 use Rattle.update.specs.Pass.{Event, places, placedAtTurn, fault}
-use Rattle.update_notes.specs.Layout.{NAMED, NAMED-SLOTS, NAMINGS}
+use Rattle.update_notes.specs.Layout.{NAMED, ENDS, NAMED-SLOTS, NAMINGS}
 use Rattle.update_notes.specs.declared.Scope.{Scope}
 use Rattle.update_notes.specs.Setting.{asked, forest}
 use Rattle.update_notes.specs.Says.{PositionIn}
 use Rattle.update_notes.proofs.Marks.{turn-first}
 use Rattle.update_notes.proofs.Told.{few-listed, few-named}
 use Rattle.update_pass.specs.Steps.{startOf, At, Standing, rest, seen, placing, waits, Moves}
-use Rattle.update_pass.proofs.Rest.{start-within, start-more, rest-name, rest-own}
-use Rattle.update_pass.proofs.Faults.{seen-has, seen-more, fault-twice, fault-once}
-use Rattle.update_pass.proofs.Searches.{has-before, first-place, listing-found, listing-missing, due-reached, due-is}
-use Rattle.update_pass.proofs.Firsts.{first-listed, first-id, first-unplaced, first-at, first-found}
-use Rattle.update_pass.proofs.Read.{listed-room, named-room, named-word, named-old, named-mark, named-search}
+use Rattle.update_pass.proofs.Going.{start-within, start-more, rest-name, rest-own}
+use Rattle.update_pass.proofs.Faults.{placing-here, placing-past, seen-has, seen-more, fault-twice, fault-once}
+use Rattle.update_pass.proofs.Read.{has-before, first-place, listing-found, listing-missing, due-reached, due-is, end-word, named-word, named-old, named-mark, named-search}
+use Rattle.update_pass.proofs.Rows.{first-listed, first-id, first-unplaced, first-at, first-found}
 
--- ## The placing of a node
-
-module _ (b : Batch) (i : ℕ) where
-  -- of a listed node
-  pub placing-here : i < length (b .nodes) → placing b i ≡ places (listedAt b i) ∷ []
-  unfolding placing
-  placing-here h = rw (lt-ltb i (length (b .nodes)) h)
-
-  -- past the last
-  pub placing-past : length (b .nodes) ≤ i → placing b i ≡ []
-  unfolding placing
-  placing-past h = rw (le-ltb i (length (b .nodes)) h)
+-- ## A child that waits
 
 module _ (s : Forest) (b : Batch) (earlier : List Listed) (c : NodeId) where
   -- a child that is placed at its turn
@@ -126,10 +114,17 @@ module _ {state bytes : List ℕ} {c : Scope} {notes due firsts : List ℕ} {i j
 
   -- it has a place
   pub node-room : i < 64
-  node-room = listed-room (q .prepared .told) i (q .listed)
+  node-room = omega (arith, q .listed, few-listed state bytes c (q .prepared .told .given))
+
+  -- where the node's children end
+  pub end-here : getD notes (ENDS + i) 0 ≡ startOf (asked bytes c) (i + 1)
+  end-here = end-word (q .prepared .told) i (q .listed)
 
   -- the node's own turn: it is placed
-  module _ (past : startOf (asked bytes c) (i + 1) ≤ j) where
+  module _ (past : getD notes (ENDS + i) 0 ≤ j) where
+    last-entry : j ≡ startOf (asked bytes c) (i + 1)
+    last-entry = omega (arith, end-here, q .here .within is-listed)
+
     turn-test : leb (getD due i 0) j
         ≡ (placedAtTurn (forest state) (asked bytes c) (listedAt (asked bytes c) i .id)
         || has sameNode (take j (namedIds (asked bytes c .nodes))) (listedAt (asked bytes c) i .id))
@@ -139,13 +134,13 @@ module _ {state bytes : List ℕ} {c : Scope} {notes due firsts : List ℕ} {i j
 
     pub moves-turn : getD due i 0 ≤ j → Moves (forest state) (asked bytes c) i j (record { i = i + 1; j = j; twice = false; at = i })
     moves-turn l =
-        turn-moves (q .here) is-listed i (omega (arith, q .here .within is-listed)) (omega (arith, few-nodes, is-listed))
+        turn-moves (q .here) is-listed i last-entry (omega (arith, few-nodes, is-listed))
         (placing-here (asked bytes c) i is-listed ∙ rw (sym turn-test ∙ le-leb (getD due i 0) j l))
 
     -- or waits
     pub moves-wait : j < getD due i 0 → Moves (forest state) (asked bytes c) i j (record { i = i + 1; j = j; twice = false; at = 64 })
     moves-wait l =
-        turn-moves (q .here) is-listed 64 (omega (arith, q .here .within is-listed)) (omega arith)
+        turn-moves (q .here) is-listed 64 last-entry (omega arith)
         (placing-past (asked bytes c) 64 few-nodes ∙ rw (sym turn-test ∙ lt-leb (getD due i 0) j l))
 
   -- a child is named
@@ -153,10 +148,6 @@ module _ {state bytes : List ℕ} {c : Scope} {notes due firsts : List ℕ} {i j
     -- it is one of all
     is-named : j < c .named
     is-named = omega (arith, start-within (asked bytes c) (i + 1), q .prepared .told .given .scoped .named)
-
-    -- so it has a place
-    pub entry-room : j < 256
-    entry-room = named-room (q .prepared .told) j is-named
 
     -- and none is placed
     name-only : (twice : Bool) → twice ≡ has sameNode (take j (namedIds (asked bytes c .nodes))) (getD (namedIds (asked bytes c .nodes)) j noNode)
@@ -184,24 +175,25 @@ module _ {state bytes : List ℕ} {c : Scope} {notes due firsts : List ℕ} {i j
           (has-before sameNode (getD all j noNode) all j (omega (arith, is-named, q .prepared .told .given .scoped .named))
           ∙ le-ltb _ j (omega (arith, first-at (q .prepared) j is-named l)))
 
-      -- an earlier one
-      pub moves-waiting : getD firsts (j + 1) 0 < i → Moves (forest state) (asked bytes c) i j (record { i = i; j = j + 1; twice = false; at = getD firsts (j + 1) 0 })
-      unfolding listedAt
-      moves-waiting m =
-          name-moves (q .here) is-listed false (getD firsts (j + 1) 0) entry (omega arith) named-first
-          (λ _. placing-here (asked bytes c) (getD firsts (j + 1) 0) (first-listed (q .prepared) j is-named l)
-          ∙ sym
-          (waits-here (forest state) (asked bytes c) (take i (asked bytes c .nodes)) _ _
-          (listing-found (asked bytes c .nodes) _ i (getD firsts (j + 1) 0) (omega (arith, is-listed)) (first-found (q .prepared) j is-named l) m)
-          (first-unplaced (q .prepared) j is-named l)
-          ∙ rw (first-id (q .prepared) j is-named l)))
-
       -- or a later one
       pub moves-later : i ≤ getD firsts (j + 1) 0 → Moves (forest state) (asked bytes c) i j (record { i = i; j = j + 1; twice = false; at = 64 })
       unfolding listedAt
       moves-later m =
           name-only false named-first (λ _. waits-missing (forest state) (asked bytes c) (take i (asked bytes c .nodes)) _
           (listing-missing (asked bytes c .nodes) _ i (getD firsts (j + 1) 0) (omega (arith, is-listed)) (first-found (q .prepared) j is-named l) m))
+
+    -- an earlier one
+    pub moves-waiting : getD firsts (j + 1) 0 < i → Moves (forest state) (asked bytes c) i j (record { i = i; j = j + 1; twice = false; at = getD firsts (j + 1) 0 })
+    unfolding listedAt
+    moves-waiting m =
+        let l : getD firsts (j + 1) 0 < 64 = omega (arith, node-room) in
+        name-moves (q .here) is-listed false (getD firsts (j + 1) 0) entry (omega arith) (named-first l)
+        (λ _. placing-here (asked bytes c) (getD firsts (j + 1) 0) (first-listed (q .prepared) j is-named l)
+        ∙ sym
+        (waits-here (forest state) (asked bytes c) (take i (asked bytes c .nodes)) _ _
+        (listing-found (asked bytes c .nodes) _ i (getD firsts (j + 1) 0) (omega (arith, is-listed)) (first-found (q .prepared) j is-named l) m)
+        (first-unplaced (q .prepared) j is-named l)
+        ∙ rw (first-id (q .prepared) j is-named l)))
 
     -- any other: it was named before, or is not listed, or is placed at its turn
     module _ (l : 64 ≤ getD firsts (j + 1) 0) where

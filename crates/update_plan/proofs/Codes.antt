@@ -16,7 +16,7 @@ use Rattle.ids.specs.declared.FullNodeId.{FullNodeId}
 use Rattle.update_notes.specs.Layout.{CODES}
 use Rattle.update_notes.specs.Columns.{Below}
 use Rattle.update_notes.proofs.Columns.{below-none, below-set}
-use Rattle.update_plan.specs.Plan.{codeIn, Ascends, Codes, Inserted}
+use Rattle.update_plan.specs.Plan.{codeIn, Ascends, Codes, Inserted, PlaceOf}
 
 -- codes that belong by one rule belong by another that says the same
 pub codes-alike : (id : ℕ → FullNodeId) (P Q : ℕ → Type 0) (n : ℕ) (l : List ℕ) → ((c : ℕ) → P c → Q c) → ((c : ℕ) → Q c → P c)
@@ -125,23 +125,44 @@ shift-end was notes n at code room h =
 
 -- ## Bisection
 
-module _ (id : ℕ → FullNodeId) (n : ℕ) (up : Ascends id n) (x : FullNodeId) (middle : ℕ) (y : FullNodeId) (is : y ≡ id middle) where
+-- the place of x among n ids is between low and high
+pub record Between (id : ℕ → FullNodeId) (n : ℕ) (x : FullNodeId) (low high : ℕ) : Type 0 where
+  pub ordered : low ≤ high
+  pub within : high ≤ n
+  pub under : (k : ℕ) → k < low → before (id k) x ≡ true
+  pub over : (k : ℕ) → high ≤ k → k < n → before (id k) x ≡ false
+
+pub between-all : (id : ℕ → FullNodeId) (n : ℕ) (x : FullNodeId) → Between id n x 0 n
+between-all id n x = record { ordered = omega arith; within = omega arith; under = λ k h. absurd (omega arith); over = λ k h l. absurd (omega arith) }
+
+module _ (id : ℕ → FullNodeId) {n : ℕ} (up : Ascends id n) {x : FullNodeId} {low high : ℕ} (b : Between id n x low high) (middle : ℕ) (h : low ≤ middle) (l : middle < high)
+    {y : FullNodeId} (is : y ≡ id middle) {v : Bool} (test : v ≡ before y x) where
   -- a middle that comes before x: so do all before it
-  pub under-middle : middle < n → before y x ≡ true → (k : ℕ) → k < middle + 1 → before (id k) x ≡ true
-  under-middle h b k l = go (eq-or-lt-of-le (le-of-suc-le-suc (rw add-one at l)))
+  pub between-above : v ≡ true → Between id n x (middle + 1) high
+  between-above e = record { ordered = omega arith; within = b .within; under = λ k m. go k (eq-or-lt-of-le (le-of-suc-le-suc (rw add-one at m))); over = b .over }
     where
-      go : (k ≡ middle) ⊎ (k < middle) → before (id k) x ≡ true
-      go (inl e) = rw (e, ← is) b
-      go (inr m) = before-trans (id k) (id middle) x (up k middle m h) (rw (← is) b)
+      here : before (id middle) x ≡ true
+      here = rw (← is) (sym test ∙ e)
+
+      go : (k : ℕ) → (k ≡ middle) ⊎ (k < middle) → before (id k) x ≡ true
+      go k (inl q) = rw q here
+      go k (inr m) = before-trans (id k) (id middle) x (up k middle m (omega (arith, b .within))) here
 
   -- one that does not: nor does any after it
-  pub over-middle : before y x ≡ false → (k : ℕ) → middle ≤ k → k < n → before (id k) x ≡ false
-  over-middle b k l h = on (eq-or-lt-of-le l)
+  pub between-below : v ≡ false → Between id n x low middle
+  between-below e = record { ordered = h; within = omega (arith, b .within); under = b .under; over = λ k m o. on k o (eq-or-lt-of-le m) }
     where
-      go : middle < k → (c : Bool) → before (id k) x ≡ c → c ≡ false
-      go m false q = refl
-      go m true q = absurd (false≢true (sym b ∙ rw is (before-trans (id middle) (id k) x (up middle k m h) q)))
+      here : before (id middle) x ≡ false
+      here = rw (← is) (sym test ∙ e)
 
-      on : (middle ≡ k) ⊎ (middle < k) → before (id k) x ≡ false
-      on (inl e) = rw (← e, ← is) b
-      on (inr m) = go m (before (id k) x) refl
+      go : (k : ℕ) → middle < k → k < n → (c : Bool) → before (id k) x ≡ c → c ≡ false
+      go k m o false q = refl
+      go k m o true q = absurd (false≢true (sym here ∙ before-trans (id middle) (id k) x (up middle k m o) q))
+
+      on : (k : ℕ) → k < n → (middle ≡ k) ⊎ (middle < k) → before (id k) x ≡ false
+      on k o (inl q) = rw (← q) here
+      on k o (inr m) = go k m o (before (id k) x) refl
+
+-- where they meet it is found
+pub between-ends : {id : ℕ → FullNodeId} {n : ℕ} {x z : FullNodeId} {low high : ℕ} → Between id n x low high → high ≤ low → x ≡ z → PlaceOf id n z low
+between-ends b h e = rw (← e) (record { within = omega (arith, b .ordered, b .within); under = b .under; over = λ k l m. b .over k (omega arith) m })

@@ -74,7 +74,7 @@ module _ (s : Forest) (b : Batch) (kept : Kept s) (x : FullNodeId) where
 
 -- ## What the notes say of the outcome's node r
 
-module _ (state bytes : List ℕ) (c : Scope) (notes : List ℕ) (told : Told CODED state bytes c notes) (r : ℕ) (h : r < outcomeCount state bytes c) where
+module _ {state bytes : List ℕ} {c : Scope} {notes : List ℕ} (told : Told CODED state bytes c notes) {r : ℕ} (h : r < outcomeCount state bytes c) where
   abbrev s : Forest
   s = forest state
 

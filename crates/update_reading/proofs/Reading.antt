@@ -1,18 +1,21 @@
--- What is read out of a batch is what the columns are to hold. Assumes nothing.
+-- Laws of what a batch says: words, slots, claims, and the marks of the slots. Assumes nothing.
 use mathlib.Core.Bool.{Bool, true, false, not}
 use mathlib.Core.List.{List, [], _∷_, append-nil}
 use mathlib.Core.Option.{Option, none}
-use mathlib.Core.Path.{_≡_, sym, ap, ap₂, _∙_}
-use Prim.Native.Nat.{ℕ, _+_, _<_}
+use mathlib.Core.Path.{_≡_, sym, ap, ap₂, _∙_, refl}
+use Prim.Native.Nat.{ℕ, _+_, _≤_, _<_, suc}
 use native.Mathlib.Numerals.{add-one}
 use native.Mathlib.Omega.{arith}
-use lib.Dec.{ltb}
-use lib.ListN.{length, getD, take, length-append}
-use lib.Seq.{take-suc}
-use Rattle.base.specs.Tests.{_&&_, if_then_else_, isSome, sameOption}
-use Rattle.base.specs.Bytes.{le}
+use Rattle.base.specs.Regions.{fill}
+use Rattle.base.proofs.Regions.{fill-length}
+use Rattle.update_notes.proofs.Columns.{holds-fill, below-none, below-set}
+use lib.Dec.{ltb, eqb}
+use lib.ListN.{length, getD, take, length-append, set}
+use lib.Seq.{take-suc, getD-set-same, getD-set-other}
+use Rattle.base.specs.Tests.{_&&_, if_then_else_, isSome, sameOption, position}
+use Rattle.base.specs.Bytes.{le, listOf}
 use Rattle.base.proofs.Tests.{and-false, and-right}
-use Rattle.base.proofs.Bytes.{le-one, le-add}
+use Rattle.base.proofs.Bytes.{le-one, le-add, length-list-of, list-of-at}
 use Rattle.ids.specs.Ids.{sameTree}
 use Rattle.ids.specs.declared.TreeId.{TreeId}
 use Rattle.ids.specs.declared.TreeIndex.{TreeIndex}
@@ -26,7 +29,7 @@ use Rattle.state.specs.State.{graftAt}
 use Rattle.state_array.specs.View.{slotsOf}
 use Rattle.update.specs.Words.{here, claim}
 use Rattle.update_notes.specs.Layout.{LISTED, NAMED, LISTED-SLOTS, NAMED-SLOTS, TURNS, NAMINGS}
-use Rattle.update_notes.specs.Columns.{Holds}
+use Rattle.update_notes.specs.Columns.{Holds, Below}
 use Rattle.update_notes.specs.declared.Scope.{Scope}
 use Rattle.update_notes.specs.Setting.{asked, forest, Given}
 use Rattle.update_notes.specs.Codes.{idAt, slotAt, flag}
@@ -36,8 +39,129 @@ use Rattle.update_notes.proofs.Marks.{turn-mark, naming-mark}
 use Rattle.update_notes.proofs.Grafts.{graft-slot}
 use Rattle.update_notes.proofs.Setting.{batched-at}
 use Rattle.update_notes.proofs.Told.{batched, told-below, told-more}
-use Rattle.update_reading.specs.Reading.{slotWord, Marked, claimOf}
-use Rattle.update_reading.proofs.Marks.{mark-is}
+use Rattle.update_reading.specs.Reading.{slotWord, MarkRoom, Marked, claimOf, MarkOf, MarksTo}
+use native.Mathlib.Decide.{decLt, ℕ-discrete}
+use borrow.Author.Tests.{lt-ltb, le-ltb, eqb-true, eqb-false}
+use Rattle.base.specs.Search.{First}
+use Rattle.update_notes.proofs.Positions.{first-cong, position-first}
+
+-- ## One more place
+
+module _ (slot : ℕ → ℕ) (j i v : ℕ) (before : MarkOf slot j i v) where
+  -- the first place is among those passed
+  earlier : (r : ℕ) → First (λ k. eqb (slot k) i) (j + 1) r → r < j → v ≡ suc r
+  earlier r f h =
+      rw (lt-ltb r j h) at (before r (record { within = omega arith; passed = f .passed; hit = λ l. f .hit (omega arith) }))
+
+  -- or there is none
+  nowhere : (r : ℕ) → First (λ k. eqb (slot k) i) (j + 1) r → j ≤ r → v ≡ 0
+  nowhere r f h =
+      rw (le-ltb j j (omega arith)) at (before j (record { within = omega arith; passed = λ k l. f .passed k (omega arith); hit = λ l. absurd (omega arith) }))
+
+  -- a place with another slot
+  mark-other : (slot j ≡ i → ⊥) → MarkOf slot (j + 1) i v
+  mark-other other r f = go (decLt r j)
+    where
+      past : j ≤ r → j < r
+      past l = go′ (decLt j r)
+        where
+          go′ : Dec (j < r) → j < r
+          go′ (yes m) = m
+          go′ (no m) = let e : r ≡ j = omega arith in absurd (other (eqb-true (slot j) i (rw e at (f .hit (omega arith)))))
+
+      go : Dec (r < j) → v ≡ (if ltb r (j + 1) then suc r else 0)
+      go (yes h) = rw (lt-ltb r (j + 1) (omega arith)) (earlier r f h)
+      go (no h) = let m : j < r = past (omega arith) in rw (le-ltb r (j + 1) (omega arith)) (nowhere r f (omega arith))
+
+  -- a slot that is marked keeps its mark
+  mark-kept : 1 ≤ v → MarkOf slot (j + 1) i v
+  mark-kept there r f = go (decLt r j)
+    where
+      go : Dec (r < j) → v ≡ (if ltb r (j + 1) then suc r else 0)
+      go (yes h) = rw (lt-ltb r (j + 1) (omega arith)) (earlier r f h)
+      go (no h) = absurd (omega (arith, nowhere r f (omega arith)))
+
+  -- a slot that is not is marked now
+  mark-new : slot j ≡ i → v < 1 → MarkOf slot (j + 1) i (j + 1)
+  mark-new e low r f = go (decLt r j) (decLt j r)
+    where
+      go : Dec (r < j) → Dec (j < r) → j + 1 ≡ (if ltb r (j + 1) then suc r else 0)
+      go (yes h) m = absurd (omega (arith, earlier r f h))
+      go (no h) (yes m) = absurd (eqb-false (slot j) i (f .passed j m) e)
+      go (no h) (no m) = rw (lt-ltb r (j + 1) (omega arith)) (omega arith)
+
+-- ## The column
+
+module _ (slot : ℕ → ℕ) (j to n : ℕ) (notes : List ℕ) (before : MarksTo slot j to n notes) where
+  -- no slot of the column stands at place j
+  marks-past : n ≤ slot j → MarksTo slot (j + 1) to n notes
+  marks-past out i h = mark-other slot j i (getD notes (to + i) 0) (before i h) (λ e. omega arith)
+
+  -- the slot that stands there is marked already
+  marks-kept : 1 ≤ getD notes (to + slot j) 0 → MarksTo slot (j + 1) to n notes
+  marks-kept there i h = go (ℕ-discrete (slot j) i)
+    where
+      go : Dec (slot j ≡ i) → MarkOf slot (j + 1) i (getD notes (to + i) 0)
+      go (yes e) = mark-kept slot j i (getD notes (to + i) 0) (before i h) (rw (← e) there)
+      go (no e) = mark-other slot j i (getD notes (to + i) 0) (before i h) e
+
+  -- it is not, and its mark is stored
+  marks-stored : to + slot j < length notes → getD notes (to + slot j) 0 < 1 → MarksTo slot (j + 1) to n (set notes (to + slot j) (j + 1))
+  marks-stored within low i h = go (ℕ-discrete (slot j) i)
+    where
+      go : Dec (slot j ≡ i) → MarkOf slot (j + 1) i (getD (set notes (to + slot j) (j + 1)) (to + i) 0)
+      go (yes e) =
+          rw (← e, getD-set-same notes (to + slot j) (j + 1) 0 within)
+          (mark-new slot j (slot j) (getD notes (to + slot j) 0) (rw e (before i h)) refl low)
+      go (no e) =
+          rw (getD-set-other notes (to + slot j) (to + i) (j + 1) 0 (λ q. e (omega arith))) (mark-other slot j i (getD notes (to + i) 0) (before i h) e)
+
+-- no place passed, and no mark
+marks-none : (slot : ℕ → ℕ) (to n : ℕ) (notes : List ℕ) → Holds notes to n (λ i. 0) → MarksTo slot 0 to n notes
+marks-none slot to n notes zeros i h r f = rw (le-ltb r 0 (omega arith)) (zeros i h)
+
+-- ## The loop
+
+-- the marks of the first j slots from `from` on, and nothing before `to` is other
+pub record Marking (from to n : ℕ) (before : List ℕ) (j : ℕ) (after : List ℕ) : Type 0 where
+  pub below : Below to before after
+  pub marks : MarksTo (λ k. getD before (from + k) 0) j to n after
+
+pub marking-begins : {from count to n : ℕ} {notes : List ℕ} → MarkRoom from count to n notes → Marking from to n notes 0 notes
+marking-begins {to = to} {n} {notes} room = record { below = below-none to notes; marks = marks-none _ to n notes (room .zeros) }
+
+module _ {from count to n j : ℕ} {before after : List ℕ} (room : MarkRoom from count to n before) (m : Marking from to n before j after) (l : j < count) where
+  same : getD after (from + j) 0 ≡ getD before (from + j) 0
+  same = m .below .kept (from + j) (omega (arith, room .before))
+
+  -- no slot of the column
+  pub marking-past : n ≤ getD after (from + j) 0 → Marking from to n before (j + 1) after
+  marking-past h = record { below = m .below; marks = marks-past _ j to n after (m .marks) (rw same at h) }
+
+  -- one that is marked already
+  pub marking-kept : 1 ≤ getD after (to + getD after (from + j) 0) 0 → Marking from to n before (j + 1) after
+  marking-kept h = record { below = m .below; marks = marks-kept _ j to n after (m .marks) (rw same at h) }
+
+  -- one that is marked now
+  pub marking-stored : getD after (from + j) 0 < n → getD after (to + getD after (from + j) 0) 0 < 1
+      → Marking from to n before (j + 1) (set after (to + getD after (from + j) 0) (j + 1))
+  marking-stored h low = record {
+    below = below-set to before after _ _ (omega arith) (m .below);
+    marks = (rw (← same) at (marks-stored (λ k. getD before (from + k) 0) j to n after (m .marks))) (omega (arith, m .below .long, room .long, room .room)) low;
+  }
+
+-- a search ends
+pub first-found : (p : ℕ → Bool) (n : ℕ) → (r : ℕ) × First p n r
+first-found p n =
+    let h = position-first {A = Bool} (λ _ t. t) true false (listOf n p) in
+    (position {A = Bool} (λ _ t. t) (listOf n p) true, first-cong _ p n _ (λ i l. list-of-at n i p false l) (rw (length-list-of n p) at h))
+
+-- slots that are the same have the same marks
+pub mark-is : (slot slot′ : ℕ → ℕ) (count i v w : ℕ) → ((j : ℕ) → j < count → slot j ≡ slot′ j) → MarkOf slot count i v
+    → ((r : ℕ) → First (λ j. eqb (slot′ j) i) count r → w ≡ (if ltb r count then suc r else 0)) → v ≡ w
+mark-is slot slot′ count i v w same mark law =
+    let found = first-found (λ j. eqb (slot j) i) count in
+    mark (found .0) (found .1) ∙ sym (law (found .0) (first-cong _ _ count (found .0) (λ j l. ap (λ k. eqb k i) (same j l)) (found .1)))
 
 -- ## The record
 
@@ -46,7 +170,7 @@ le-two : (s : List ℕ) → ((k : ℕ) → getD s k 0 < 256) → (at : ℕ) → 
 le-two s byte at = rw (le-add s at 1 1, le-one s at, le-one s (at + 1)) (omega (arith, byte at, byte (at + 1)))
 
 -- so is a number of two bytes within a node record
-pub field-small : (s : List ℕ) → ((k : ℕ) → getD s k 0 < 256) → (i offset : ℕ) → fieldAt 2 s i offset < 65536
+field-small : (s : List ℕ) → ((k : ℕ) → getD s k 0 < 256) → (i offset : ℕ) → fieldAt 2 s i offset < 65536
 unfolding fieldAt
 field-small s byte i offset = go (ltb i (nodeCount s))
   where
@@ -54,9 +178,9 @@ field-small s byte i offset = go (ltb i (nodeCount s))
     go true = le-two s byte (recordAt i + offset)
     go false = omega arith
 
--- and the number of a node's children
-pub children-small : (s : List ℕ) → ((k : ℕ) → getD s k 0 < 256) → (i : ℕ) → length (listedAt (batchIn s) i .body .children) < 65536
-children-small s byte i = rw (← children-count s i) (field-small s byte i 34)
+-- so where a node's children end is no large number
+pub end-small : (s : List ℕ) → ((k : ℕ) → getD s k 0 < 256) → (i : ℕ) {a n : ℕ} → a ≡ fieldAt 2 s i 32 → n ≡ length (listedAt (batchIn s) i .body .children) → a + n < 131072
+end-small s byte i e f = omega (arith, field-small s byte i 32, children-count s i, field-small s byte i 34)
 
 -- the children that one more node names
 named-next : (ls : List Listed) (i : ℕ) (d : Listed) → i < length ls
@@ -113,6 +237,16 @@ module _ (state bytes : List ℕ) (c : Scope) (g : Given state bytes c) where
       (ap (λ t. flag t) (claims-some (graft? (listedAt (asked bytes c) i .body)) (graftAt (forest state .nodes) (here (forest state) (asked bytes c) (listedAt (asked bytes c) i .id)))))
 
 -- ## Marks
+
+-- there is room for marks where zeros were stored
+pub mark-room : (s : List ℕ) {from count to n : ℕ} → length s ≡ 4096 → from + count ≤ to → to + n ≤ 4096 → n ≤ 320 → MarkRoom from count to n (fill to n (λ i. 0) s)
+mark-room s {to = to} {n} long before room few = record {
+  before = before;
+  room = room;
+  few = few;
+  long = fill-length to (λ i. 0) n s ∙ long;
+  zeros = holds-fill to n (λ i. 0) s (omega arith);
+}
 
 module _ (state bytes : List ℕ) (c : Scope) (s t : List ℕ) where
   pub turns-told : Told 5 state bytes c s → Marked LISTED-SLOTS (c .listed) TURNS (slotsOf state) s t → Told 6 state bytes c t

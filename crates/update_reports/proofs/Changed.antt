@@ -1,13 +1,13 @@
--- Laws of the column CHANGED: the word of a node is told by its code, its data and its links before and after. Assumes nothing.
+-- Laws of what changed of a node: its link, its data, its mark. Assumes nothing.
 use mathlib.Core.Bool.{Bool, true, false, not, _||_}
 use mathlib.Core.List.{List, [], _∷_}
 use mathlib.Core.Option.{Option, none, some}
 use mathlib.Core.Path.{_≡_, refl, sym, ap, ap₂, _∙_}
-use Prim.Native.Nat.{ℕ, zero, suc, _+_, _*_, _≤_, _<_}
+use Prim.Native.Nat.{ℕ, zero, suc, _+_, _-_, _*_, _≤_, _<_}
 use native.Mathlib.Omega.{arith}
 use lib.Dec.{eqb, ltb}
 use lib.ListN.{length, getD}
-use borrow.Author.Tests.{lt-ltb, ltb-true}
+use borrow.Author.Tests.{lt-ltb, ltb-true, eq-eqb, ne-eqb}
 use Rattle.base.specs.Tests.{_&&_, if_then_else_, isSome, all, sameOption, distinct}
 use Rattle.base.proofs.Tests.{both, bit-is}
 use Rattle.ids.specs.Ids.{sameNode, sameId}
@@ -32,8 +32,52 @@ use Rattle.update_notes.specs.Codes.{nodeAt, idAt, slotAt, flag, differs, codeO
 use Rattle.update_notes.specs.Says.{turnMark, turnWord, differWord, codeWord, changedWord, outcomeCount, Told, PLANNED}
 use Rattle.update_notes.proofs.Places.{slot-old, slot-id, find-at, forest-length, forest-id, forest-link}
 use Rattle.update_notes.proofs.Marks.{turn-listed, turn-none, turn-within, turn-here, turn-listing}
-use Rattle.update_reports.specs.Outcomes.{Outcomes}
+use Rattle.update_reports.specs.Outcomes.{Outcomes, PaneRootIs}
 use Rattle.update_reports.proofs.Outcomes.{shows, counted}
+
+module _ (was next : LinkRow) where
+  -- a link to no parent does not count as a change
+  pub unlinked-unchanged : next .linked ≡ 0 → false ≡ (isSome (linkOf next) && not (sameOption sameLink (linkOf was) (linkOf next)))
+  unfolding linkOf _&&_
+  unlinked-unchanged e = rw (eq-eqb (next .linked) 0 e)
+
+  -- any other does where the place or the parent differs
+  pub link-changed-is : {v : Bool} → (next .linked ≡ 0 → ⊥) → v ≡ sameId (was .parent) (next .parent)
+      → ((eqb (was .linked) 0 || not (eqb (was .index) (next .index))) || not v)
+      ≡ (isSome (linkOf next) && not (sameOption sameLink (linkOf was) (linkOf next)))
+  unfolding linkOf sameLink _&&_
+  link-changed-is h same = rw (ne-eqb (next .linked) 0 h, same) (go (eqb (was .linked) 0))
+    where
+      on : (i p : Bool) → (not i || not p) ≡ not (p && i)
+      on true true = refl
+      on true false = refl
+      on false true = refl
+      on false false = refl
+
+      go : (c : Bool) → ((c || not (eqb (was .index) (next .index))) || not (sameId (was .parent) (next .parent)))
+          ≡ not (sameOption sameLink (if c then none else some (record { parent = was .parent; index = was .index })) (some (record { parent = next .parent; index = next .index })))
+      go true = refl
+      go false = on (eqb (was .index) (next .index)) (sameId (was .parent) (next .parent))
+
+  -- from a parent to none
+  pub parent-lost : next .linked ≡ 0 → not (eqb (was .linked) 0) ≡ not (sameOption sameId (parentOf (linkOf was)) (parentOf (linkOf next)))
+  unfolding linkOf parentOf
+  parent-lost e = rw (eq-eqb (next .linked) 0 e) (go (eqb (was .linked) 0))
+    where
+      go : (c : Bool) → not c ≡ not (sameOption sameId (parentOf (if c then none else some (record { parent = was .parent; index = was .index }))) none)
+      go true = refl
+      go false = refl
+
+  -- to a parent
+  pub parent-changed-is : {v : Bool} → (next .linked ≡ 0 → ⊥) → v ≡ sameId (was .parent) (next .parent)
+      → (eqb (was .linked) 0 || not v) ≡ not (sameOption sameId (parentOf (linkOf was)) (parentOf (linkOf next)))
+  unfolding linkOf parentOf
+  parent-changed-is h same = rw (ne-eqb (next .linked) 0 h, same) (go (eqb (was .linked) 0))
+    where
+      go : (c : Bool) → (c || not (sameId (was .parent) (next .parent)))
+          ≡ not (sameOption sameId (parentOf (if c then none else some (record { parent = was .parent; index = was .index }))) (some (next .parent)))
+      go true = refl
+      go false = refl
 
 -- ## Data
 
@@ -62,7 +106,7 @@ module _ (s : Forest) (b : Batch) (kept : Kept s) (i : ℕ) (within : i < length
       at (n ∷ ns) e zero l = both e .0
       at (n ∷ ns) e (suc j) l = at ns (both e .1) j (omega arith)
 
-module _ {state bytes : List ℕ} {c : Scope} {notes : List ℕ} (told : Told PLANNED state bytes c notes) (i : ℕ) (h : i < slotsOf state) where
+module _ {state bytes : List ℕ} {c : Scope} {notes : List ℕ} (told : Told PLANNED state bytes c notes) {i : ℕ} (h : i < slotsOf state) where
   within : i < length (forest state .nodes)
   within = omega (arith, forest-length state)
 
@@ -74,17 +118,20 @@ module _ {state bytes : List ℕ} {c : Scope} {notes : List ℕ} (told : Told PL
   pub data-unlisted : getD notes (TURNS + i) 0 < 1 → false ≡ dataChanged (forest state) (asked bytes c) (nodeAt (forest state) i)
   data-unlisted e = sym (data-none (forest state) (asked bytes c) (told .given .kept) i within (omega (arith, turn-word)))
 
-  module _ (t : ℕ) (e : getD notes (TURNS + i) 0 ≡ suc t) where
-    -- the turn of a node that is listed
-    pub turn-below : t < c .listed
-    turn-below = omega (arith, turn-within (forest state) (asked bytes c) (idAt (forest state) i) t (sym turn-word ∙ e), told .given .scoped .listed)
+  module _ (e : 1 ≤ getD notes (TURNS + i) 0) where
+    turn-is : turnMark (forest state) (asked bytes c) (idAt (forest state) i) ≡ suc (getD notes (TURNS + i) 0 - 1)
+    turn-is = omega (arith, turn-word)
 
-    pub data-listed : eqb (getD notes (DIFFERS + t) 0) 1 ≡ dataChanged (forest state) (asked bytes c) (nodeAt (forest state) i)
+    -- the turn of a node that is listed
+    pub turn-below : getD notes (TURNS + i) 0 - 1 < c .listed
+    turn-below = omega (arith, turn-within (forest state) (asked bytes c) (idAt (forest state) i) _ turn-is, told .given .scoped .listed)
+
+    pub data-listed : eqb (getD notes (DIFFERS + (getD notes (TURNS + i) 0 - 1)) 0) 1 ≡ dataChanged (forest state) (asked bytes c) (nodeAt (forest state) i)
     unfolding differWord
     data-listed =
-        ap (λ (m : ℕ). eqb m 1) (told .written 10 (omega arith) t turn-below)
-        ∙ bit-is (differs (forest state) (asked bytes c) (listedAt (asked bytes c) t))
-        ∙ data-at (forest state) (asked bytes c) (told .given .kept) i within t (sym turn-word ∙ e)
+        ap (λ (m : ℕ). eqb m 1) (told .written 10 (omega arith) (getD notes (TURNS + i) 0 - 1) turn-below)
+        ∙ bit-is (differs (forest state) (asked bytes c) (listedAt (asked bytes c) (getD notes (TURNS + i) 0 - 1)))
+        ∙ data-at (forest state) (asked bytes c) (told .given .kept) i within (getD notes (TURNS + i) 0 - 1) turn-is
 
 -- ## Codes
 
@@ -151,7 +198,7 @@ module _ (s : Forest) (b : Batch) (kept : Kept s) (once : distinct sameNode (lis
 
 -- ## The word of a node
 
-module _ {state bytes : List ℕ} {c : Scope} {notes next : List ℕ} (given : Outcomes PLANNED state bytes c notes next) (r : ℕ) (h : r < slotsOf next) where
+module _ {state bytes : List ℕ} {c : Scope} {notes next : List ℕ} (given : Outcomes PLANNED state bytes c notes next) {r : ℕ} (h : r < slotsOf next) where
   abbrev s : Forest
   s = forest state
 
@@ -182,16 +229,15 @@ module _ {state bytes : List ℕ} {c : Scope} {notes next : List ℕ} (given : O
     slot-below = omega (arith, is-old .1, here, forest-length state)
 
     -- an old one
-    pub changed-old : (before after : LinkRow) {v : ℕ} {other link pane parent : Bool} → v ≡ 2 * flag (other || link || pane) + 4 * flag parent
+    pub changed-old : (before after : LinkRow) {v : ℕ} {other link pane parent : Bool} {x : FullNodeId} → v ≡ 2 * flag (other || link || pane) + 4 * flag parent
         → other ≡ dataChanged s b (nodeAt s (getD notes (CODES + r) 0))
         → link ≡ (isSome (linkOf after) && not (sameOption sameLink (linkOf before) (linkOf after)))
-        → pane ≡ paneRoot s b (idIn next r)
+        → x ≡ idIn next r → PaneRootIs c x pane
         → parent ≡ not (sameOption sameId (parentOf (linkOf before)) (parentOf (linkOf after)))
-        → before ≡ linkIn state (getD notes (CODES + r) 0)
-        → after ≡ linkIn next r
-        → v ≡ changedWord state bytes c r
+        → before ≡ linkIn state (getD notes (CODES + r) 0) → after ≡ linkIn next r → v ≡ changedWord state bytes c r
     unfolding changedWord changeOf
-    changed-old before after says d l p m before-is after-is =
+    changed-old before after says d l id pane-is m before-is after-is =
+        let p = (rw id at pane-is) s b (given .told .given .scoped) in
         let once = given .told .given .once in
         let kept = given .told .given .kept in
         let old-link : linkOf before ≡ nodeAt s (slotAt s (idAt (outcome s b) r)) .parentAndIndex =

@@ -1,5 +1,4 @@
--- The four lists are what the marks pick. Two sorted lists with the same members are one, so the lists of old nodes that are updated and
--- relinked are picked among the outcome's nodes. Assumes nothing.
+-- Laws of the four lists by the marks, and of the extra ids. Assumes nothing.
 use mathlib.Core.Bool.{Bool, true, false, not, _||_, false≢true}
 use mathlib.Core.List.{List, [], _∷_, _++_}
 use mathlib.Core.Option.{Option, none, some}
@@ -9,7 +8,7 @@ use native.Mathlib.Omega.{arith}
 use lib.Dec.{ltb}
 use lib.ListN.{length, getD}
 use borrow.Author.Tests.{ltb-true}
-use Rattle.base.specs.Tests.{_&&_, if_then_else_, isSome, keep, has}
+use Rattle.base.specs.Tests.{_&&_, if_then_else_, isSome, keep, has, sameOption}
 use Rattle.base.specs.Bytes.{bit}
 use Rattle.base.proofs.Lists.{any-append}
 use Rattle.base.proofs.Tests.{both, has-keep}
@@ -17,7 +16,7 @@ use Rattle.ids.specs.Ids.{sameId}
 use Rattle.ids.specs.declared.FullNodeId.{FullNodeId}
 use Rattle.ids.proofs.Ids.{same-id→≡}
 use Rattle.record.specs.Batch.{Batch}
-use Rattle.state.specs.State.{NodeState, idsOf, Forest, find, present}
+use Rattle.state.specs.State.{NodeState, idsOf, Forest, find, present, State}
 use Rattle.state.specs.Sound.{ascending}
 use Rattle.state.proofs.State.{present-has}
 use Rattle.state.proofs.Order.{find-none, ascending-keep}
@@ -25,11 +24,15 @@ use Rattle.state_array.specs.View.{slotsOf}
 use Rattle.update.specs.Words.{old}
 use Rattle.update.specs.Gone.{gone}
 use Rattle.update.specs.Outcome.{paneRoot, outcome}
-use Rattle.update.specs.Reports.{sorted, added, removed, isUpdated, updated, isRelinked, relinked, changesWith, changesOf}
+use Rattle.update.specs.Reports.{sorted, added, removed, isUpdated, updated, isRelinked, relinked, changesWith, changesOf, Changes, noChanges, unlessIn, focusMoved, extraBefore, extraAfter}
 use Rattle.update.proofs.Outcome.{ascending-outcome}
 use Rattle.update.proofs.Reports.{removed-is, sorted-ids, sorted-keep}
 use Rattle.update.proofs.Sorted.{same-members}
+use Rattle.state_focus.specs.Focus.{foundOf}
+use Rattle.state_focus.specs.declared.FoundNode.{FoundNode}
+use Rattle.state_focus.specs.declared.FoundNode.the-variants as node
 use Rattle.update_notes.specs.declared.Scope.{Scope}
+use Rattle.update_reports.specs.Reported.{unlessBefore, unlessAfter, Reported, ReportOf}
 use Rattle.update_notes.specs.Layout.{GOES, CHANGED}
 use Rattle.update_notes.specs.Setting.{asked, forest}
 use Rattle.update_notes.specs.Codes.{nodeAt, idAt, slotAt, flag, changeOf}
@@ -38,9 +41,50 @@ use Rattle.update_notes.proofs.Places.{slot-found, slot-present, slot-id, prese
 use Rattle.update_reports.specs.Outcomes.{changesIn, Outcomes}
 use Rattle.update_reports.specs.Slice.{picked}
 use Rattle.update_reports.proofs.Outcomes.{shows, counted}
-use Rattle.update_reports.proofs.Slots.{picked-ids}
+use Rattle.update_reports.proofs.Slice.{picked-ids}
+use Rattle.state.specs.Focus.{stateFocus}
+use Rattle.update_reports.specs.declared.Report.{Report}
 
--- ## Sorted lists
+module _ (xs : List FullNodeId) (x : FullNodeId) where
+  -- a node that stands in a list, and one that does not
+  pub unless-there : has sameId xs x ≡ true → none ≡ unlessIn xs (some x)
+  unfolding unlessIn
+  unless-there e = rw e
+
+  pub unless-absent : has sameId xs x ≡ false → some x ≡ unlessIn xs (some x)
+  unfolding unlessIn
+  unless-absent e = rw e
+
+-- no node stands in no list
+pub unless-none : (xs : List FullNodeId) → none ≡ unlessIn xs none
+unfolding unlessIn
+unless-none xs = refl
+
+unless-nothing : (o : Option FullNodeId) → unlessIn [] o ≡ o
+unfolding unlessIn
+unless-nothing none = refl
+unless-nothing (some x) = refl
+
+-- a report of two answers is that of two states whose focus they are
+pub report-is : (s s′ : State) (c : Changes) (before after lost got : FoundNode) (r : Report) → ReportOf before after lost got r
+    → foundOf before ≡ stateFocus s → foundOf after ≡ stateFocus s′
+    → foundOf lost ≡ unlessBefore c (foundOf before) → foundOf got ≡ unlessAfter c (foundOf after) → Reported s s′ c r
+unfolding extraBefore extraAfter focusMoved
+report-is s s′ c before after lost got r says p q l g = record {
+  before-is = says .before-is ∙ p;
+  after-is = says .after-is ∙ q;
+  extra-before-is = says .extra-before-is ∙ rw (l, p, q) (swapped (sameOption sameId (stateFocus s) (stateFocus s′)) (unlessBefore c (stateFocus s)));
+  extra-after-is = says .extra-after-is ∙ rw (g, p, q) (swapped (sameOption sameId (stateFocus s) (stateFocus s′)) (unlessAfter c (stateFocus s′)));
+}
+  where
+    swapped : (t : Bool) (o : Option FullNodeId) → (if t then none else o) ≡ (if not t then o else none)
+    swapped true o = refl
+    swapped false o = refl
+
+-- with empty lists the answers themselves are left
+pub host-left : (o : Option FullNodeId) → (o ≡ unlessBefore noChanges o) × (o ≡ unlessAfter noChanges o)
+unfolding noChanges
+host-left o = (sym (unless-nothing o), sym (unless-nothing o))
 
 -- ## Which nodes stand in a list
 
@@ -131,39 +175,19 @@ module _ (s : Forest) (b : Batch) (up : ascending (s .nodes) ≡ true) where
 
 -- ## The bits of a mark
 
-module _ (s : Forest) (b : Batch) (x : FullNodeId) where
-  mark-added : bit 1 (changeOf s b x) ≡ not (old s b x)
-  unfolding changeOf
-  mark-added = go (old s b x) (isUpdated s (outcome s b) (paneRoot s b) (nodeAt s (slotAt s x))) (isRelinked s (outcome s b) x)
-    where
-      go : (o u l : Bool) → bit 1 (if o then 2 * flag u + 4 * flag l else 1) ≡ not o
-      go true true true = refl
-      go true true false = refl
-      go true false true = refl
-      go true false false = refl
-      go false u l = refl
+bits : (o u l : Bool) → (bit 1 (if o then 2 * flag u + 4 * flag l else 1) ≡ not o) × (bit 2 (if o then 2 * flag u + 4 * flag l else 1) ≡ (o && u))
+    × (bit 4 (if o then 2 * flag u + 4 * flag l else 1) ≡ (o && l))
+unfolding _&&_
+bits true true true = (refl, refl, refl)
+bits true true false = (refl, refl, refl)
+bits true false true = (refl, refl, refl)
+bits true false false = (refl, refl, refl)
+bits false u l = (refl, refl, refl)
 
-  mark-updated : bit 2 (changeOf s b x) ≡ wasUpdated s b x
-  unfolding changeOf _&&_
-  mark-updated = go (old s b x) (isUpdated s (outcome s b) (paneRoot s b) (nodeAt s (slotAt s x))) (isRelinked s (outcome s b) x)
-    where
-      go : (o u l : Bool) → bit 2 (if o then 2 * flag u + 4 * flag l else 1) ≡ (o && u)
-      go true true true = refl
-      go true true false = refl
-      go true false true = refl
-      go true false false = refl
-      go false u l = refl
-
-  mark-relinked : bit 4 (changeOf s b x) ≡ wasRelinked s b x
-  unfolding changeOf _&&_
-  mark-relinked = go (old s b x) (isUpdated s (outcome s b) (paneRoot s b) (nodeAt s (slotAt s x))) (isRelinked s (outcome s b) x)
-    where
-      go : (o u l : Bool) → bit 4 (if o then 2 * flag u + 4 * flag l else 1) ≡ (o && l)
-      go true true true = refl
-      go true true false = refl
-      go true false true = refl
-      go true false false = refl
-      go false u l = refl
+marks : (s : Forest) (b : Batch) (x : FullNodeId)
+    → (bit 1 (changeOf s b x) ≡ not (old s b x)) × (bit 2 (changeOf s b x) ≡ wasUpdated s b x) × (bit 4 (changeOf s b x) ≡ wasRelinked s b x)
+unfolding changeOf
+marks s b x = bits (old s b x) (isUpdated s (outcome s b) (paneRoot s b) (nodeAt s (slotAt s x))) (isRelinked s (outcome s b) x)
 
 -- the bit of a flag
 bit-flag : (t : Bool) → bit 1 (flag t) ≡ t
@@ -182,13 +206,13 @@ module _ {state bytes : List ℕ} {c : Scope} {notes next : List ℕ} (given : O
   unfolding changesOf changesWith added old
   picked-added =
       picked-ids 1 notes CHANGED next (outcome (forest state) (asked bytes c)) (shows given) (λ x. not (present (forest state .nodes) x))
-      (λ r h. ap (bit 1) (mark r h) ∙ mark-added (forest state) (asked bytes c) (idAt (outcome (forest state) (asked bytes c)) r))
+      (λ r h. ap (bit 1) (mark r h) ∙ marks (forest state) (asked bytes c) (idAt (outcome (forest state) (asked bytes c)) r) .0)
 
   pub picked-updated : picked 2 notes CHANGED next ≡ changesIn state bytes c .updated
   unfolding changesOf changesWith
   picked-updated =
       picked-ids 2 notes CHANGED next (outcome (forest state) (asked bytes c)) (shows given) (wasUpdated (forest state) (asked bytes c))
-      (λ r h. ap (bit 2) (mark r h) ∙ mark-updated (forest state) (asked bytes c) (idAt (outcome (forest state) (asked bytes c)) r))
+      (λ r h. ap (bit 2) (mark r h) ∙ marks (forest state) (asked bytes c) (idAt (outcome (forest state) (asked bytes c)) r) .1)
       ∙ updated-among (forest state) (asked bytes c) (given .told .given .kept .ascending)
 
   pub picked-removed : picked 1 notes GOES state ≡ changesIn state bytes c .removed
@@ -203,19 +227,36 @@ module _ {state bytes : List ℕ} {c : Scope} {notes next : List ℕ} (given : O
   unfolding changesOf changesWith
   picked-relinked =
       picked-ids 4 notes CHANGED next (outcome (forest state) (asked bytes c)) (shows given) (wasRelinked (forest state) (asked bytes c))
-      (λ r h. ap (bit 4) (mark r h) ∙ mark-relinked (forest state) (asked bytes c) (idAt (outcome (forest state) (asked bytes c)) r))
+      (λ r h. ap (bit 4) (mark r h) ∙ marks (forest state) (asked bytes c) (idAt (outcome (forest state) (asked bytes c)) r) .2)
       ∙ relinked-among (forest state) (asked bytes c) (given .told .given .kept .ascending)
 
   -- ## A node by its marks
 
-  pub marked-before : (x : FullNodeId) {t u : Bool} → t ≡ has sameId (picked 2 notes CHANGED next) x → u ≡ has sameId (picked 1 notes GOES state) x
-      → (t || u) ≡ has sameId (changesIn state bytes c .updated ++ changesIn state bytes c .removed) x
-  marked-before x p q =
-      ap₂ _||_ (p ∙ ap (λ l. has sameId l x) picked-updated) (q ∙ ap (λ l. has sameId l x) picked-removed)
-      ∙ sym (any-append (sameId x) (changesIn state bytes c .updated) (changesIn state bytes c .removed))
+  module _ (found : FoundNode) {x : FullNodeId} (is : found ≡ node.At x) {t u : Bool} where
+    module _ (p : t ≡ has sameId (picked 2 notes CHANGED next) x) (q : u ≡ has sameId (picked 1 notes GOES state) x) where
+      marked-before : (t || u) ≡ has sameId (changesIn state bytes c .updated ++ changesIn state bytes c .removed) x
+      marked-before =
+          ap₂ _||_ (p ∙ ap (λ l. has sameId l x) picked-updated) (q ∙ ap (λ l. has sameId l x) picked-removed)
+          ∙ sym (any-append (sameId x) (changesIn state bytes c .updated) (changesIn state bytes c .removed))
 
-  pub marked-after : (x : FullNodeId) {t u : Bool} → t ≡ has sameId (picked 1 notes CHANGED next) x → u ≡ has sameId (picked 2 notes CHANGED next) x
-      → (t || u) ≡ has sameId (changesIn state bytes c .added ++ changesIn state bytes c .updated) x
-  marked-after x p q =
-      ap₂ _||_ (p ∙ ap (λ l. has sameId l x) picked-added) (q ∙ ap (λ l. has sameId l x) picked-updated)
-      ∙ sym (any-append (sameId x) (changesIn state bytes c .added) (changesIn state bytes c .updated))
+      -- it is updated or removed, or neither
+      pub before-marked : (t || u) ≡ true → foundOf node.Nothing ≡ unlessBefore (changesIn state bytes c) (foundOf found)
+      unfolding foundOf
+      before-marked e = rw is (unless-there _ x (sym marked-before ∙ e))
+
+      pub before-unmarked : (t || u) ≡ false → some x ≡ unlessBefore (changesIn state bytes c) (some x)
+      before-unmarked e = unless-absent _ x (sym marked-before ∙ e)
+
+    module _ (p : t ≡ has sameId (picked 1 notes CHANGED next) x) (q : u ≡ has sameId (picked 2 notes CHANGED next) x) where
+      marked-after : (t || u) ≡ has sameId (changesIn state bytes c .added ++ changesIn state bytes c .updated) x
+      marked-after =
+          ap₂ _||_ (p ∙ ap (λ l. has sameId l x) picked-added) (q ∙ ap (λ l. has sameId l x) picked-updated)
+          ∙ sym (any-append (sameId x) (changesIn state bytes c .added) (changesIn state bytes c .updated))
+
+      -- it is added or updated, or neither
+      pub after-marked : (t || u) ≡ true → foundOf node.Nothing ≡ unlessAfter (changesIn state bytes c) (foundOf found)
+      unfolding foundOf
+      after-marked e = rw is (unless-there _ x (sym marked-after ∙ e))
+
+      pub after-unmarked : (t || u) ≡ false → some x ≡ unlessAfter (changesIn state bytes c) (some x)
+      after-unmarked e = unless-absent _ x (sym marked-after ∙ e)

@@ -1,21 +1,139 @@
--- Laws of the lists in the lent slice: how ids are written one by one, lists one after another, and all four. Assumes nothing.
+-- Laws of the slots that are picked, of their ids, and of the slice that these are written into. Assumes nothing.
 use mathlib.Core.Bool.{Bool, true, false, not}
-use mathlib.Core.List.{List, [], _∷_, _++_, map-append, append-assoc, append-nil}
+use mathlib.Core.List.{List, [], _∷_, _++_, map-append, append-assoc, append-nil, map}
 use mathlib.Core.Path.{_≡_, refl, sym, ap, ap₂, _∙_}
-use Prim.Native.Nat.{ℕ, suc, _+_, _*_, _≤_, _<_}
+use Prim.Native.Nat.{ℕ, suc, _+_, _*_, _≤_, _<_, _-_}
 use native.Mathlib.Omega.{arith}
 use lib.ListN.{length, getD, set, take, drop, length-append, length-set, length-map, take-append-drop}
 use lib.Seq.{drop-cons, length-take-le, drop-append-add, drop-drop, set-at, take-at}
 use borrow.Author.Tests.{lt-ltb, le-ltb, leb-true, leb-false}
-use lib.Dec.{leb}
-use Rattle.base.specs.Tests.{if_then_else_}
+use lib.Dec.{leb, ltb}
+use Rattle.base.specs.Tests.{if_then_else_, _&&_, keep, has}
 use Rattle.ids.specs.declared.FullNodeId.{FullNodeId}
-use Rattle.state_array.specs.Layout.{SLOTS}
 use Rattle.state_array.specs.View.{idIn, slotsOf}
 use Rattle.update.specs.Reports.{Changes, words, changeWords, lent}
 use Rattle.update_reports.specs.declared.Lists.{Lists}
 use Rattle.update_reports.specs.Slice.{slotsWith, Counted, idsAt, picked, Room, ListWritten, ListsWritten}
-use Rattle.update_reports.proofs.Slots.{taken, slots-none, slots-hit, slots-miss, count-within}
+use Rattle.base.specs.Bytes.{bit, listOf}
+use Rattle.base.proofs.Tests.{has-keep, map-keep}
+use Rattle.base.proofs.Bytes.{list-of-more, list-of-add}
+use Rattle.ids.specs.Ids.{sameId}
+use Rattle.ids.proofs.Ids.{same-id→≡}
+use Rattle.state.specs.State.{idsOf, Forest}
+use Rattle.state.specs.Sound.{ascending}
+use Rattle.state.proofs.State.{present-has}
+use Rattle.state_array.specs.Stored.{noState}
+use Rattle.update_notes.specs.Setting.{forest}
+use Rattle.update_notes.specs.Codes.{idAt, slotAt}
+use Rattle.update_notes.proofs.Places.{slot-present, slot-self, forest-length, forest-id}
+
+-- what is kept of two lists
+keep-append : {A : Type 0} (p : A → Bool) (xs ys : List A) → keep p (xs ++ ys) ≡ keep p xs ++ keep p ys
+keep-append p [] ys = refl
+keep-append {A} p (x ∷ xs) ys = go (p x) (keep-append p xs ys)
+  where
+    go : (c : Bool) → keep p (xs ++ ys) ≡ keep p xs ++ keep p ys
+        → (if c then x ∷ keep p (xs ++ ys) else keep p (xs ++ ys)) ≡ (if c then x ∷ keep p xs else keep p xs) ++ keep p ys
+    go true h = ap (λ (l : List A). x ∷ l) h
+    go false h = h
+
+-- ## One slot after another
+
+module _ (weight : ℕ) (notes : List ℕ) (start : ℕ) where
+  -- whether a slot is picked
+  abbrev pub taken : ℕ → Bool
+  taken i = bit weight (getD notes (start + i) 0)
+
+  pub slots-none : slotsWith weight notes start 0 ≡ []
+  unfolding slotsWith listOf
+  slots-none = refl
+
+  slots-more : (i : ℕ) → slotsWith weight notes start (i + 1) ≡ slotsWith weight notes start i ++ keep taken (i ∷ [])
+  unfolding slotsWith
+  slots-more i = ap (keep taken) (list-of-more i (λ j. j)) ∙ keep-append taken (listOf i (λ j. j)) (i ∷ [])
+
+  -- one that is picked, and one that is not
+  pub slots-hit : (i : ℕ) → taken i ≡ true → slotsWith weight notes start (i + 1) ≡ slotsWith weight notes start i ++ i ∷ []
+  slots-hit i e = slots-more i ∙ ap (λ (t : Bool). slotsWith weight notes start i ++ (if t then i ∷ [] else [])) e
+
+  pub slots-miss : (i : ℕ) → taken i ≡ false → slotsWith weight notes start (i + 1) ≡ slotsWith weight notes start i
+  slots-miss i e =
+      slots-more i ∙ ap (λ (t : Bool). slotsWith weight notes start i ++ (if t then i ∷ [] else [])) e ∙ append-nil (slotsWith weight notes start i)
+
+  -- how many
+  pub count-hit : (i : ℕ) → taken i ≡ true → length (slotsWith weight notes start (i + 1)) ≡ length (slotsWith weight notes start i) + 1
+  count-hit i e = ap length (slots-hit i e) ∙ length-append (slotsWith weight notes start i) (i ∷ [])
+
+  pub count-miss : (i : ℕ) → taken i ≡ false → length (slotsWith weight notes start (i + 1)) ≡ length (slotsWith weight notes start i)
+  count-miss i e = ap length (slots-miss i e)
+
+  -- no fewer of more slots
+  count-add : (i k : ℕ) → length (slotsWith weight notes start i) ≤ length (slotsWith weight notes start (i + k))
+  unfolding slotsWith
+  count-add i k =
+      let rest = keep taken (listOf k (λ j. i + j)) in
+      let all = ap (keep taken) (list-of-add i k (λ j. j)) ∙ keep-append taken (listOf i (λ j. j)) (listOf k (λ j. i + j)) in
+      omega (arith, ap length all, length-append (keep taken (listOf i (λ j. j))) rest)
+
+  -- so one that is picked has a place among those of all
+  pub count-within : (i n : ℕ) → i < n → taken i ≡ true → length (slotsWith weight notes start i) + 1 ≤ length (slotsWith weight notes start n)
+  count-within i n h e =
+      let all : i + 1 + (n - (i + 1)) ≡ n = omega arith in
+      omega (arith, count-hit i e, ap (λ m. length (slotsWith weight notes start m)) all, count-add (i + 1) (n - (i + 1)))
+
+-- ## Their ids
+
+-- numbers picked by a test of what stands there are the elements that pass
+picked-from : {A B : Type 0} (d : A) (q : A → Bool) (f : A → B) (xs : List A) (p : ℕ → Bool) (h : ℕ → B) (g : ℕ → ℕ)
+    → ((i : ℕ) → i < length xs → p (g i) ≡ q (getD xs i d))
+    → ((i : ℕ) → i < length xs → h (g i) ≡ f (getD xs i d))
+    → map h (keep p (listOf (length xs) g)) ≡ map f (keep q xs)
+unfolding listOf
+picked-from d q f [] p h g tests is = refl
+picked-from {A} {B} d q f (x ∷ xs) p h g tests is =
+    rw (tests 0 (omega arith))
+    (go (q x) (picked-from d q f xs p h (λ i. g (suc i)) (λ i l. tests (suc i) (omega arith)) (λ i l. is (suc i) (omega arith))))
+  where
+    rest : List ℕ
+    rest = keep p (listOf (length xs) (λ i. g (suc i)))
+
+    go : (c : Bool) → map h rest ≡ map f (keep q xs) → map h (if c then g 0 ∷ rest else rest) ≡ map f (if c then x ∷ keep q xs else keep q xs)
+    go true e = ap₂ {A = B} {B = List B} {C = List B} (λ y ys. y ∷ ys) (is 0 (omega arith)) e
+    go false e = e
+
+module _ (weight : ℕ) (notes : List ℕ) (start : ℕ) (state : List ℕ) (f : Forest) (shows : forest state ≡ f) where
+  long : length (f .nodes) ≡ slotsOf state
+  long = ap (λ (g : Forest). length (g .nodes)) (sym shows) ∙ forest-length state
+
+  -- what is picked of a state's slots is what passes of its ids
+  pub picked-ids : (q : FullNodeId → Bool) → ((i : ℕ) → i < slotsOf state → taken weight notes start i ≡ q (idAt f i))
+      → picked weight notes start state ≡ keep q (idsOf (f .nodes))
+  unfolding slotsWith idsOf
+  picked-ids q says =
+      rw long
+      at (picked-from noState (λ n. q (n .id)) (λ n. n .id) (f .nodes) (taken weight notes start) (idIn state) (λ i. i) (λ i h. says i (omega (arith, long)))
+      (λ i h. sym (forest-id state i (omega (arith, long))) ∙ ap (λ (g : Forest). idAt g i) shows))
+      ∙ map-keep (λ n. n .id) q (f .nodes)
+
+-- a node is picked where the word of its slot has the bit
+module _ (weight : ℕ) (notes : List ℕ) (start : ℕ) (state : List ℕ) (up : ascending (forest state .nodes) ≡ true) (x : FullNodeId) {i n : ℕ}
+    (at : i ≡ slotAt (forest state) x) (count : n ≡ slotsOf state) where
+  picked-has : has sameId (picked weight notes start state) x ≡ (ltb i n && taken weight notes start i)
+  picked-has =
+      let s = forest state in
+      let q : FullNodeId → Bool = λ y. taken weight notes start (slotAt s y) in
+      ap (λ l. has sameId l x)
+      (picked-ids weight notes start state s refl q (λ i h. ap (taken weight notes start) (sym (slot-self s up i (omega (arith, forest-length state))))))
+      ∙ has-keep sameId same-id→≡ q (idsOf (s .nodes)) x
+      ∙ rw (at, count) (ap (λ (t : Bool). t && q x) (sym (present-has (s .nodes) x) ∙ slot-present s x ∙ ap (ltb (slotAt s x)) (forest-length state)))
+
+  pub picked-absent : n ≤ i → false ≡ has sameId (picked weight notes start state) x
+  unfolding _&&_
+  picked-absent l = sym (picked-has ∙ rw (le-ltb i n l))
+
+  pub picked-there : {v : Bool} → i < n → v ≡ taken weight notes start i → v ≡ has sameId (picked weight notes start state) x
+  unfolding _&&_
+  picked-there l e = e ∙ sym (picked-has ∙ rw (lt-ltb i n l))
 
 -- ## The words of ids
 
@@ -90,39 +208,34 @@ module _ (weight : ℕ) (notes : List ℕ) (start : ℕ) (state before : List �
   pub list-empty : ListBelow 0 before at
   list-empty = rw slots-none (list-none before at)
 
-  module _ (i : ℕ) (changes : List ℕ) (to : ℕ) (h : ListBelow i changes to) where
-    -- after a slot that is picked, and one that is not
-    pub list-hit : taken weight notes start i ≡ true → to + 2 ≤ length before
-        → ListBelow (i + 1) (set (set changes to (idIn state i .tree .0)) (to + 1) (idIn state i .node .0)) (to + 2)
-    list-hit e room =
-        rw (slots-hit weight notes start i e, map-append (idIn state) (slotsWith weight notes start i) (i ∷ []))
-        (list-one before at (idsAt state (slotsWith weight notes start i)) (idIn state i) changes to h room)
+  module _ (i : ℕ) (changes : List ℕ) (to : ℕ) (h : ListBelow i changes to) {v : Bool} (bit-is : v ≡ taken weight notes start i) where
+    -- after a slot that is not picked
+    pub list-miss : v ≡ false → ListBelow (i + 1) changes to
+    list-miss e = rw (slots-miss weight notes start i (sym bit-is ∙ e)) h
 
-    -- one that is picked has room, where all have
-    pub list-room : i < slotsOf state → taken weight notes start i ≡ true → Room weight notes start state at before → to + 2 ≤ length before
-    list-room l e room =
-        omega (
-          arith,
-          count-within weight notes start i (slotsOf state) l e,
-          h .end-is,
-          room .fits,
-          length-map (slotsWith weight notes start i) (idIn state),
-          length-map (slotsWith weight notes start (slotsOf state)) (idIn state),
-        )
+    module _ (e : v ≡ true) (room : Room weight notes start state at before) {n : ℕ} (count : n ≡ slotsOf state) (l : i < n) where
+      -- one that is picked has room, where all have
+      pub list-room : to + 2 ≤ length before
+      list-room =
+          omega (
+            arith,
+            count-within weight notes start i (slotsOf state) (omega arith) (sym bit-is ∙ e),
+            h .end-is,
+            room .fits,
+            length-map (slotsWith weight notes start i) (idIn state),
+            length-map (slotsWith weight notes start (slotsOf state)) (idIn state),
+          )
 
-    pub list-miss : taken weight notes start i ≡ false → ListBelow (i + 1) changes to
-    list-miss e = rw (slots-miss weight notes start i e) h
+      pub list-hit : {x : FullNodeId} → x ≡ idIn state i → ListBelow (i + 1) (set (set changes to (x .tree .0)) (to + 1) (x .node .0)) (to + 2)
+      list-hit id =
+          rw (id, slots-hit weight notes start i (sym bit-is ∙ e), map-append (idIn state) (slotsWith weight notes start i) (i ∷ []))
+          (list-one before at (idsAt state (slotsWith weight notes start i)) (idIn state i) changes to h list-room)
 
 -- as many ids as slots
 pub picked-count : (weight : ℕ) (notes : List ℕ) (start : ℕ) (state : List ℕ) (n r : ℕ) → Counted weight notes start n r → n ≡ slotsOf state
     → r ≡ length (picked weight notes start state)
 picked-count weight notes start state n r k e =
     k .count-is ∙ ap (λ m. length (slotsWith weight notes start m)) e ∙ sym (length-map (slotsWith weight notes start (slotsOf state)) (idIn state))
-
--- room for them
-pub room-for : (weight : ℕ) (notes : List ℕ) (start : ℕ) (state : List ℕ) (at : ℕ) (slice : List ℕ) → start + SLOTS ≤ 4096 → 0 < weight
-    → at + 2 * length (picked weight notes start state) ≤ length slice → Room weight notes start state at slice
-room-for weight notes start state at slice h w fits = record { marks = record { within = omega arith; some = w }; fits = fits }
 
 -- ## Lists one after another
 

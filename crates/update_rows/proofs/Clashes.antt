@@ -1,18 +1,20 @@
--- Row 18: a listed node that has other data than before and goes, as the notes say it. Assumes nothing.
+-- Laws of the listed nodes: row 5, and row 18. Assumes nothing.
 use mathlib.Core.Bool.{Bool, true, false, not, false≢true}
-use mathlib.Core.List.{List, [], _∷_}
+use mathlib.Core.List.{List}
 use mathlib.Core.Option.{Option, none, some}
 use mathlib.Core.Path.{_≡_, refl, sym, ap, _∙_}
-use Prim.Native.Nat.{ℕ, zero, suc, _+_, _<_}
+use Prim.Native.Nat.{ℕ, _+_, _≤_, _<_}
 use native.Mathlib.Omega.{arith}
 use lib.Dec.{eqb}
 use lib.ListN.{length, getD}
 use borrow.Author.Tests.{ltb-true, eq-eqb, ne-eqb}
-use Rattle.base.specs.Tests.{_&&_, isSome, any}
-use Rattle.base.proofs.Tests.{and-false, and-right, or-right, bit-is}
-use Rattle.record.specs.Batch.{sameData, Listed, Batch}
+use Rattle.base.specs.Tests.{_&&_, isSome, distinct}
+use Rattle.base.proofs.Tests.{and-false, and-right, bit-is}
+use Rattle.record.specs.Batch.{sameData, Listed, Batch, listedIds}
+use Rattle.base.proofs.Loops.{Passing, any-at, any-passed}
+use Rattle.update_rows.specs.Rows.{clashes}
 use Rattle.ids.specs.declared.FullNodeId.{FullNodeId}
-use Rattle.record_reader.specs.Reader.{blank, listedAt}
+use Rattle.record_reader.specs.Reader.{blank, listedAt, noNode}
 use Rattle.state.specs.State.{NodeState, Forest, find, present}
 use Rattle.state_array.specs.View.{slotsOf}
 use Rattle.update.specs.Words.{here}
@@ -24,6 +26,32 @@ use Rattle.update_notes.specs.Setting.{asked, forest}
 use Rattle.update_notes.specs.Codes.{slotAt, idAt, differs}
 use Rattle.update_notes.specs.Says.{listedSlot, goesWord, differWord, Told, COMPARED}
 use Rattle.update_notes.proofs.Places.{slot-present, slot-id, forest-length}
+use Rattle.base.specs.Bytes.{listOf}
+use Rattle.base.proofs.Columns.{list-of-each}
+use Rattle.base.proofs.Indexed.{distinct-list-of, distinct-twice}
+use Rattle.ids.specs.Ids.{sameNode}
+use Rattle.ids.specs.declared.NodeId.{NodeId}
+use Rattle.record.proofs.Batch.{listed-length, listed-at}
+
+module _ (b : Batch) where
+  -- the number of listed node i
+  abbrev pub listedId : ℕ → NodeId
+  listedId i = listedAt b i .id
+
+  listed-ids : listOf (length (b .nodes)) listedId ≡ listedIds (b .nodes)
+  unfolding listedAt
+  listed-ids = rw (← listed-length (b .nodes)) (list-of-each noNode (listedIds (b .nodes)) listedId (λ i l. sym (listed-at (b .nodes) i blank)))
+
+  -- one stands there twice
+  pub twice-found : (h j : ℕ) → h < j → j < length (b .nodes) → sameNode (listedId h) (listedId j) ≡ true
+      → not (distinct sameNode (listedIds (b .nodes))) ≡ true
+  twice-found h j l m e = ap (λ ids. not (distinct sameNode ids)) (sym listed-ids) ∙ ap not (distinct-twice sameNode (length (b .nodes)) listedId h j l m e)
+
+  -- each two differ
+  pub twice-none : ((j : ℕ) → j < length (b .nodes) → (h : ℕ) → h < j → sameNode (listedId h) (listedId j) ≡ false)
+      → not (distinct sameNode (listedIds (b .nodes))) ≡ false
+  twice-none e =
+      ap (λ ids. not (distinct sameNode ids)) (sym listed-ids) ∙ ap not (distinct-list-of sameNode (length (b .nodes)) listedId (λ h j l m. e j m h l))
 
 -- ## A listed node
 
@@ -42,7 +70,7 @@ module _ (s : Forest) (b : Batch) (l : Listed) where
   unfolding updatedAndRemoved differs
   clash-is = refl
 
-module _ (state bytes : List ℕ) (c : Scope) (notes : List ℕ) (told : Told COMPARED state bytes c notes) (i : ℕ) (h : i < c .listed) where
+module _ {state bytes : List ℕ} {c : Scope} {notes : List ℕ} (told : Told COMPARED state bytes c notes) {i : ℕ} (h : i < c .listed) where
   abbrev s : Forest
   s = forest state
 
@@ -87,22 +115,13 @@ module _ (state bytes : List ℕ) (c : Scope) (notes : List ℕ) (told : Told CO
 
 -- ## All of them
 
-module _ (p : Listed → Bool) (b : Batch) where
-  -- one passes
-  pub any-here : (i : ℕ) → i < length (b .nodes) → p (listedAt b i) ≡ true → any p (b .nodes) ≡ true
+module _ {state bytes : List ℕ} {c : Scope} {notes : List ℕ} (told : Told COMPARED state bytes c notes) {i : ℕ} where
+  -- one does
+  pub clashes-some : {r : Bool} → i < c .listed → r ≡ updatedAndRemoved (forest state) (asked bytes c) (listedAt (asked bytes c) i) → r ≡ true → true ≡ clashes state bytes c
   unfolding listedAt
-  any-here i h e = go (b .nodes) i h e
-    where
-      go : (ls : List Listed) (j : ℕ) → j < length ls → p (getD ls j blank) ≡ true → any p ls ≡ true
-      go [] j l q = absurd (omega arith)
-      go (x ∷ ls) zero l q = rw q
-      go (x ∷ ls) (suc j) l q = or-right (p x) (go ls j (omega arith) q)
+  clashes-some h e q = any-at _ (asked bytes c .nodes) blank (told .given .scoped .listed) h e q
 
   -- none does
-  pub any-nowhere : ((i : ℕ) → i < length (b .nodes) → p (listedAt b i) ≡ false) → any p (b .nodes) ≡ false
+  pub clashes-none : Passing (λ j. updatedAndRemoved (forest state) (asked bytes c) (listedAt (asked bytes c) j)) (c .listed) i → c .listed ≤ i → false ≡ clashes state bytes c
   unfolding listedAt
-  any-nowhere e = go (b .nodes) e
-    where
-      go : (ls : List Listed) → ((j : ℕ) → j < length ls → p (getD ls j blank) ≡ false) → any p ls ≡ false
-      go [] q = refl
-      go (x ∷ ls) q = rw (q 0 (omega arith)) (go ls (λ j l. q (suc j) (omega arith)))
+  clashes-none g h = any-passed _ (asked bytes c .nodes) blank g (told .given .scoped .listed) h

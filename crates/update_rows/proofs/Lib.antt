@@ -1,5 +1,3 @@
-pub mod Listed
-pub mod Trees
 pub mod Scopes
 pub mod Outcomes
 pub mod Clashes

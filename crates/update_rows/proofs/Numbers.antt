@@ -1,23 +1,22 @@
 -- How the numbers of the parts make the number of a batch: rows 1, 2 and 5 to 8, or 2 to 5 of a start, then 9 to 14, then the last.
 -- Assumes nothing.
+use Rattle.update.proofs.Numbers.{first-row, first-found}
 use mathlib.Core.Bool.{Bool, true, false, not, _||_}
 use mathlib.Core.List.{List, [], _∷_}
-use mathlib.Core.Option.{some}
 use mathlib.Core.Path.{_≡_, refl, sym, _∙_}
-use Prim.Native.Nat.{ℕ, zero, suc}
-use native.Mathlib.Omega.{arith}
+use Prim.Native.Nat.{ℕ}
 use lib.Dec.{ltb, leb}
 use lib.ListN.{length}
 use borrow.Author.Tests.{lt-ltb, leb-false}
-use Rattle.base.specs.Tests.{_&&_, isNone, any, distinct}
+use Rattle.base.specs.Tests.{_&&_, isSome, isNone, any, distinct}
 use Rattle.base.specs.Tables.{row, found, first}
-use Rattle.base.proofs.Tables.{first-zero, first-found-zero, found-counts, found-passes, found-alone, first-append, first-append-none}
-use Rattle.base.proofs.Tests.{not-false}
+use Rattle.base.proofs.Tables.{first-append, first-append-none}
+use Rattle.base.proofs.Tests.{not-false, call-true}
 use Rattle.ids.specs.Ids.{ROOT, sameTree, sameNode}
+use Rattle.ids.specs.declared.TreeId.{TreeId}
 use Rattle.record.specs.Batch.{Batch, listedIds, namedIds}
-use Rattle.record.specs.Parse.{wellFormed, parse}
+use Rattle.record.specs.Parse.{wellFormed}
 use Rattle.record_reader.specs.Reader.{batchIn}
-use Rattle.record_reader.proofs.Reader.{batch-in}
 use Rattle.state.specs.State.{Forest, holder, subtreeOf}
 use Rattle.state.specs.Sound.{sound}
 use Rattle.update.specs.Words.{known, withTreeData}
@@ -60,23 +59,7 @@ module _ (s : Forest) (b : Batch) where
   -- a batch that they let pass
   pub later-last : passRows s b ≡ 0 → laterRows s b ≡ lastRows s b
   unfolding lastNumber rowsAfterPass first
-  later-last e =
-      let places : Bool = any (placeless s b) (b .nodes) in
-      let names : Bool = any (nowhere s b) (namedIds (b .nodes)) in
-      let one = first-found-zero (pass s b) (row 13 places ∷ row 14 names ∷ []) e in
-      let two = first-zero (row 13 places) (row 14 names ∷ []) (λ (z : _≡_ {A = ℕ} 13 0) t. omega arith) (one .1) in
-      let three = first-zero (row 14 names) [] (λ (z : _≡_ {A = ℕ} 14 0) t. omega arith) (two .1) in
-      rw (one .0, two .0, three .0)
-
-  -- the two in one
-  pub later-number : laterRows s b ≡ first (found (passRows s b) ∷ found (lastRows s b) ∷ [])
-  later-number = go (passRows s b) refl
-    where
-      go : (k : ℕ) → passRows s b ≡ k → laterRows s b ≡ first (found (passRows s b) ∷ found (lastRows s b) ∷ [])
-      go zero e = later-last e ∙ sym (found-passes (passRows s b) _ e ∙ found-alone (lastRows s b))
-      go (suc k) e =
-          let wrong : passRows s b ≡ 0 → ⊥ = λ z. omega (arith, sym e ∙ z) in
-          later-early wrong ∙ sym (found-counts (passRows s b) _ wrong)
+  later-last e = let z = simp (first-row, first-found) at e in rw (z .0, z .1 .0, z .1 .1 .0)
 
   -- ## What holds after rows 5 to 8
 
@@ -92,12 +75,7 @@ module _ (s : Forest) (b : Batch) where
 
   pub listable : first (rowsBeforePass s b) ≡ 0 → Listable
   unfolding rowsBeforePass
-  listable e =
-      let five = first-zero (row 5 (not (distinct sameNode (listedIds (b .nodes))))) _ (λ n _. omega arith) e in
-      let six = first-zero (row 6 _) _ (λ n _. omega arith) (five .1) in
-      let seven = first-zero (row 7 _) _ (λ n _. omega arith) (six .1) in
-      let eight = first-zero (row 8 _) _ (λ n _. omega arith) (seven .1) in
-      record { once = not-false (five .0); numbered = room-for (known s b) (eight .0) }
+  listable e = let z = simp first-row at e in record { once = not-false (z .0); numbered = room-for (known s b) (z .1 .1 .1 .0) }
 
 -- ## A batch on a state
 
@@ -110,16 +88,7 @@ module _ (s : Forest) (bytes : List ℕ) where
 
   pub first-passed : firstNumber s bytes ≡ 0 → Passed
   unfolding firstNumber
-  first-passed e =
-      let y = first-zero (row 1 (not (sound s))) _ (λ n _. omega arith) e in
-      let z = first-zero (row 2 (not (wellFormed bytes))) _ (λ n _. omega arith) (y .1) in
-      record { is-sound = not-false (y .0); formed = not-false (z .0); before = z .1 }
-
-  -- then the pass's number, then the last rows'
-  pub batch-number : (b : Batch) → firstNumber s bytes ≡ 0 → parse bytes ≡ some b
-      → batchNumber s b ≡ first (found (passRows s b) ∷ found (lastRows s b) ∷ [])
-  batch-number b e p =
-      batch-later s b (rw (batch-in bytes b p) at (first-passed e .before)) ∙ later-number s b
+  first-passed e = let z = simp first-row at e in record { is-sound = not-false (z .0); formed = not-false (z .1 .0); before = z .1 .1 }
 
 -- ## A start
 
@@ -143,6 +112,12 @@ module _ (b : Batch) where
       (dropped (not (distinct sameNode (listedIds (b .nodes)))) (withTreeData s d) (isNone (holder (s .nodes) (b .tree))) (isNone (subtreeOf s (b .tree)))
       (not (known s d)))
 
+-- past rows 2 and 3, as the code asks them
+pub start-past : (bytes : List ℕ) {w d r : Bool} {t : TreeId} {j : ℕ} → w ≡ wellFormed bytes → not w ≡ false → d ≡ isSome (batchIn bytes .root) → not d ≡ false
+    → t ≡ batchIn bytes .tree → r ≡ sameTree t ROOT → j ≡ first (row 4 (not r) ∷ row 5 (not (distinct sameNode (listedIds (batchIn bytes .nodes)))) ∷ []) → j ≡ startRows bytes
+unfolding startRows first
+start-past bytes f v g q e h k = k ∙ sym (rw (call-true f v, call-true g q, h, e))
+
 module _ (bytes : List ℕ) where
   -- rows 2 to 5 passed
   pub record Begun : Type 0 where
@@ -154,11 +129,8 @@ module _ (bytes : List ℕ) where
   pub start-begun : startRows bytes ≡ 0 → Begun
   unfolding startRows
   start-begun e =
-      let two = first-zero (row 2 (not (wellFormed bytes))) _ (λ n _. omega arith) e in
-      let three = first-zero (row 3 (isNone (batchIn bytes .root))) _ (λ n _. omega arith) (two .1) in
-      let four = first-zero (row 4 (not (sameTree (batchIn bytes .tree) ROOT))) _ (λ n _. omega arith) (three .1) in
-      let five = first-zero (row 5 (not (distinct sameNode (listedIds (batchIn bytes .nodes))))) _ (λ n _. omega arith) (four .1) in
-      record { formed = not-false (two .0); rooted = three .0; root-tree = not-false (four .0); once = not-false (five .0) }
+      let z = simp first-row at e in
+      record { formed = not-false (z .0); rooted = z .1 .0; root-tree = not-false (z .1 .1 .0); once = not-false (z .1 .1 .1 .0) }
 
   -- no number of rows 5 to 8
   pub start-before : startRows bytes ≡ 0 → first (rowsBeforePass (seed (batchIn bytes)) (withoutTreeData (batchIn bytes))) ≡ 0

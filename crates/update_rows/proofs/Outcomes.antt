@@ -1,23 +1,24 @@
--- 12's second part and rows 15 to 20 of an outcome. Assumes nothing.
+-- Laws of trees by a search of the table, 12's second part and rows 15 to 20 of an outcome. Assumes nothing.
 use mathlib.Core.Bool.{Bool, true, false, not}
 use mathlib.Core.List.{List, [], _∷_}
 use mathlib.Core.Option.{Option, none, some}
 use mathlib.Core.Path.{_≡_, refl, sym, ap, _∙_}
 use Prim.Native.Nat.{ℕ, _≤_, _<_}
-use borrow.Author.Tests.{lt-ltb, le-ltb}
+use borrow.Author.Tests.{lt-ltb, le-ltb, le-leb, lt-leb}
 use lib.Dec.{ltb, leb}
 use lib.ListN.{length}
-use Rattle.base.specs.Tests.{isNone}
+use Rattle.base.specs.Tests.{if_then_else_, isNone, _&&_, isSome, sameOption}
 use Rattle.base.specs.Tables.{Row, row, found, first}
 use Rattle.base.specs.Search.{First}
-use Rattle.base.proofs.Tables.{first-holds, first-passes, first-none, found-counts, found-passes}
-use Rattle.ids.specs.Ids.{ROOT}
+use Rattle.base.proofs.Tests.{call-true}
+use Rattle.base.proofs.Tables.{first-holds, first-passes, first-none}
+use Rattle.ids.specs.Ids.{ROOT, sameTree}
 use Rattle.ids.specs.declared.FullNodeId.{FullNodeId}
-use Rattle.state.specs.State.{Forest, present, subtreeOf}
+use Rattle.state.specs.State.{Forest, subtreeOf, NodeState, TreeEntry, holder}
 use Rattle.state.specs.Down.{rootOf}
 use Rattle.state.specs.Focus.{effectiveFocus}
 use Rattle.state.specs.Sound.{graftsDiffer, soundShape}
-use Rattle.state_array.specs.View.{slotsOf}
+use Rattle.state_array.specs.View.{slotsOf, graftIn, treeIn, bodyIn, nodeIn, entryIn, treesOf, view}
 use Rattle.state_lookup.specs.Lookup.{standsAt, endsOf}
 use Rattle.state_lookup.specs.declared.Ends.{Ends}
 use Rattle.state_lookup.specs.declared.FoundTree.{FoundTree}
@@ -28,38 +29,96 @@ use Rattle.state_focus.specs.declared.FoundNode.{FoundNode}
 use Rattle.state_focus.specs.declared.FoundNode.the-variants as node
 use Rattle.update.specs.Numbers.{absent}
 use Rattle.update_notes.specs.Setting.{forest}
+use Rattle.update_notes.proofs.Places.{forest-length}
 use Rattle.update_rows.specs.Rows.{lastNumber}
-use Rattle.update_rows.specs.Parts.{focusNumber}
-use Rattle.update_rows.proofs.Trees.{not-below}
+use Rattle.update_rows.specs.Parts.{focusNumber, ungrafted, full}
+use native.Mathlib.Decide.{decLt}
+use native.Mathlib.Omega.{arith}
+use Rattle.base.specs.Bytes.{listOf}
+use Rattle.base.proofs.Bytes.{length-list-of, map-list-of}
+use Rattle.base.proofs.Search.{first-any, first-position}
+use Rattle.base.proofs.Lists.{any-map, first-given-some}
+use Rattle.record.specs.Batch.{graft?, Batch}
+use Rattle.update.specs.Words.{known, number, withTreeData}
+use Rattle.update_notes.specs.Says.{HolderIs}
+
+-- not below is at least
+pub not-below : (a b : ℕ) → not (ltb a b) ≡ leb b a
+not-below a b = go (decLt a b)
+  where
+    go : Dec (a < b) → not (ltb a b) ≡ leb b a
+    go (yes h) = ap not (lt-ltb a b h) ∙ sym (lt-leb b a h)
+    go (no h) = let past : b ≤ a = omega arith in ap not (le-ltb a b past) ∙ sym (le-leb b a past)
+
+module _ (state : List ℕ) (b : Batch) where
+  -- ## Row 6
+
+  module _ (r : ℕ) (search : HolderIs state (b .tree) r) where
+    held : isSome (holder (forest state .nodes) (b .tree)) ≡ ltb r (slotsOf state)
+    unfolding holder view nodeIn bodyIn graftIn graft?
+    held =
+        first-given-some (λ (k : NodeState). sameOption sameTree (graft? (k .body)) (some (b .tree))) (λ (k : NodeState). k .id) (listOf (slotsOf state) (nodeIn state))
+        ∙ sym (first-any (λ (k : NodeState). sameOption sameTree (graft? (k .body)) (some (b .tree))) (slotsOf state) (nodeIn state) r search)
+
+    pub ungrafted-is : isSome (b .root) ≡ true → (not (sameTree (b .tree) ROOT) && leb (slotsOf state) r) ≡ ungrafted (forest state) b
+    unfolding ungrafted withTreeData _&&_
+    ungrafted-is given = sym (rw (given, held, not-below r (slotsOf state)))
+
+  -- ## The number
+
+  module _ (r : ℕ) (search : First (λ k. sameTree (b .tree) (treeIn state k .id)) (treesOf state) r) where
+    -- a search of the table says whether the tree has a number
+    known-is : known (forest state) b ≡ ltb r (treesOf state)
+    unfolding known view entryIn
+    known-is =
+        any-map (sameTree (b .tree)) (λ (e : TreeEntry). e .id) (listOf (treesOf state) (entryIn state))
+        ∙ sym (first-any (λ (e : TreeEntry). sameTree (b .tree) (e .id)) (treesOf state) (entryIn state) r search)
+
+    -- and which it has or would take
+    pub number-is : record { 0 = r } ≡ number (forest state) b
+    unfolding number view entryIn
+    number-is =
+        sym
+        (rw (map-list-of (λ (e : TreeEntry). e .id) (treesOf state) (entryIn state))
+        (ap (λ (k : ℕ). record { 0 = k }) (first-position sameTree (b .tree) (treesOf state) (λ i. entryIn state i .id) r search)))
+
+    trees-length : length (forest state .trees) ≡ treesOf state
+    unfolding view
+    trees-length = length-list-of (treesOf state) (entryIn state)
+
+    -- row 8
+    pub full-is : (leb (treesOf state) r && leb 32 (treesOf state)) ≡ full (forest state) b
+    unfolding full
+    full-is = sym (rw (known-is, trees-length, not-below r (treesOf state)))
 
 -- ## Rows 15 to 17
 
-module _ (o : Forest) (r : FoundNode) (way : foundOf r ≡ effectiveFocus o) where
+module _ (state : List ℕ) {r : FoundNode} (way : foundOf r ≡ effectiveFocus (forest state)) where
   -- no focus
-  pub row-unfocused : r ≡ node.Nothing → 15 ≡ focusNumber o
+  pub row-unfocused : r ≡ node.Nothing → 15 ≡ focusNumber (forest state)
   unfolding focusNumber first foundOf
   row-unfocused q = sym (rw (← way, q))
 
-  module _ (x : FullNodeId) (q : r ≡ node.At x) where
+  module _ {x : FullNodeId} (q : r ≡ node.At x) {v : Bool} (rootless : v ≡ absent (forest state .nodes) (rootOf (forest state))) where
     -- the focus that was found
-    focus-is : effectiveFocus o ≡ some x
+    focus-is : effectiveFocus (forest state) ≡ some x
     unfolding foundOf
     focus-is = sym way ∙ ap foundOf q
 
     -- ROOT's root is absent
-    pub row-rootless : absent (o .nodes) (rootOf o) ≡ true → 16 ≡ focusNumber o
+    pub row-rootless : v ≡ true → 16 ≡ focusNumber (forest state)
     unfolding focusNumber first
-    row-rootless h = sym (rw (focus-is, h))
+    row-rootless h = sym (rw (focus-is, sym rootless ∙ h))
 
-    -- it is there, and the focus is absent
-    pub row-lost : absent (o .nodes) (rootOf o) ≡ false → present (o .nodes) x ≡ false → 17 ≡ focusNumber o
-    unfolding focusNumber first absent
-    row-lost h p = sym (rw (focus-is, h, p))
+    -- it is there, and the focus is searched for
+    module _ (h : v ≡ false) {k n : ℕ} (found : First (standsAt state x) (slotsOf state) k) (count : n ≡ slotsOf state) where
+      pub row-lost : n ≤ k → 17 ≡ focusNumber (forest state)
+      unfolding focusNumber first absent
+      row-lost l = sym (rw (focus-is, sym rootless ∙ h, present-slot state x k found ∙ le-ltb k (slotsOf state) (rw count at l)))
 
-    -- both are there
-    pub rows-focused : absent (o .nodes) (rootOf o) ≡ false → present (o .nodes) x ≡ true → 0 ≡ focusNumber o
-    unfolding focusNumber first absent
-    rows-focused h p = sym (rw (focus-is, h, p))
+      pub rows-focused : k < n → 0 ≡ focusNumber (forest state)
+      unfolding focusNumber first absent
+      rows-focused l = sym (rw (focus-is, sym rootless ∙ h, present-slot state x k found ∙ lt-ltb k (slotsOf state) (rw count at l)))
 
 module _ (state : List ℕ) (r : FoundTree) (ends : endsOf r ≡ subtreeOf (forest state) ROOT) where
   -- the root that a search found
@@ -73,10 +132,10 @@ module _ (state : List ℕ) (r : FoundTree) (ends : endsOf r ≡ subtreeOf (fore
   root-unborn q = sym (rw (root-found, q))
 
   -- its root is searched for
-  pub root-searched : (e : Ends) → r ≡ tree.At e → (k : ℕ) → First (standsAt state (e .root)) (slotsOf state) k
-      → leb (slotsOf state) k ≡ absent (forest state .nodes) (rootOf (forest state))
+  pub root-searched : {e : Ends} {k n : ℕ} → r ≡ tree.At e → First (standsAt state (e .root)) (slotsOf state) k → n ≡ slotsOf state
+      → leb n k ≡ absent (forest state .nodes) (rootOf (forest state))
   unfolding endsOf absent
-  root-searched e q k h = sym (rw (root-found, q) (ap not (present-slot state (e .root) k h) ∙ not-below k (slotsOf state)))
+  root-searched {e} {k} q h count = sym (rw (root-found, q, count) (ap not (present-slot state (e .root) k h) ∙ not-below k (slotsOf state)))
 
 -- ## The whole
 
@@ -88,47 +147,23 @@ focus-found false true c rs = refl
 focus-found false false true rs = refl
 focus-found false false false rs = refl
 
--- 12
-pub last-twice : (o : Forest) (clash w : Bool) → w ≡ not (graftsDiffer (o .nodes)) → w ≡ true → 12 ≡ lastNumber o clash
-unfolding lastNumber
-last-twice o clash w twice-is e = sym (first-holds 12 _ _ (sym twice-is ∙ e))
+pub last-are : (o : Forest) (clash : Bool) → lastNumber o clash
+    ≡ first (row 12 (not (graftsDiffer (o .nodes))) ∷ found (focusNumber o) ∷ row 18 clash ∷ row 19 (not (soundShape o)) ∷ row 20 (ltb 256 (length (o .nodes))) ∷ [])
+unfolding lastNumber focusNumber first
+last-are o clash = ap (λ (n : ℕ). if not (graftsDiffer (o .nodes)) then 12 else n)
+    (focus-found (isNone (effectiveFocus o)) (absent (o .nodes) (rootOf o)) (absent (o .nodes) (effectiveFocus o))
+    (row 18 clash ∷ row 19 (not (soundShape o)) ∷ row 20 (ltb 256 (length (o .nodes))) ∷ []))
 
-module _ (o : Forest) (clash z : Bool) (k : ℕ) (sound-is : z ≡ soundShape o) (focused-is : k ≡ focusNumber o) (w : Bool)
-    (twice-is : w ≡ not (graftsDiffer (o .nodes))) (once : w ≡ false) where
-  -- past row 12
-  past-grafts : lastNumber o clash ≡ first (found (focusNumber o) ∷ row 18 clash ∷ row 19 (not (soundShape o)) ∷ row 20 (ltb 256 (length (o .nodes))) ∷ [])
-  unfolding lastNumber focusNumber
-  past-grafts =
-      first-passes 12 _ _ (sym twice-is ∙ once)
-      ∙ focus-found (isNone (effectiveFocus o)) (absent (o .nodes) (rootOf o)) (absent (o .nodes) (effectiveFocus o)) _
+-- past row 19, as the code asks them
+module _ (state : List ℕ) {clash w z : Bool} {k n : ℕ} (twice : w ≡ not (graftsDiffer (forest state .nodes))) (once : w ≡ false)
+    (focus : k ≡ focusNumber (forest state)) (focused : k ≡ 0) (clear : clash ≡ false) (shape : z ≡ soundShape (forest state)) (good : not z ≡ false)
+    (count : n ≡ slotsOf state) where
+  past-shape : lastNumber (forest state) clash ≡ first (row 20 (ltb 256 n) ∷ [])
+  unfolding first
+  past-shape = last-are (forest state) clash ∙ rw (sym twice ∙ once, sym focus ∙ focused, clear, call-true shape good, forest-length state ∙ sym count)
 
-  -- 15 to 17
-  pub last-focus : (k ≡ 0 → ⊥) → k ≡ lastNumber o clash
-  last-focus h = focused-is ∙ sym (past-grafts ∙ found-counts _ _ (λ e. h (focused-is ∙ e)))
+  pub last-many : 256 < n → 20 ≡ lastNumber (forest state) clash
+  last-many l = sym (past-shape ∙ first-holds 20 _ _ (lt-ltb 256 n l))
 
-  module _ (focused : k ≡ 0) where
-    -- past rows 15 to 17
-    past-focus : lastNumber o clash ≡ first (row 18 clash ∷ row 19 (not (soundShape o)) ∷ row 20 (ltb 256 (length (o .nodes))) ∷ [])
-    past-focus = past-grafts ∙ found-passes _ _ (sym focused-is ∙ focused)
-
-    -- 18
-    pub last-clash : clash ≡ true → 18 ≡ lastNumber o clash
-    last-clash e = sym (past-focus ∙ first-holds 18 _ _ e)
-
-    module _ (clear : clash ≡ false) where
-      -- 19
-      pub last-unsound : not z ≡ true → 19 ≡ lastNumber o clash
-      last-unsound e = sym (past-focus ∙ first-passes 18 _ _ clear ∙ first-holds 19 _ _ (ap not (sym sound-is) ∙ e))
-
-      module _ (good : not z ≡ false) where
-        -- past rows 18 and 19
-        past-shape : lastNumber o clash ≡ first (row 20 (ltb 256 (length (o .nodes))) ∷ [])
-        past-shape = past-focus ∙ first-passes 18 _ _ clear ∙ first-passes 19 _ _ (ap not (sym sound-is) ∙ good)
-
-        -- 20
-        pub last-many : 256 < length (o .nodes) → 20 ≡ lastNumber o clash
-        last-many l = sym (past-shape ∙ first-holds 20 _ _ (lt-ltb _ _ l))
-
-        -- none
-        pub last-clear : length (o .nodes) ≤ 256 → 0 ≡ lastNumber o clash
-        last-clear l = sym (past-shape ∙ first-passes 20 _ _ (le-ltb _ _ l) ∙ first-none)
+  pub last-clear : n ≤ 256 → 0 ≡ lastNumber (forest state) clash
+  last-clear l = sym (past-shape ∙ first-passes 20 _ _ (le-ltb 256 n l) ∙ first-none)

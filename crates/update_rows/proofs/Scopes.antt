@@ -73,30 +73,30 @@ root-there : (o : Option NodeId) → isSome o ≡ true → o ≡ some (rootOrZer
 root-there none e = absurd (false≢true e)
 root-there (some r) e = refl
 
-module _ (s : Forest) (b : Batch) where
+module _ (s : Forest) (b : Batch) {v : Bool} (data-is : v ≡ isSome (b .root)) where
   -- that of the tree data
-  pub root-given : isSome (b .root) ≡ true → some (here s b (rootOrZero (b .root))) ≡ rootAfter s b
+  pub root-given : {x : NodeId} → v ≡ true → x ≡ rootOrZero (b .root) → some (here s b x) ≡ rootAfter s b
   unfolding rootAfter
-  root-given e = sym (rw (root-there (b .root) e))
+  root-given e q = rw q (sym (rw (root-there (b .root) (sym data-is ∙ e))))
 
-  module _ (r : FoundTree) (ends : endsOf r ≡ subtreeOf s (b .tree)) (without : isSome (b .root) ≡ false) where
+  module _ (without : v ≡ false) {t : TreeId} (tree-is : t ≡ b .tree) (f : FoundTree) (ends : endsOf f ≡ subtreeOf s t) where
     -- the tree's own
-    own-root : rootAfter s b ≡ (elim (endsOf r) as (λ _. Option FullNodeId) [ none ↦ none | some u ↦ some (u .root) ])
+    own-root : rootAfter s b ≡ (elim (endsOf f) as (λ _. Option FullNodeId) [ none ↦ none | some u ↦ some (u .root) ])
     unfolding rootAfter
-    own-root = rw (none-of (b .root) (ap not without), ends)
+    own-root = rw (none-of (b .root) (ap not (sym data-is ∙ without)), ← tree-is, ends)
 
     -- the tree does not exist
-    pub root-missing : r ≡ tree.Nothing → none ≡ rootAfter s b
+    pub root-missing : f ≡ tree.Nothing → none ≡ rootAfter s b
     unfolding endsOf
     root-missing q = sym (own-root ∙ rw q)
 
     -- it exists
-    pub root-own : (e : Ends) → r ≡ tree.At e → some (here s b (e .root .node)) ≡ rootAfter s b
+    pub root-own : {e : Ends} → f ≡ tree.At e → some (here s b (e .root .node)) ≡ rootAfter s b
     unfolding endsOf here number subtreeOf
-    root-own e q =
+    root-own {e} q =
         let u : SubtreeState = record { root = e .root; focus = e .focus } in
         let at : e .root .tree .0 ≡ position sameTree (map (λ t. t .id) (s .trees)) (b .tree) =
-        subtree-number 0 (s .trees) (b .tree) u (sym ends ∙ ap endsOf q) ∙ zero-add _ in
+        subtree-number 0 (s .trees) (b .tree) u (rw tree-is at (sym ends ∙ ap endsOf q)) ∙ zero-add _ in
         sym (own-root ∙ rw q (ap (λ (k : ℕ). some (record { tree = record { 0 = k }; node = e .root .node })) at))
 
 -- ## A start

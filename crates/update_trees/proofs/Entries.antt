@@ -1,9 +1,11 @@
--- Laws of the outcome's table: how many trees it has, and what each entry is. Assumes nothing.
+-- Laws of the table of trees after a batch, entry by entry, and of roots that go. Assumes nothing.
+use Rattle.record_reader.specs.Reader.{batchIn}
+use Rattle.state_array.specs.declared.TreeRow.{TreeRow}
 use mathlib.Core.Bool.{Bool, true, false}
 use mathlib.Core.List.{List, [], _∷_, map}
 use mathlib.Core.Option.{Option, none, some}
 use mathlib.Core.Path.{_≡_, refl, sym, ap, _∙_}
-use Prim.Native.Nat.{ℕ, zero, suc, _+_, _<_}
+use Prim.Native.Nat.{ℕ, zero, suc, _+_, _<_, _≤_}
 use native.Mathlib.Nat.{add-zero, zero-add}
 use native.Mathlib.Decide.{decLt}
 use native.Mathlib.Omega.{arith}
@@ -22,8 +24,8 @@ use Rattle.ids.specs.declared.NodeId.{NodeId}
 use Rattle.ids.specs.declared.FullNodeId.{FullNodeId}
 use Rattle.record.specs.Batch.{Batch}
 use Rattle.state.specs.State.{Subtree, TreeEntry, Forest, SubtreeState, subtreeState, subtreeOf}
-use Rattle.state_array.specs.View.{treeIn, entryIn, treesOf, view}
-use Rattle.state_array.specs.Stored.{noTree}
+use Rattle.state_array.specs.View.{treeIn, entryIn, treesOf, view, slotsOf}
+use Rattle.state_array.specs.Stored.{noTree, treeRow}
 use Rattle.state_lookup.proofs.Trees.{stateOf, tree-absent, tree-unborn, tree-there}
 use Rattle.update.specs.Words.{known, number, here, rootAfter}
 use Rattle.update.specs.Gone.{gone}
@@ -33,6 +35,12 @@ use Rattle.update_notes.specs.declared.Scope.{Scope}
 use Rattle.update_notes.specs.Setting.{rootIn, asked, forest, Given}
 use Rattle.update_notes.proofs.Positions.{first-cong, position-first, has-position}
 use Rattle.update_trees.specs.Trees.{treesAfter, treeAfter, ownEntry}
+use Rattle.update_notes.specs.Layout.{GOES}
+use Rattle.update_notes.specs.Codes.{idAt, slotAt}
+use Rattle.update_notes.specs.Says.{Told, PLANNED, goesWord}
+use Rattle.update_outcome.proofs.Codes.{gone-absent}
+use Rattle.update_notes.proofs.Places.{slot-present, slot-id, forest-length}
+use Rattle.base.proofs.Tests.{bit-is}
 
 -- ## How many trees
 
@@ -110,7 +118,7 @@ root-subtree s b k was e = go (b .root) (subtreeOf s (b .tree)) was e
 
 -- ## The trees after a batch
 
-module _ (state bytes : List ℕ) (c : Scope) (g : Given state bytes c) where
+module _ {state bytes : List ℕ} {c : Scope} (g : Given state bytes c) where
   abbrev s : Forest
   s = forest state
 
@@ -123,8 +131,14 @@ module _ (state bytes : List ℕ) (c : Scope) (g : Given state bytes c) where
   table-length = length-list-of (treesOf state) (entryIn state)
 
   -- and after the batch
-  pub trees-count : length (treesAfter state bytes c) ≡ (if ltb (c .tree .0) (treesOf state) then treesOf state else treesOf state + 1)
+  trees-count : length (treesAfter state bytes c) ≡ (if ltb (c .tree .0) (treesOf state) then treesOf state else treesOf state + 1)
   trees-count = trees-length s b ∙ rw (table-length, ← g .scoped .tree)
+
+  pub count-known : {n : ℕ} → n ≡ treesOf state → c .tree .0 < n → n ≡ length (treesAfter state bytes c)
+  count-known e h = rw (trees-count, ← e, lt-ltb _ _ h)
+
+  pub count-new : {n : ℕ} → n ≡ treesOf state → n ≤ c .tree .0 → n + 1 ≡ length (treesAfter state bytes c)
+  count-new e h = rw (trees-count, ← e, le-ltb _ _ h)
 
   -- an entry of the table
   entry-at : (i : ℕ) → i < treesOf state → getD (forest state .trees) i noTree ≡ entryIn state i
@@ -158,7 +172,7 @@ module _ (state bytes : List ℕ) (c : Scope) (g : Given state bytes c) where
       λ z. record { id = b .tree; subtree = p z }
 
   -- THE BATCH'S TREE
-  pub own-tree : (i : ℕ) → i ≡ c .tree .0 → treeAfter state bytes c i ≡ ownEntry (asked bytes c) c
+  own-tree : (i : ℕ) → i ≡ c .tree .0 → treeAfter state bytes c i ≡ ownEntry (asked bytes c) c
   unfolding entryAfter entryIn asked
   own-tree i e = rw e (go (decLt (c .tree .0) (treesOf state)))
     where
@@ -174,8 +188,12 @@ module _ (state bytes : List ℕ) (c : Scope) (g : Given state bytes c) where
           let unknown : known s b ≡ false = known-number s b ∙ rw (← g .scoped .tree) (le-ltb (c .tree .0) (length (s .trees)) (omega arith)) in
           rw last (new-tree s b unknown) ∙ own-entry (c .tree .0) none (tree-absent state (b .tree) (c .tree .0) number-first (omega arith))
 
+  pub own-row : {i : ℕ} {r : TreeRow} → i ≡ c .tree .0 → r ≡ treeRow (ownEntry (batchIn bytes) c) → r ≡ treeRow (treeAfter state bytes c i)
+  unfolding ownEntry asked
+  own-row {i} e q = q ∙ ap treeRow (sym (own-tree i e))
+
   -- ANY OTHER TREE
-  module _ (i : ℕ) (among : i < length (treesAfter state bytes c)) (other : i ≡ c .tree .0 → ⊥) where
+  module _ {i : ℕ} (among : i < length (treesAfter state bytes c)) (other : i ≡ c .tree .0 → ⊥) where
     -- it had a number
     other-old : i < treesOf state
     other-old = go (decLt (c .tree .0) (treesOf state))
@@ -193,13 +211,37 @@ module _ (state bytes : List ℕ) (c : Scope) (g : Given state bytes c) where
         old-tree s b i (omega (arith, other-old, table-length))
         ∙ rw (entry-at i other-old, ne-eqb i (number s b .0) (λ e. other (e ∙ ap (λ t. t .0) (sym (g .scoped .tree)))))
 
-    -- it did not exist
-    pub other-unborn : treeIn state i .exists ≡ 0 → treeAfter state bytes c i ≡ record { id = treeIn state i .id; subtree = none }
-    unfolding entryIn subtreeElsewhere
-    other-unborn e = other-entry ∙ rw (eq-eqb (treeIn state i .exists) 0 e)
+    -- as the row of the table says it
+    module _ {row : TreeRow} (row-is : row ≡ treeIn state i) where
+      -- it did not exist
+      pub other-unborn : {r : TreeRow} → row .exists ≡ 0 → r ≡ treeRow (record { id = row .id; subtree = none }) → r ≡ treeRow (treeAfter state bytes c i)
+      unfolding entryIn subtreeElsewhere
+      other-unborn e q = q ∙ ap treeRow (rw row-is (sym (other-entry ∙ rw (eq-eqb (treeIn state i .exists) 0 (rw row-is at e)))))
 
-    -- it exists while its root stays
-    pub other-born : (treeIn state i .exists ≡ 0 → ⊥) → (t : Bool) → t ≡ gone (forest state) (asked bytes c) (record { tree = record { 0 = i }; node = treeIn state i .root })
-        → treeAfter state bytes c i ≡ record { id = treeIn state i .id; subtree = if t then none else some (record { root = treeIn state i .root; focus = treeIn state i .focus }) }
-    unfolding entryIn subtreeElsewhere
-    other-born e t q = other-entry ∙ rw (ne-eqb (treeIn state i .exists) 0 e, q)
+      -- it exists while its root stays
+      module _ (born : row .exists ≡ 0 → ⊥) {t : Bool} (goes : t ≡ gone (forest state) (asked bytes c) (record { tree = record { 0 = i }; node = row .root })) where
+        other-born : record { id = row .id; subtree = if t then none else some (record { root = row .root; focus = row .focus }) } ≡ treeAfter state bytes c i
+        unfolding entryIn subtreeElsewhere
+        other-born = rw row-is (sym (other-entry ∙ rw (ne-eqb (treeIn state i .exists) 0 (rw row-is at born), rw row-is at goes)))
+
+        pub other-gone : {r : TreeRow} → t ≡ true → r ≡ treeRow (record { id = row .id; subtree = none }) → r ≡ treeRow (treeAfter state bytes c i)
+        other-gone e q = q ∙ ap treeRow (rw e at other-born)
+
+        pub other-stays : {r : TreeRow} → t ≡ false → r ≡ treeRow (record { id = row .id; subtree = some (record { root = row .root; focus = row .focus }) }) → r ≡ treeRow (treeAfter state bytes c i)
+        other-stays e q = q ∙ ap treeRow (rw e at other-born)
+
+module _ {state bytes : List ℕ} {c : Scope} {notes : List ℕ} (told : Told PLANNED state bytes c notes) (x : FullNodeId) {i n : ℕ}
+    (slot : i ≡ slotAt (forest state) x) (count : n ≡ slotsOf state) where
+  -- a node without a slot does not go
+  pub absent-stays : n ≤ i → false ≡ gone (forest state) (asked bytes c) x
+  absent-stays h =
+      sym (gone-absent (forest state) (asked bytes c) x
+      (slot-present (forest state) x ∙ le-ltb (slotAt (forest state) x) (length (forest state .nodes)) (omega (arith, slot, forest-length state))))
+
+  -- of a node with one the mark tells
+  pub mark-tells : i < n → eqb (getD notes (GOES + i) 0) 1 ≡ gone (forest state) (asked bytes c) x
+  unfolding goesWord
+  mark-tells h =
+      ap (λ (w : ℕ). eqb w 1) (told .written 9 (omega arith) i (omega arith))
+      ∙ bit-is (gone (forest state) (asked bytes c) (idAt (forest state) i))
+      ∙ ap (gone (forest state) (asked bytes c)) (ap (idAt (forest state)) slot ∙ slot-id (forest state) x (omega (arith, slot, forest-length state)))

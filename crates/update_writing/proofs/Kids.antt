@@ -1,4 +1,5 @@
--- Laws of children: those that a source names, and the runs that they are written in. Assumes nothing.
+-- Laws of the words that are stored: fields of a node, and runs of children. Assumes nothing.
+use Rattle.state_array.specs.declared.ShapeRow.{ShapeRow}
 use mathlib.Core.List.{List}
 use mathlib.Core.Path.{_≡_, refl, sym, ap, _∙_}
 use Prim.Native.Nat.{ℕ, _+_, _-_, _≤_, _<_}
@@ -6,24 +7,52 @@ use native.Mathlib.Decide.{decLt}
 use native.Mathlib.Omega.{arith}
 use lib.ListN.{length, getD, set}
 use borrow.Author.Tests.{lt-ltb, le-ltb}
-use Rattle.base.specs.Bytes.{sumOf}
-use Rattle.base.specs.Regions.{fill}
+use Rattle.base.specs.Bytes.{sumOf, listOf}
+use Rattle.base.specs.Regions.{fill, fills}
 use Rattle.base.proofs.Bytes.{length-list-of, list-of-at, sum-more}
-use Rattle.base.proofs.Regions.{fill-none, fill-more, fill-set, fill-cong, fill-add}
+use Rattle.base.proofs.Regions.{fill-none, fill-more, fill-set, fill-cong, fill-add, row-stored}
 use Rattle.ids.specs.declared.NodeId.{NodeId}
 use Rattle.record.specs.Batch.{NodeData}
 use Rattle.record_reader.specs.Reader.{batchIn, listedAt}
 use Rattle.state.specs.State.{NodeState}
-use Rattle.state_array.specs.Layout.{place, childPlace, FIRST-CHILD}
+use Rattle.state_array.specs.Layout.{place, childPlace, FIRST-CHILD, TREE, PARENT-TREE}
 use Rattle.state_array.specs.View.{idIn, shapeIn, childrenOf, bodyIn, nodeIn}
-use Rattle.state_array.specs.Stored.{noNode, noState, childrenBefore, rowOf, nodeWord, entriesOf}
+use Rattle.state_array.specs.Stored.{noNode, noState, childrenBefore, rowOf, nodeWord, entriesOf, linkRow, floatsOf, bodyOf}
 use Rattle.state_array.proofs.Entries.{entries-length, entries-within, entries-at}
 use Rattle.update_notes.specs.declared.Scope.{Scope}
 use Rattle.update_notes.specs.Setting.{asked, forest, Batched}
 use Rattle.update_notes.specs.Codes.{SourceOf}
 use Rattle.update_notes.proofs.Places.{forest-length, forest-node}
 use Rattle.update_notes.proofs.Setting.{batched-at}
-use Rattle.update_writing.specs.Written.{kidWord, sourceChildren, slotChild, runWritten, childrenWritten}
+use Rattle.update_writing.specs.Written.{kidWord, sourceChildren, slotChild, runWritten, childrenWritten, nodesRegions, puts, wordsPut, idWords, linkWords, bodyPut}
+use native.Mathlib.Numerals.{add-one}
+use Rattle.base.specs.Tests.{_&&_}
+use Rattle.ids.specs.declared.FullNodeId.{FullNodeId}
+use Rattle.state_array.specs.declared.LinkRow.{LinkRow}
+use Rattle.state_array.specs.declared.Body.{Body}
+
+-- no word yet, and one more
+pub puts-none : (f r : ℕ) (ws s : List ℕ) → s ≡ puts f r ws 0 s
+unfolding puts
+puts-none f r ws s = refl
+
+pub puts-more : (f r : ℕ) (ws : List ℕ) (n : ℕ) (s : List ℕ) → set (puts f r ws n s) (place (f + n) r) (getD ws n 0) ≡ puts f r ws (n + 1) s
+unfolding puts
+puts-more f r ws n s = rw add-one
+
+-- a node's id, link and data
+node-stored : (ns : List NodeState) (r : ℕ) → r < 320 → (s : List ℕ)
+    → bodyPut r (bodyOf (getD ns r noState .body))
+    (wordsPut PARENT-TREE r (linkWords (linkRow (getD ns r noState .parentAndIndex))) (wordsPut TREE r (idWords (getD ns r noState .id)) (fills (nodesRegions ns) r s)))
+    ≡ fills (nodesRegions ns) (r + 1) s
+unfolding _&&_ puts nodeWord rowOf bodyOf listOf floatsOf
+node-stored ns r few s = row-stored (nodesRegions ns) 0 320 r refl few s
+
+-- one node more, as the writer stores it
+pub node-more : (ns : List NodeState) (r : ℕ) → r < 320 → (s : List ℕ) {start ids links end : List ℕ} {x : FullNodeId} {l : LinkRow} {d : Body}
+    → start ≡ fills (nodesRegions ns) r s → x ≡ getD ns r noState .id → l ≡ linkRow (getD ns r noState .parentAndIndex) → d ≡ bodyOf (getD ns r noState .body)
+    → ids ≡ wordsPut TREE r (idWords x) start → links ≡ wordsPut PARENT-TREE r (linkWords l) ids → end ≡ bodyPut r d links → end ≡ fills (nodesRegions ns) (r + 1) s
+node-more ns r few s begun id link body f g h = rw (h, g, f, begun, body, link, id) (node-stored ns r few s)
 
 -- ## What a source names
 
@@ -33,25 +62,31 @@ module _ (state bytes : List ℕ) (source : ℕ) where
   unfolding sourceChildren nodeIn bodyIn
   slot-children h = rw (lt-ltb source 320 h)
 
-  pub slot-count : source < 320 → shapeIn state source .«child_count» ≡ length (sourceChildren state bytes source)
+  pub slot-count : {d : ShapeRow} → source < 320 → d ≡ shapeIn state source → d .«child_count» ≡ length (sourceChildren state bytes source)
   unfolding childrenOf
-  slot-count h = rw (slot-children h) (sym (length-list-of (shapeIn state source .«child_count») (λ j. record { 0 = slotChild state source j })))
+  slot-count h e = rw (e, slot-children h) (sym (length-list-of (shapeIn state source .«child_count») (λ j. record { 0 = slotChild state source j })))
 
-  pub slot-child : source < 320 → (j : ℕ) → j < length (sourceChildren state bytes source) → slotChild state source j ≡ kidWord (sourceChildren state bytes source) j
+  pub slot-child : {v j : ℕ} → source < 320 → j < length (sourceChildren state bytes source) → v ≡ slotChild state source j → v ≡ kidWord (sourceChildren state bytes source) j
   unfolding childrenOf
-  slot-child h j l =
-      rw (slot-children h)
-      (sym (ap (λ (x : NodeId). x .0) (list-of-at (shapeIn state source .«child_count») j (λ j. record { 0 = slotChild state source j }) noNode (rw (← slot-count h) at l))))
+  slot-child {j = j} h l e =
+      e ∙ rw (slot-children h)
+      (sym (ap (λ (x : NodeId). x .0) (list-of-at (shapeIn state source .«child_count») j (λ j. record { 0 = slotChild state source j }) noNode (rw (← slot-count h refl) at l))))
 
   -- a listed node's
-  pub listed-children : 320 ≤ source → sourceChildren state bytes source ≡ listedAt (batchIn bytes) (source - 320) .body .children
+  listed-children : 320 ≤ source → sourceChildren state bytes source ≡ listedAt (batchIn bytes) (source - 320) .body .children
   unfolding sourceChildren
   listed-children h = rw (le-ltb source 320 h)
 
+  pub listed-count : {n : ℕ} → 320 ≤ source → n ≡ length (listedAt (batchIn bytes) (source - 320) .body .children) → n ≡ length (sourceChildren state bytes source)
+  listed-count h e = e ∙ sym (ap length (listed-children h))
+
+  pub listed-child : {x : NodeId} (j : ℕ) → 320 ≤ source → x ≡ getD (listedAt (batchIn bytes) (source - 320) .body .children) j noNode → x .0 ≡ kidWord (sourceChildren state bytes source) j
+  listed-child j h e = rw (listed-children h) (ap (λ (x : NodeId). x .0) e)
+
   -- the children of the data that comes from it
-  pub source-children : (c : Scope) (body : NodeData) → Batched bytes (asked bytes c) → SourceOf (forest state) (asked bytes c) source body → sourceChildren state bytes source ≡ body .children
+  pub source-children : (c : Scope) {body : NodeData} → Batched bytes (asked bytes c) → SourceOf (forest state) (asked bytes c) source body → sourceChildren state bytes source ≡ body .children
   unfolding nodeIn bodyIn
-  source-children c body batched from = go (decLt source 320)
+  source-children c {body} batched from = go (decLt source 320)
     where
       go : Dec (source < 320) → sourceChildren state bytes source ≡ body .children
       go (yes h) =

@@ -1,29 +1,35 @@
--- Laws of the plan: what the notes say of the outcome's nodes. Assumes nothing.
+-- What the notes say to the writer: of node r its code, its id, its link, its data. Assumes nothing.
+use Rattle.ids.specs.declared.FullNodeId.{FullNodeId}
 use mathlib.Core.List.{List}
-use mathlib.Core.Path.{_≡_, sym, _∙_}
+use mathlib.Core.Path.{_≡_, sym, _∙_, ap}
 use Prim.Native.Nat.{ℕ, _+_, _-_, _≤_, _<_}
 use native.Mathlib.Omega.{arith}
 use lib.ListN.{length, getD}
-use Rattle.record.specs.Batch.{Batch}
+use Rattle.record.specs.Batch.{Batch, NodeData, fieldsOk}
 use Rattle.record_reader.specs.Reader.{listedAt}
-use Rattle.state.specs.State.{Forest}
-use Rattle.state_array.specs.View.{idIn}
-use Rattle.state_array.specs.Stored.{noState, entriesOf}
+use Rattle.state.specs.State.{Forest, NodeState}
+use Rattle.state_array.specs.View.{idIn, nodeIn}
+use Rattle.state_array.specs.Stored.{noState, entriesOf, bodyOf}
 use Rattle.update.specs.Words.{here}
 use Rattle.update.specs.Outcome.{linkAfter, outcome}
 use Rattle.update_notes.specs.declared.Scope.{Scope}
 use Rattle.update_notes.specs.Layout.{LISTED, COUNT, CODES, SOURCES}
 use Rattle.update_notes.specs.Setting.{asked, forest}
-use Rattle.update_notes.specs.Codes.{idAt, codeId, codeLink, Coded, SourceOf, codeOf, sourceOf}
+use Rattle.update_notes.specs.Codes.{idAt, codeId, codeLink, Coded, SourceOf, codeOf, sourceOf, nodeAt}
 use Rattle.update_notes.specs.Says.{Told, COMPARED, PLANNED, listedWord, codeWord, sourceWord}
-use Rattle.update_notes.proofs.Places.{forest-length, forest-id}
-use Rattle.update_notes.proofs.Told.{few-listed, few-named, few-after}
+use Rattle.update_notes.proofs.Places.{forest-length, forest-id, forest-node}
+use Rattle.update_notes.proofs.Told.{few-listed, few-named, few-after, batched}
 use Rattle.update_outcome.proofs.Codes.{code-old, code-new, coded, code-id}
 use Rattle.update_outcome.proofs.Nodes.{code-link, source-of}
 use Rattle.update_outcome.proofs.Room.{entries-few}
 use Rattle.update_writing.specs.Written.{nodesAfter}
+use native.Mathlib.Decide.{decLt}
+use Rattle.state_array.specs.declared.Body.{Body}
+use Rattle.update_notes.proofs.Setting.{batched-at}
+use Rattle.update_outcome.proofs.Fits.{all-at}
+use Rattle.update_bodies.specs.Bodies.{BodyIs}
 
-module _ (state bytes : List ℕ) (c : Scope) (notes : List ℕ) (told : Told PLANNED state bytes c notes) where
+module _ {state bytes : List ℕ} {c : Scope} {notes : List ℕ} (told : Told PLANNED state bytes c notes) where
   abbrev s : Forest
   s = forest state
 
@@ -39,6 +45,10 @@ module _ (state bytes : List ℕ) (c : Scope) (notes : List ℕ) (told : Told PL
   pub nodes-room : length (nodesAfter state bytes c) ≤ 320
   nodes-room = few-after state bytes c (told .given)
 
+  -- a node before the count is one of them
+  pub node-among : {r : ℕ} → r < getD notes COUNT 0 → r < length (nodesAfter state bytes c)
+  node-among h = omega (arith, count-told)
+
   listed-room : length (asked bytes c .nodes) ≤ 64
   listed-room = omega (arith, few-listed state bytes c (told .given), told .given .scoped .listed)
 
@@ -52,7 +62,7 @@ module _ (state bytes : List ℕ) (c : Scope) (notes : List ℕ) (told : Told PL
 
   -- ## Node r
 
-  module _ (r : ℕ) (l : r < length (nodesAfter state bytes c)) where
+  module _ {r : ℕ} (l : r < length (nodesAfter state bytes c)) where
     code-told : getD notes (CODES + r) 0 ≡ codeOf s b (idAt (outcome s b) r)
     unfolding codeWord
     code-told = told .written 12 (omega arith) r l
@@ -78,9 +88,9 @@ module _ (state bytes : List ℕ) (c : Scope) (notes : List ℕ) (told : Told PL
 
   -- ## The id of a code
 
-  module _ (code : ℕ) (there : Coded (forest state) (asked bytes c) code) where
-    pub slot-id : code < 320 → idIn state code ≡ codeId (forest state) (asked bytes c) code
-    slot-id h = sym (code-old s b code h ∙ forest-id state code (rw (forest-length state) at (there .stays h .0)))
+  module _ {code : ℕ} (there : Coded (forest state) (asked bytes c) code) where
+    pub slot-id : {y : FullNodeId} → code < 320 → y ≡ idIn state code → y ≡ codeId (forest state) (asked bytes c) code
+    slot-id h e = e ∙ sym (code-old s b code h ∙ forest-id state code (rw (forest-length state) at (there .stays h .0)))
 
     -- a listed node's place
     pub listed-place : 320 ≤ code → code - 320 < 64
@@ -91,3 +101,26 @@ module _ (state bytes : List ℕ) (c : Scope) (notes : List ℕ) (told : Told PL
     listed-id h =
         let word : getD notes (LISTED + (code - 320)) 0 ≡ listedAt b (code - 320) .id .0 = told .written 0 (omega arith) (code - 320) (omega (arith, there .new h .0, told .given .scoped .listed)) in
         (λ z. record { tree = told .given .scoped .tree z; node = record { 0 = word z } }) ∙ sym (code-new s b code h)
+
+module _ {state bytes : List ℕ} {c : Scope} {notes : List ℕ} (told : Told PLANNED state bytes c notes) {r : ℕ} (l : r < length (nodesAfter state bytes c)) where
+  pub body-there : {d : Body} → BodyIs state bytes (getD notes (SOURCES + r) 0) d → d ≡ bodyOf (getD (nodesAfter state bytes c) r noState .body)
+  body-there {d} is = go (decLt source 320)
+    where
+      source : ℕ
+      source = getD notes (SOURCES + r) 0
+
+      body : NodeData
+      body = getD (nodesAfter state bytes c) r noState .body
+
+      go : Dec (source < 320) → d ≡ bodyOf body
+      go (yes h) =
+          let from = source-there told l .kept h in
+          let node : nodeAt (forest state) source ≡ nodeIn state source = forest-node state source (rw (forest-length state) at (from .0)) in
+          let fields = all-at (λ n. fieldsOk (n .body)) (forest state .nodes) noState (told .given .kept .fields) source (from .0) in
+          is .kept h (rw node at fields) .is ∙ ap (λ (n : NodeState). bodyOf (n .body)) (sym node) ∙ ap bodyOf (from .1)
+      go (no h) =
+          let past : 320 ≤ source = omega arith in
+          let from = source-there told l .read past in
+          let record-of = batched state bytes c (told .given) in
+          is .read past (told .given .formed) (rw (record-of .nodes) at (from .0)) .is
+          ∙ rw (batched-at bytes (asked bytes c) record-of (source - 320)) (ap bodyOf (from .1))

@@ -15,10 +15,10 @@ use Rattle.update_writing.specs.Written.{nodesAfter, nodesWritten, child
 use Rattle.update_notes.specs.Says.{outcomeState}
 use Rattle.update_writing.proofs.Plan.{nodes-room, entries-room}
 
-pub outcome-written : (state bytes : List ℕ) (c : Scope) (notes : List ℕ) → Told PLANNED state bytes c notes → {blank nodes children trees end : List ℕ}
+pub outcome-written : {state bytes : List ℕ} {c : Scope} {notes : List ℕ} → Told PLANNED state bytes c notes → {blank nodes children trees end : List ℕ}
     → blank ≡ replicate 9640 0 → nodes ≡ nodesWritten (nodesAfter state bytes c) blank → children ≡ childrenWritten (nodesAfter state bytes c) nodes
     → trees ≡ treesWritten (treesAfter state bytes c) children → end ≡ fill 0 3 (headWord (outcomeState state bytes c)) trees → end ≡ stored (outcomeState state bytes c)
-outcome-written state bytes c notes told z n k t h =
+outcome-written {state} {bytes} {c} told z n k t h =
     rw (h, t, k, n, z)
-    (filled-stored (outcomeState state bytes c) (nodes-room state bytes c notes told)
-    (trees-few (forest state) (asked bytes c) (told .given .kept) (told .given .numbered)) (entries-room state bytes c notes told))
+    (filled-stored (outcomeState state bytes c) (nodes-room told)
+    (trees-few (forest state) (asked bytes c) (told .given .kept) (told .given .numbered)) (entries-room told))

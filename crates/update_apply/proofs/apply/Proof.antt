@@ -6,13 +6,6 @@ use Rattle.update_apply.proofs.Applied.{applied-early, applied-last}
 use Rattle.update_apply.proofs.apply.Statement.{statement}
 use Rattle.update_apply.proofs.apply.Tie as tie
 
-returns : tie.Need-returns
-unfolding passNumber
-returns c = applied-early _ _ _ _ _ _ (c .before .before .pass-rows .ensures) (c .if1 .taken)
-
-updated-and-removed-requires : tie.Need-updated-and-removed-requires
-updated-and-removed-requires c κs = told-compared _ _ _ _ (c .before .write .ensures .told)
-
 returns-2 : tie.Need-returns-2
 unfolding passNumber
 returns-2 c =
@@ -25,10 +18,9 @@ pub apply-spec : {M : Type 1} → statement M
 apply-spec =
     tie.close
     (tie.spec
+    (λ c κs. search needs) (λ c κs. search needs)
+    (λ c. unfold passNumber in (applied-early _ _ _ _ _ _ (c .before .before .pass-rows .ensures) (c .if1 .taken)))
     (λ c κs. search needs)
-    (λ c κs. search needs)
-    returns
-    (λ c κs. search needs)
-    updated-and-removed-requires
+    (λ c κs. told-compared (c .before .write .ensures .told))
     (λ c κs. search needs)
     returns-2)

@@ -4,11 +4,6 @@ use borrow.Author.Needs.{needs}
 use Rattle.update_bodies.proofs.label_words.Statement.{statement}
 use Rattle.update_bodies.proofs.label_words.Tie as tie
 
-returns : tie.Need-returns
-unfolding listOf
-returns c = cc
-
 pub label-words-spec : {M : Type 1} → statement M
 label-words-spec =
-    tie.close
-    (tie.spec (λ c κs. search needs) (λ c κs. search needs) (λ c κs. search needs) (λ c κs. search needs) returns)
+    tie.close (tie.spec (λ c κs. search needs) (λ c κs. search needs) (λ c κs. search needs) (λ c κs. search needs) (λ c. unfold listOf in (cc)))

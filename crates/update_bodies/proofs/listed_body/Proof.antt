@@ -6,7 +6,7 @@ use lib.ListN.{length}
 use Rattle.base.specs.Bytes.{listOf}
 use Rattle.state_array.specs.Stored.{labelWord}
 use Rattle.update_bodies.proofs.Bodies.{listed-body}
-use Rattle.update_bodies.proofs.Labels.{bytes-all}
+use Rattle.update_bodies.proofs.Same.{bytes-all}
 use borrow.Author.Needs.{needs}
 use Rattle.update_bodies.proofs.listed_body.Statement.{statement}
 use Rattle.update_bodies.proofs.listed_body.Tie as tie
@@ -27,14 +27,8 @@ pub listed-body-spec : {M : Type 1} → statement M
 listed-body-spec =
     tie.close
     (tie.spec
-    (λ c κs. search needs)
-    (λ c κs. search needs)
-    (λ c κs. search needs)
-    (λ c κs. search needs)
-    (λ c κs. search needs)
+    (λ c κs. search needs) (λ c κs. search needs) (λ c κs. search needs) (λ c κs. search needs) (λ c κs. search needs)
     (λ c. search needs)
-    (λ c κs. search needs)
-    (λ c κs. search needs)
-    (λ c κs. search needs)
+    (λ c κs. search needs) (λ c κs. search needs) (λ c κs. search needs)
     (λ c. search needs)
     returns)

@@ -5,23 +5,13 @@ use borrow.Author.Needs.{needs}
 use Rattle.update_bodies.proofs.pattern.Statement.{statement}
 use Rattle.update_bodies.proofs.pattern.Tie as tie
 
-returns : tie.Need-returns
-returns c = sym (field-past _ _ 8 _ (c .before .u16-at .ensures) (c .if1 .taken))
-
-returns-2 : tie.Need-returns-2
-returns-2 c = c .u64-at .ensures ∙ sym (field-here _ _ 8 _ (c .before .before .u16-at .ensures) (c .before .if1 .left))
-
 pub pattern-spec : {M : Type 1} → statement M
 pattern-spec =
     tie.close
     (tie.spec
     (λ c κs. search needs)
     (λ c. search needs)
-    returns
-    (λ c. search needs)
-    (λ c. search needs)
-    (λ c. search needs)
-    (λ c. search needs)
-    (λ c. search needs)
+    (λ c. sym (field-past _ _ 8 _ (c .before .u16-at .ensures) (c .if1 .taken)))
+    (λ c. search needs) (λ c. search needs) (λ c. search needs) (λ c. search needs) (λ c. search needs)
     (λ c κs. search needs)
-    returns-2)
+    (λ c. c .u64-at .ensures ∙ sym (field-here _ _ 8 _ (c .before .before .u16-at .ensures) (c .before .if1 .left))))

@@ -5,22 +5,10 @@ use borrow.Author.Needs.{needs}
 use Rattle.update_bodies.proofs.patterns.Statement.{statement}
 use Rattle.update_bodies.proofs.patterns.Tie as tie
 
-returns : tie.Need-returns
-unfolding patternsIn listOf
-returns c = cc
-
 pub patterns-spec : {M : Type 1} → statement M
 patterns-spec =
     tie.close
     (tie.spec
-    (λ c κs. search needs)
-    (λ c κs. search needs)
-    (λ c κs. search needs)
-    (λ c κs. search needs)
-    (λ c κs. search needs)
-    (λ c κs. search needs)
-    (λ c κs. search needs)
-    (λ c κs. search needs)
-    (λ c κs. search needs)
-    (λ c κs. search needs)
-    returns)
+    (λ c κs. search needs) (λ c κs. search needs) (λ c κs. search needs) (λ c κs. search needs) (λ c κs. search needs) (λ c κs. search needs)
+    (λ c κs. search needs) (λ c κs. search needs) (λ c κs. search needs) (λ c κs. search needs)
+    (λ c. unfold patternsIn listOf in (cc)))

@@ -7,24 +7,16 @@ use borrow.Author.Needs.{needs}
 use Rattle.update_bodies.proofs.same_bounds.Statement.{statement}
 use Rattle.update_bodies.proofs.same_bounds.Tie as tie
 
-returns : tie.Need-returns
-unfolding sameRect boundsOf sameValue _&&_
-returns c = cc
-
 pub same-bounds-spec : {M : Type 1} → statement M
 same-bounds-spec =
     tie.close
     (tie.spec
-    (λ c. search needs)
-    (λ c. search needs)
+    (λ c. search needs) (λ c. search needs)
     (λ c κs. search needs)
-    (λ c. search needs)
-    (λ c. search needs)
+    (λ c. search needs) (λ c. search needs)
     (λ c κs. search needs)
-    (λ c. search needs)
-    (λ c. search needs)
+    (λ c. search needs) (λ c. search needs)
     (λ c κs. search needs)
-    (λ c. search needs)
-    (λ c. search needs)
+    (λ c. search needs) (λ c. search needs)
     (λ c κs. search needs)
-    returns)
+    (λ c. unfold sameRect boundsOf sameValue _&&_ in (cc)))

@@ -10,6 +10,7 @@ use borrow.Author.Tests.{eq-eqb, ne-eqb}
 use Rattle.base.specs.Bytes.{allBelow}
 use Rattle.base.proofs.Bytes.{all-below-none, all-below-more, all-below-fails}
 use Rattle.update_bodies.specs.Bodies.{sameRun}
+use Rattle.base.proofs.Indexed.{all-below-end}
 use Rattle.update_bodies.proofs.same_run.Statement.{statement}
 use Rattle.update_bodies.proofs.same_run.Tie as tie
 
@@ -19,33 +20,16 @@ Inv-loop a from b to past count k₀ k = (k ≤ count) × (allBelow k (λ j. eqb
 abbrev μ-loop : tie.MeasureT-loop
 μ-loop a from b to past count k₀ k = count - k
 
-loop-holds : tie.Need-loop-holds Inv-loop μ-loop
-loop-holds c = (omega arith, all-below-none _)
-
 returns : tie.Need-returns Inv-loop μ-loop
 unfolding sameRun
 returns c =
     let l = c .before .before .before .before .loop in
     sym (all-below-fails _ _ (l .k) (omega arith) (ne-eqb _ _ (λ e. c .if1 .taken (c .before .before .word-in .ensures ∙ e ∙ sym (c .before .word-in2 .ensures)))))
 
-add-k : tie.Need-add-k Inv-loop μ-loop
-add-k c = omega arith
-
-loop-less : tie.Need-loop-less Inv-loop μ-loop
-loop-less c = omega arith
-
 loop-again : tie.Need-loop-again Inv-loop μ-loop
 loop-again c =
     let l = c .before .before .before .before .loop in
     (omega arith, all-below-more _ (l .k) (l .inv .1) (eq-eqb _ _ (sym (c .before .before .word-in .ensures) ∙ c .if1 .left ∙ c .before .word-in2 .ensures)))
-
-returns-2 : tie.Need-returns-2 Inv-loop μ-loop
-unfolding sameRun
-returns-2 c =
-    let l = c .before .loop in
-    let a = c .before .before .before .before .args in
-    let done : l .k ≡ a .count = omega arith in
-    sym (rw done at (l .inv .1))
 
 pub same-run-spec : {M : Type 1} → statement M
 same-run-spec =
@@ -53,11 +37,9 @@ same-run-spec =
     (tie.spec
     Inv-loop
     μ-loop
-    loop-holds
-    (λ c κs. search needs)
-    (λ c κs. search needs)
+    (λ c. (omega arith, all-below-none _))
+    (λ c κs. search needs) (λ c κs. search needs)
     returns
-    add-k
-    loop-less
+    (λ c. search needs) (λ c. search needs)
     loop-again
-    returns-2)
+    (λ c. unfold sameRun in (sym (all-below-end _ _ _ (omega arith) (c .before .loop .inv .1)))))

@@ -5,8 +5,6 @@ use borrow.Author.Needs.{needs}
 use Rattle.update_bodies.proofs.same_value.Statement.{statement}
 use Rattle.update_bodies.proofs.same_value.Tie as tie
 
-returns : tie.Need-returns
-returns c = ap₂ eq (c .before .f64-of .ensures) (c .f64-of2 .ensures)
-
 pub same-value-spec : {M : Type 1} → statement M
-same-value-spec = tie.close (tie.spec (λ c κs. search needs) (λ c κs. search needs) returns)
+same-value-spec =
+    tie.close (tie.spec (λ c κs. search needs) (λ c κs. search needs) (λ c. ap₂ eq (c .before .f64-of .ensures) (c .f64-of2 .ensures)))

@@ -7,8 +7,7 @@ use Rattle.state_array.specs.View.{slotsOf}
 use Rattle.update_notes.specs.Layout.{ABOVE}
 use Rattle.update_notes.specs.declared.Scope.{Scope}
 use Rattle.update_gone.specs.Fates.{Fated}
-use Rattle.update_gone.proofs.Climb.{Climbing, climb-start, climb-left, climb-same}
-use Rattle.update_gone.proofs.Memo.{memo-known, memo-step}
+use Rattle.update_gone.proofs.Climb.{Climbing, climb-start, climb-left, climb-same, memo-known, memo-step}
 use native.Mathlib.Omega.{arith}
 use borrow.Author.Needs.{needs}
 use Rattle.update_gone.proofs.climbed.Statement.{statement}
@@ -21,20 +20,11 @@ Inv-loop state batch notes i at₀ room₀ at room =
 abbrev μ-loop : tie.MeasureT-loop
 μ-loop state batch notes i at₀ room₀ at room = room
 
-loop-holds : tie.Need-loop-holds Inv-loop μ-loop
-loop-holds c =
-    let s = c .before .before in
-    let a = s .args in
-    (omega (arith, s .pre .1), λ scope fated h. rw (c .slots .ensures) (climb-start (now (a .state)) (now (a .batch)) scope (a .i) h))
-
 returns : tie.Need-returns Inv-loop μ-loop
 returns c =
     let s = c .before .before .before .before .before .before in
-    let l = c .before .before .before .loop in
-    let a = s .args in
-    let climb = l .inv .1 (a .scope) (s .pre .0) (s .pre .1) in
-    memo-known (now (a .state)) (now (a .batch)) (a .scope) (now (a .notes)) (a .i) (s .pre .0) (l .at) (climb .there) (c .if1 .taken)
-    ∙ climb-same (now (a .state)) (now (a .batch)) (a .scope) (a .i) (l .room) (l .at) climb
+    let climb = c .before .before .before .loop .inv .1 (s .args .scope) (s .pre .0) (s .pre .1) in
+    memo-known _ _ _ (s .pre .0) _ (climb .there) (c .if1 .taken) ∙ climb-same _ _ _ _ _ _ climb
 
 loop-again : tie.Need-loop-again Inv-loop μ-loop
 loop-again c =
@@ -43,16 +33,8 @@ loop-again c =
     let a = s .args in
     let next : (scope : Scope) → Fated (a .i) (now (a .state)) (now (a .batch)) scope (now (a .notes)) → a .i < slotsOf (now (a .state))
     → Climbing (now (a .state)) (now (a .batch)) scope (a .i) (l .room - 1) (getD (now (a .notes)) (ABOVE + l .at) 0) =
-    λ scope fated h. memo-step (now (a .state)) (now (a .batch)) scope (now (a .notes)) (a .i) fated (a .i) (l .room) (l .at) (l .inv .1 scope fated h)
-    (c .before .if1 .left) (c .before .before .before .loop-test .taken) in
+    λ scope fated h. memo-step _ _ scope fated _ _ _ (l .inv .1 scope fated h) (c .before .if1 .left) (c .before .before .before .loop-test .taken) in
     (omega (arith, next (a .scope) (s .pre .0) (s .pre .1) .there), next)
-
-returns-2 : tie.Need-returns-2 Inv-loop μ-loop
-returns-2 c =
-    let s = c .before .before .before .before in
-    let l = c .before .loop in
-    let a = s .args in
-    climb-left (now (a .state)) (now (a .batch)) (a .scope) (a .i) (l .room) (l .at) (l .inv .1 (a .scope) (s .pre .0) (s .pre .1)) (c .loop-test .left)
 
 pub climbed-spec : {M : Type 1} → statement M
 climbed-spec =
@@ -61,15 +43,9 @@ climbed-spec =
     Inv-loop
     μ-loop
     (λ c κs. search needs)
-    loop-holds
-    (λ c. search needs)
-    (λ c. search needs)
-    (λ c. search needs)
+    (λ c. (omega (arith, c .before .before .pre .1), λ scope fated h. rw (c .slots .ensures) (climb-start _ _ scope _ h)))
+    (λ c. search needs) (λ c. search needs) (λ c. search needs)
     returns
-    (λ c. search needs)
-    (λ c. search needs)
-    (λ c. search needs)
-    (λ c. search needs)
-    (λ c. search needs)
+    (λ c. search needs) (λ c. search needs) (λ c. search needs) (λ c. search needs) (λ c. search needs)
     loop-again
-    returns-2)
+    (λ c. climb-left _ _ _ _ _ _ (c .before .loop .inv .1 _ (c .before .before .before .before .pre .0) (c .before .before .before .before .pre .1)) (c .loop-test .left)))

@@ -8,8 +8,7 @@ use Rattle.update_notes.specs.Layout.{ABOVE}
 use Rattle.update_notes.specs.declared.Scope.{Scope}
 use Rattle.update_notes.specs.Says.{goesWord}
 use Rattle.update_gone.specs.Fates.{Fated}
-use Rattle.update_gone.proofs.Climb.{Climbing, climb-start, climb-same}
-use Rattle.update_gone.proofs.Memo.{memo-step, memo-set}
+use Rattle.update_gone.proofs.Climb.{Climbing, climb-start, climb-same, memo-step, memo-set}
 use native.Mathlib.Omega.{arith}
 use borrow.Author.Needs.{needs}
 use Rattle.update_gone.proofs.pass_on.Statement.{statement}
@@ -23,17 +22,6 @@ Inv-loop state batch notes₀ i goes at₀ room₀ notes at room =
 abbrev μ-loop : tie.MeasureT-loop
 μ-loop state batch notes₀ i goes at₀ room₀ notes at room = room
 
-loop-holds : tie.Need-loop-holds Inv-loop μ-loop
-loop-holds c =
-    let s = c .before .before in
-    let a = s .args in
-    (omega (arith, s .pre .1 .0), λ scope fated h e. (rw (c .slots .ensures) (climb-start (now (a .state)) (now (a .batch)) scope (a .i) h), fated))
-
-returns : tie.Need-returns Inv-loop μ-loop
-returns c =
-    let s = c .before .before .before .before .before .before in
-    c .before .before .before .loop .inv .1 (s .args .scope) (s .pre .0) (s .pre .1 .0) (s .pre .1 .1) .1
-
 loop-again : tie.Need-loop-again Inv-loop μ-loop
 loop-again c =
     let s = c .before .before .before .before .before .before .before in
@@ -42,21 +30,12 @@ loop-again c =
     let before = l .inv .1 (a .scope) (s .pre .0) (s .pre .1 .0) (s .pre .1 .1) in
     let there : (scope : Scope) → Climbing (now (a .state)) (now (a .batch)) scope (a .i) (l .room) (l .at) → Fated (a .i) (now (a .state)) (now (a .batch)) scope (l .notes)
     → Climbing (now (a .state)) (now (a .batch)) scope (a .i) (l .room - 1) (getD (l .notes) (ABOVE + l .at) 0) =
-    λ scope climb fated. memo-step (now (a .state)) (now (a .batch)) scope (l .notes) (a .i) fated (a .i) (l .room) (l .at) climb
-    (c .before .if1 .left) (c .before .before .before .loop-test .taken) in (
+    λ scope climb fated. memo-step _ _ scope fated _ _ _ climb (c .before .if1 .left) (c .before .before .before .loop-test .taken) in (
       omega (arith, there (a .scope) (before .0) (before .1) .there),
       λ scope fated h e.
-          let now-at = l .inv .1 scope fated h e in (
-            there scope (now-at .0) (now-at .1),
-            memo-set (now (a .state)) (now (a .batch)) scope (l .notes) (a .i) (now-at .1) (l .at) (a .goes) (now-at .0 .there)
-                (e ∙ sym (climb-same (now (a .state)) (now (a .batch)) scope (a .i) (l .room) (l .at) (now-at .0))),
-          ),
+          let climb = l .inv .1 scope fated h e in
+          (there scope (climb .0) (climb .1), memo-set _ _ scope (climb .1) _ _ (climb .0 .there) (e ∙ sym (climb-same _ _ _ _ _ _ (climb .0)))),
     )
-
-returns-2 : tie.Need-returns-2 Inv-loop μ-loop
-returns-2 c =
-    let s = c .before .before .before .before in
-    c .before .loop .inv .1 (s .args .scope) (s .pre .0) (s .pre .1 .0) (s .pre .1 .1) .1
 
 pub pass-on-spec : {M : Type 1} → statement M
 pass-on-spec =
@@ -65,18 +44,10 @@ pass-on-spec =
     Inv-loop
     μ-loop
     (λ c κs. search needs)
-    loop-holds
-    (λ c. search needs)
-    (λ c. search needs)
-    (λ c. search needs)
-    returns
-    (λ c. search needs)
-    (λ c. search needs)
-    (λ c. search needs)
-    (λ c. search needs)
-    (λ c. search needs)
-    (λ c. search needs)
-    (λ c. search needs)
+    (λ c. (omega (arith, c .before .before .pre .1 .0), λ scope fated h e. (rw (c .slots .ensures) (climb-start _ _ scope _ h), fated)))
+    (λ c. search needs) (λ c. search needs) (λ c. search needs)
+    (λ c. c .before .before .before .loop .inv .1 _ (c .before .before .before .before .before .before .pre .0) (c .before .before .before .before .before .before .pre .1 .0) (c .before .before .before .before .before .before .pre .1 .1) .1)
+    (λ c. search needs) (λ c. search needs) (λ c. search needs) (λ c. search needs) (λ c. search needs) (λ c. search needs) (λ c. search needs)
     (λ c. search needs)
     loop-again
-    returns-2)
+    (λ c. c .before .loop .inv .1 _ (c .before .before .before .before .pre .0) (c .before .before .before .before .pre .1 .0) (c .before .before .before .before .pre .1 .1) .1))

@@ -5,11 +5,5 @@ use borrow.Author.Needs.{needs}
 use Rattle.update_gone.proofs.replaced.Statement.{statement}
 use Rattle.update_gone.proofs.replaced.Tie as tie
 
-returns : tie.Need-returns
-unfolding _&&_
-returns c =
-    let a = c .before .before .before .before .args in
-    λ s b scoped turn naming. replaced-is s b (a .scope) scoped (a .x) (c .is-root .result) (a .turn) (a .naming) (c .is-root .ensures) turn naming
-
 pub replaced-spec : {M : Type 1} → statement M
-replaced-spec = tie.close (tie.spec (λ c κs. search needs) returns)
+replaced-spec = tie.close (tie.spec (λ c κs. search needs) (λ c. unfold _&&_ in (replaced-is _ _ (c .is-root .ensures))))

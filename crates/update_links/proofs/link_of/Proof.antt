@@ -31,9 +31,4 @@ returns-2 c = rw (le-ltb (c .before .before .before .args .code) SLOTS (c .befor
 
 pub link-of-spec : {M : Type 1} → statement M
 link-of-spec =
-    tie.close
-    (tie.spec
-    link-of-old-requires
-    returns
-    link-of-new-requires
-    returns-2)
+    tie.close (tie.spec link-of-old-requires returns link-of-new-requires returns-2)

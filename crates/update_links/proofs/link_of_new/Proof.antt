@@ -15,11 +15,6 @@ use native.Mathlib.Omega.{arith}
 use Rattle.update_links.proofs.link_of_new.Statement.{statement}
 use Rattle.update_links.proofs.link_of_new.Tie as tie
 
-position-in-requires : tie.Need-position-in-requires
-position-in-requires c κs =
-    let s = c .before .before in
-    omega (arith, few-named (now (s .args .state)) (now (s .args .batch)) (s .args .scope) (s .pre .0 .given))
-
 link-here-requires : tie.Need-link-here-requires
 unfolding here
 link-here-requires c κs =
@@ -45,8 +40,7 @@ link-of-new-spec =
     tie.close
     (tie.spec
     (λ c κs. search needs)
-    position-in-requires
-    (λ c κs. search needs)
-    (λ c κs. search needs)
+    (λ c κs. omega (arith, few-named))
+    (λ c κs. search needs) (λ c κs. search needs)
     link-here-requires
     returns)

@@ -22,38 +22,11 @@ Inv-loop notes k j low₀ high₀ low high =
 abbrev μ-loop : tie.MeasureT-loop
 μ-loop notes k j low₀ high₀ low high = high - low
 
-loop-holds : tie.Need-loop-holds Inv-loop μ-loop
-loop-holds c = (omega arith, omega arith, λ i h. absurd (omega arith), λ i h l. absurd (omega arith))
-
-sub-middle : tie.Need-sub-middle Inv-loop μ-loop
-sub-middle c = omega arith
-
-add-middle : tie.Need-add-middle Inv-loop μ-loop
-add-middle c = omega arith
-
-add-if1 : tie.Need-add-if1 Inv-loop μ-loop
-add-if1 c = omega arith
-
-mul-if1 : tie.Need-mul-if1 Inv-loop μ-loop
-mul-if1 c = omega arith
-
-element-copy-out-if1 : tie.Need-element-copy-out-if1 Inv-loop μ-loop
-element-copy-out-if1 c = omega arith
-
-loop-less : tie.Need-loop-less Inv-loop μ-loop
-loop-less c = omega arith
-
 loop-again : tie.Need-loop-again Inv-loop μ-loop
 loop-again c =
     let l = c .before .before .before .loop in
     let s = c .before .before .before .before in
     (omega arith, omega arith, l .inv .2, λ i h m. lt-ltb (s .args .j) (getD (now (s .args .notes)) (ENDS + i) 0) (omega (arith, s .pre .1 (l .low + (l .high - l .low) / 2) i h m)))
-
-add-low : tie.Need-add-low Inv-loop μ-loop
-add-low c = omega arith
-
-loop-less-2 : tie.Need-loop-less-2 Inv-loop μ-loop
-loop-less-2 c = omega arith
 
 loop-again-2 : tie.Need-loop-again-2 Inv-loop μ-loop
 loop-again-2 c =
@@ -72,15 +45,9 @@ owner-of-spec =
     (tie.spec
     Inv-loop
     μ-loop
-    loop-holds
-    sub-middle
-    add-middle
-    add-if1
-    mul-if1
-    element-copy-out-if1
-    loop-less
+    (λ c. (omega arith, omega arith, λ i h. absurd (omega arith), λ i h l. absurd (omega arith)))
+    (λ c. omega arith) (λ c. omega arith) (λ c. omega arith) (λ c. omega arith) (λ c. omega arith) (λ c. omega arith)
     loop-again
-    add-low
-    loop-less-2
+    (λ c. omega arith) (λ c. omega arith)
     loop-again-2
     returns)

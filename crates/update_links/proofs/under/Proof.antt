@@ -4,12 +4,5 @@ use Rattle.state_array.specs.Stored.{linkRow}
 use Rattle.update_links.proofs.under.Statement.{statement}
 use Rattle.update_links.proofs.under.Tie as tie
 
-returns : tie.Need-returns
-unfolding linkRow
-returns c = refl
-
 pub under-spec : {M : Type 1} → statement M
-under-spec =
-    tie.close
-    (tie.spec
-    returns)
+under-spec = tie.close (tie.spec (λ c. unfold linkRow in refl))

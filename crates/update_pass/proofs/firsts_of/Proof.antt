@@ -6,7 +6,7 @@ use native.Mathlib.Omega.{arith}
 use lib.ListN.{length, length-set, length-replicate}
 use borrow.Author.Needs.{needs}
 use Rattle.update_pass.specs.Steps.{Firsts}
-use Rattle.update_pass.proofs.Firsts.{firsts-none, firsts-more, firsts-all}
+use Rattle.update_pass.proofs.Rows.{firsts-none, firsts-more, firsts-all}
 use Rattle.update_pass.proofs.firsts_of.Statement.{statement}
 use Rattle.update_pass.proofs.firsts_of.Tie as tie
 

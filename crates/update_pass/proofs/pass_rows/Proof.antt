@@ -5,8 +5,6 @@ use Rattle.update_notes.specs.Setting.{refusal}
 use Rattle.update_pass.proofs.pass_rows.Statement.{statement}
 use Rattle.update_pass.proofs.pass_rows.Tie as tie
 
-returns : tie.Need-returns
-returns c = c .refuse .ensures ∙ ap refusal (c .before .pass-number .ensures)
-
 pub pass-rows-spec : {M : Type 1} → statement M
-pass-rows-spec = tie.close (tie.spec (λ c κs. search needs) (λ c κs. search needs) returns)
+pass-rows-spec =
+    tie.close (tie.spec (λ c κs. search needs) (λ c κs. search needs) (λ c. c .refuse .ensures ∙ ap refusal (c .before .pass-number .ensures)))

@@ -3,28 +3,15 @@ use mathlib.Core.Path.{sym, ap, _∙_}
 use borrow.Author.Needs.{needs}
 use Rattle.ids.specs.Ids.{sameTree}
 use Rattle.update_pass.specs.Steps.{isTaken}
-use Rattle.update_pass.proofs.Placing.{untaken, taken}
+use Rattle.update_pass.proofs.Faults.{untaken, taken}
 use Rattle.update_pass.proofs.takes.Statement.{statement}
 use Rattle.update_pass.proofs.takes.Tie as tie
-
-returns : tie.Need-returns
-unfolding isTaken
-returns c = sym (untaken _ _ _ (c .if1 .taken))
-
-returns-2 : tie.Need-returns-2
-unfolding isTaken
-returns-2 c =
-    c .same-tree .ensures ∙ ap (sameTree (c .before .before .before .before .before .before .args .t)) (c .before .graft .ensures) ∙ sym (taken _ _ _ (c .before .before .if1 .left))
 
 pub takes-spec : {M : Type 1} → statement M
 takes-spec =
     tie.close
     (tie.spec
-    (λ c. search needs)
-    (λ c. search needs)
-    (λ c. search needs)
-    (λ c. search needs)
-    returns
-    (λ c κs. search needs)
-    (λ c κs. search needs)
-    returns-2)
+    (λ c. search needs) (λ c. search needs) (λ c. search needs) (λ c. search needs)
+    (λ c. unfold isTaken in (search untaken))
+    (λ c κs. search needs) (λ c κs. search needs)
+    (λ c. unfold isTaken in (c .same-tree .ensures ∙ ap (sameTree _) (c .before .graft .ensures) ∙ sym (taken _ _ _ (c .before .before .if1 .left)))))

@@ -4,9 +4,6 @@ use borrow.Author.Needs.{needs}
 use Rattle.update_plan.proofs.write_codes.Statement.{statement}
 use Rattle.update_plan.proofs.write_codes.Tie as tie
 
-returns : tie.Need-returns
-returns c = plan-told _ _ _ _ _ (c .write-new .ensures)
-
 pub write-codes-spec : {M : Type 1} → statement M
 write-codes-spec =
-    tie.close (tie.spec (λ c κs. search needs) (λ c κs. search needs) (λ c. search needs) returns)
+    tie.close (tie.spec (λ c κs. search needs) (λ c κs. search needs) (λ c. search needs) (λ c. plan-told _ _ _ _ _ (c .write-new .ensures)))

@@ -1,31 +1,16 @@
 -- `reading::clear` meets its contract. Assumes nothing.
-use denote.Ref.{now}
-use mathlib.Core.Path.{_≡_, sym}
-use Prim.Native.Nat.{_+_, _-_, _≤_}
-use Rattle.base.specs.Regions.{fill}
-use Rattle.base.proofs.Regions.{fill-none, fill-more}
+use Prim.Native.Nat.{_-_}
 use native.Mathlib.Omega.{arith}
 use borrow.Author.Needs.{needs}
+use Rattle.base.proofs.Loops.{Filling, filling-begins, filling-goes, filling-ends}
 use Rattle.update_reading.proofs.clear.Statement.{statement}
 use Rattle.update_reading.proofs.clear.Tie as tie
-
-abbrev Inv-loop : tie.InvT-loop
-Inv-loop notes₀ to n i₀ notes i = (i ≤ n) × (to + n ≤ 4096) × (notes ≡ fill to i (λ k. 0) notes₀)
 
 abbrev μ-loop : tie.MeasureT-loop
 μ-loop notes₀ to n i₀ notes i = n - i
 
-loop-holds : tie.Need-loop-holds Inv-loop μ-loop
-loop-holds c = (omega arith, c .pre, sym (fill-none (c .args .to) (λ k. 0) (now (c .args .notes))))
-
-loop-again : tie.Need-loop-again Inv-loop μ-loop
-loop-again c =
-    let l = c .before .loop in
-    let a = c .before .before .args in
-    (omega arith, l .inv .1, rw (l .inv .2) (sym (fill-more (a .to) (λ k. 0) (l .i) (now (a .notes)))))
-
-returns : tie.Need-returns Inv-loop μ-loop
-returns c = let done : c .before .loop .i ≡ c .before .before .args .n = omega arith in rw (← done) (c .before .loop .inv .2)
+abbrev Inv-loop : tie.InvT-loop
+Inv-loop notes₀ to n i₀ notes i = Filling to n n (λ k. 0) notes₀ i notes
 
 pub clear-spec : {M : Type 1} → statement M
 clear-spec =
@@ -33,11 +18,7 @@ clear-spec =
     (tie.spec
     Inv-loop
     μ-loop
-    loop-holds
-    (λ c. search needs)
-    (λ c. search needs)
-    (λ c. search needs)
-    (λ c. search needs)
-    (λ c. search needs)
-    loop-again
-    returns)
+    (λ c. filling-begins (omega arith))
+    (λ c. search needs) (λ c. search needs) (λ c. search needs) (λ c. search needs) (λ c. search needs)
+    (λ c. search filling-goes)
+    (λ c. search filling-ends))

@@ -1,38 +1,21 @@
 -- `reading::write_namings` meets its contract. Assumes nothing.
-use denote.Ref.{now}
-use mathlib.Core.Path.{_∙_}
-use Prim.Native.Nat.{_≤_}
 use Rattle.update_notes.specs.Layout.{NAMINGS}
-use Rattle.base.proofs.Regions.{fill-length}
-use Rattle.update_notes.proofs.Columns.{holds-fill}
 use Rattle.update_notes.proofs.Told.{few-named, told-fill}
-use Rattle.update_reading.proofs.Reading.{namings-told}
+use Rattle.update_reading.proofs.Reading.{namings-told, mark-room}
 use native.Mathlib.Omega.{arith}
-use borrow.Author.Needs.{needs}
 use borrow.Author.Needs.{needs}
 use Rattle.update_reading.proofs.write_namings.Statement.{statement}
 use Rattle.update_reading.proofs.write_namings.Tie as tie
 
 mark-requires : tie.Need-mark-requires
 mark-requires c κs =
-    let s = c .before .before .before .before .before in
-    let a = s .args in
-    let n = c .before .before .before .slots .result in
-    let small : n ≤ 320 = omega (arith, c .before .before .before .slots .ensures) in
-    rw (c .before .clear .ensures) (record {
-      before = omega (arith, few-named (now (a .state)) (now (a .batch)) (a .scope) (s .pre .given));
-      room = omega arith;
-      few = small;
-      long = fill-length NAMINGS (λ i. 0) n (now (a .notes)) ∙ s .pre .long;
-      zeros = holds-fill NAMINGS n (λ i. 0) (now (a .notes)) (omega (arith, s .pre .long));
-    })
+    let told = c .before .before .before .before .before .pre in
+    rw (c .before .clear .ensures) (mark-room _ (told .long) (omega (arith, few-named)) (omega (arith, c .before .before .before .slots .ensures)) (omega (arith, c .before .before .before .slots .ensures)))
 
 returns : tie.Need-returns
 returns c =
-    let s = c .before .before .before .before .before .before in
-    let a = s .args in
-    namings-told (now (a .state)) (now (a .batch)) (a .scope) _ _
-    (rw (c .before .before .clear .ensures) (told-fill (now (a .state)) (now (a .batch)) (a .scope) (now (a .notes)) 6 (s .pre) NAMINGS (c .before .before .before .before .slots .result) (λ i. 0) (omega arith)))
+    let told = c .before .before .before .before .before .before .pre in
+    namings-told _ _ _ _ _ (rw (c .before .before .clear .ensures) (told-fill _ _ _ _ 6 told NAMINGS _ (λ i. 0) (omega arith)))
     (rw (c .before .before .before .before .slots .ensures) at (c .mark .ensures))
 
 pub write-namings-spec : {M : Type 1} → statement M

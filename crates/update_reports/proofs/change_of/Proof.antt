@@ -4,17 +4,12 @@ use borrow.Author.Needs.{needs}
 use Rattle.update_reports.proofs.change_of.Statement.{statement}
 use Rattle.update_reports.proofs.change_of.Tie as tie
 
-returns : tie.Need-returns
-returns c = let t = bool.and-eq-true-iff (c .before .args .updated) (c .before .args .relinked) .0 (c .if1 .taken) in rw (t .0, t .1)
-
-returns-2 : tie.Need-returns-2
-returns-2 c = let t = rw (c .if2 .taken) at (c .before .if1 .left) in rw (c .if2 .taken, t)
-
-returns-3 : tie.Need-returns-3
-returns-3 c = rw (c .before .if2 .left, c .if3 .taken)
-
-returns-4 : tie.Need-returns-4
-returns-4 c = rw (c .before .if2 .left, c .if3 .left)
-
 pub change-of-spec : {M : Type 1} → statement M
-change-of-spec = tie.close (tie.spec (λ c. search needs) returns returns-2 returns-3 returns-4)
+change-of-spec =
+    tie.close
+    (tie.spec
+    (λ c. search needs)
+    (λ c. let t = bool.and-eq-true-iff (c .before .args .updated) (c .before .args .relinked) .0 (c .if1 .taken) in rw (t .0, t .1))
+    (λ c. let t = rw (c .if2 .taken) at (c .before .if1 .left) in rw (c .if2 .taken, t))
+    (λ c. rw (c .before .if2 .left, c .if3 .taken))
+    (λ c. rw (c .before .if2 .left, c .if3 .left)))

@@ -4,9 +4,5 @@ use borrow.Author.Needs.{needs}
 use Rattle.update_reports.proofs.no_report.Statement.{statement}
 use Rattle.update_reports.proofs.no_report.Tie as tie
 
-returns : tie.Need-returns
-unfolding foundOf
-returns c = c .report-start .ensures
-
 pub no-report-spec : {M : Type 1} → statement M
-no-report-spec = tie.close (tie.spec (λ c κs. search needs) returns)
+no-report-spec = tie.close (tie.spec (λ c κs. search needs) (λ c. unfold foundOf in (c .report-start .ensures)))

@@ -1,7 +1,7 @@
 -- `update_reports::report_host` meets its contract: with empty lists the answers themselves are the extra ids. Assumes nothing.
 use Rattle.state_focus.specs.Focus.{foundOf}
 use Rattle.update.specs.Reports.{noChanges}
-use Rattle.update_reports.proofs.Extras.{report-is, host-left}
+use Rattle.update_reports.proofs.Picked.{report-is, host-left}
 use borrow.Author.Needs.{needs}
 use Rattle.update_reports.proofs.report_host.Statement.{statement}
 use Rattle.update_reports.proofs.report_host.Tie as tie

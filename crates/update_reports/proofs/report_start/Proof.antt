@@ -4,9 +4,6 @@ use Rattle.state_focus.specs.Focus.{foundOf}
 use Rattle.update_reports.proofs.report_start.Statement.{statement}
 use Rattle.update_reports.proofs.report_start.Tie as tie
 
-returns : tie.Need-returns
-unfolding foundOf
-returns c = record { before-is = refl; after-is = refl; extra-before-is = refl; extra-after-is = refl }
-
 pub report-start-spec : {M : Type 1} → statement M
-report-start-spec = tie.close (tie.spec returns)
+report-start-spec =
+    tie.close (tie.spec (λ c. unfold foundOf in (record { before-is = refl; after-is = refl; extra-before-is = refl; extra-after-is = refl })))

@@ -5,7 +5,7 @@ use Rattle.state.specs.Focus.{stateFocus}
 use Rattle.state_array.specs.View.{view}
 use Rattle.update_reports.specs.Outcomes.{changesIn}
 use Rattle.update_notes.specs.Says.{outcomeState}
-use Rattle.update_reports.proofs.Extras.{report-is}
+use Rattle.update_reports.proofs.Picked.{report-is}
 use borrow.Author.Needs.{needs}
 use Rattle.update_reports.proofs.report_update.Statement.{statement}
 use Rattle.update_reports.proofs.report_update.Tie as tie
@@ -21,11 +21,4 @@ returns c =
 
 pub report-update-spec : {M : Type 1} → statement M
 report-update-spec =
-    tie.close
-    (tie.spec
-    (λ c κs. search needs)
-    (λ c κs. search needs)
-    (λ c κs. search needs)
-    (λ c κs. search needs)
-    (λ c κs. search needs)
-    returns)
+    tie.close (tie.spec (λ c κs. search needs) (λ c κs. search needs) (λ c κs. search needs) (λ c κs. search needs) (λ c κs. search needs) returns)

@@ -10,7 +10,7 @@ use Rattle.update_notes.specs.Layout.{GOES, CHANGED}
 use Rattle.update_reports.specs.Outcomes.{changesIn}
 use Rattle.update_reports.specs.Slice.{picked}
 use Rattle.update_reports.proofs.Picked.{picked-added, picked-updated, picked-removed, picked-relinked}
-use Rattle.update_reports.proofs.Slice.{picked-count, room-for, lists-short, lists-lent}
+use Rattle.update_reports.proofs.Slice.{picked-count, lists-short, lists-lent}
 use borrow.Author.Needs.{needs}
 use Rattle.update_reports.proofs.write_lists.Statement.{statement}
 use Rattle.update_reports.proofs.write_lists.Tie as tie
@@ -43,18 +43,6 @@ fits : (c : tie.Else1)
     ≤ length (now (a .changes))
 fits c = let k = counts (c .before) in rw (← k .0, ← k .1, ← k .2, ← k .3) (leb-true _ _ (not-false (c .if1 .left)))
 
-add-fit : tie.Need-add-fit
-add-fit c = omega arith
-
-add-fit-2 : tie.Need-add-fit-2
-add-fit-2 c = omega arith
-
-add-fit-3 : tie.Need-add-fit-3
-add-fit-3 c = omega arith
-
-mul-fit : tie.Need-mul-fit
-mul-fit c = omega arith
-
 returns : tie.Need-returns
 returns c =
     let s = c .before .before .before .before .before .before .before .before .before in
@@ -66,41 +54,6 @@ returns c =
     (k .2 ∙ ap length (picked-removed (s .pre)))
     (k .3 ∙ ap length (picked-relinked (s .pre)))
     refl (not-true (c .if1 .taken))
-
-write-list-requires : tie.Need-write-list-requires
-write-list-requires c κs =
-    let a = c .before .before .before .before .before .before .before .before .before .before .args in
-    room-for 1 (now (a .notes)) CHANGED (now (a .next)) 0 _ (omega arith) (omega arith) (omega (arith, fits (c .before)))
-
-write-list-requires-2 : tie.Need-write-list-requires-2
-write-list-requires-2 c κs =
-    let one = c .before .before .before in
-    let e = one .before .before in
-    let a = e .before .before .before .before .before .before .before .before .before .args in
-    let first = one .write-list .ensures in
-    room-for 2 (now (a .notes)) CHANGED (now (a .next)) (one .write-list .result) _ (omega arith) (omega arith) (omega (arith, fits e))
-
-write-list-requires-3 : tie.Need-write-list-requires-3
-write-list-requires-3 c κs =
-    let two = c .before .before .before in
-    let one = two .before .before .before .before in
-    let e = one .before .before in
-    let a = e .before .before .before .before .before .before .before .before .before .args in
-    let first = one .write-list .ensures in
-    let second = two .write-list2 .ensures in
-    room-for 1 (now (a .notes)) GOES (now (a .state)) (two .write-list2 .result) _ (omega arith) (omega arith) (omega (arith, fits e))
-
-write-list-requires-4 : tie.Need-write-list-requires-4
-write-list-requires-4 c κs =
-    let three = c .before .before .before in
-    let two = three .before .before .before .before in
-    let one = two .before .before .before .before in
-    let e = one .before .before in
-    let a = e .before .before .before .before .before .before .before .before .before .args in
-    let first = one .write-list .ensures in
-    let second = two .write-list2 .ensures in
-    let third = three .write-list3 .ensures in
-    room-for 4 (now (a .notes)) CHANGED (now (a .next)) (three .write-list3 .result) _ (omega arith) (omega arith) (omega (arith, fits e))
 
 returns-2 : tie.Need-returns-2
 returns-2 c =
@@ -124,20 +77,12 @@ pub write-lists-spec : {M : Type 1} → statement M
 write-lists-spec =
     tie.close
     (tie.spec
-    (λ c κs. search needs)
-    (λ c κs. search needs)
-    (λ c κs. search needs)
-    (λ c κs. search needs)
-    (λ c κs. search needs)
-    (λ c κs. search needs)
-    add-fit
-    add-fit-2
-    add-fit-3
-    mul-fit
+    (λ c κs. search needs) (λ c κs. search needs) (λ c κs. search needs) (λ c κs. search needs) (λ c κs. search needs) (λ c κs. search needs)
+    (λ c. omega arith) (λ c. omega arith) (λ c. omega arith) (λ c. omega arith)
     returns
-    write-list-requires
-    write-list-requires-2
-    write-list-requires-3
-    write-list-requires-4
+    (λ c κs. omega (arith, fits (c .before)))
+    (λ c κs. omega (arith, fits (c .before .before .before .before .before), c .before .before .before .write-list .ensures))
+    (λ c κs. omega (arith, fits (c .before .before .before .before .before .before .before .before .before), c .before .before .before .before .before .before .before .write-list .ensures, c .before .before .before .write-list2 .ensures))
+    (λ c κs. omega (arith, fits (c .before .before .before .before .before .before .before .before .before .before .before .before .before), c .before .before .before .before .before .before .before .before .before .before .before .write-list .ensures, c .before .before .before .before .before .before .before .write-list2 .ensures, c .before .before .before .write-list3 .ensures))
     (λ c. search needs)
     returns-2)

@@ -6,9 +6,6 @@ use borrow.Author.Needs.{needs}
 use Rattle.update_rows.proofs.exists.Statement.{statement}
 use Rattle.update_rows.proofs.exists.Tie as tie
 
-enum-told : tie.Need-enum-told
-enum-told c = search needs
-
 returns : tie.Need-returns
 unfolding endsOf
 returns c = ap (λ o. isSome o) (sym (ap endsOf (c .enum-told .given .1)) ∙ c .before .before .tree-of .ensures)
@@ -18,4 +15,4 @@ unfolding endsOf
 returns-2 c = ap (λ o. isSome o) (sym (ap endsOf (c .before .e .given .1)) ∙ c .before .before .before .tree-of .ensures)
 
 pub exists-spec : {M : Type 1} → statement M
-exists-spec = tie.close (tie.spec (λ c κs. search needs) (λ c. search needs) enum-told returns returns-2)
+exists-spec = tie.close (tie.spec (λ c κs. search needs) (λ c. search needs) (λ c. search needs) returns returns-2)

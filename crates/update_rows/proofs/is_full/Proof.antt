@@ -2,7 +2,7 @@
 use denote.Ref.{now}
 use Rattle.base.specs.Tests.{_&&_}
 use Rattle.record_reader.specs.Reader.{batchIn}
-use Rattle.update_rows.proofs.Trees.{full-is}
+use Rattle.update_rows.proofs.Outcomes.{full-is}
 use borrow.Author.Needs.{needs}
 use Rattle.update_rows.proofs.is_full.Statement.{statement}
 use Rattle.update_rows.proofs.is_full.Tie as tie

@@ -12,5 +12,4 @@ returns c = rw (c .before .before .has-tree-data .ensures, c .before .is-root-id
 
 pub is-missing-spec : {M : Type 1} → statement M
 is-missing-spec =
-    tie.close
-    (tie.spec (λ c κs. search needs) (λ c κs. search needs) (λ c κs. search needs) (λ c κs. search needs) returns)
+    tie.close (tie.spec (λ c κs. search needs) (λ c κs. search needs) (λ c κs. search needs) (λ c κs. search needs) returns)

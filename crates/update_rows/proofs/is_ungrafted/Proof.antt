@@ -6,14 +6,10 @@ use Rattle.base.proofs.Tests.{call-true, call-false}
 use Rattle.record_reader.specs.Reader.{batchIn}
 use Rattle.update.specs.Words.{withTreeData}
 use Rattle.update_rows.specs.Parts.{ungrafted}
-use Rattle.update_rows.proofs.Trees.{ungrafted-is}
+use Rattle.update_rows.proofs.Outcomes.{ungrafted-is}
 use borrow.Author.Needs.{needs}
 use Rattle.update_rows.proofs.is_ungrafted.Statement.{statement}
 use Rattle.update_rows.proofs.is_ungrafted.Tie as tie
-
-returns : tie.Need-returns
-unfolding ungrafted withTreeData _&&_
-returns c = sym (rw (call-false (c .before .has-tree-data .ensures) (c .if1 .taken)))
 
 returns-2 : tie.Need-returns-2
 unfolding _&&_
@@ -26,9 +22,6 @@ is-ungrafted-spec =
     tie.close
     (tie.spec
     (λ c κs. search needs)
-    returns
-    (λ c κs. search needs)
-    (λ c κs. search needs)
-    (λ c κs. search needs)
-    (λ c κs. search needs)
+    (λ c. unfold ungrafted withTreeData _&&_ in (sym (rw (call-false (c .before .has-tree-data .ensures) (c .if1 .taken)))))
+    (λ c κs. search needs) (λ c κs. search needs) (λ c κs. search needs) (λ c κs. search needs)
     returns-2)

@@ -12,7 +12,7 @@ use Rattle.ids.specs.declared.NodeId.{NodeId}
 use Rattle.record_reader.specs.Reader.{batchIn}
 use Rattle.update_notes.specs.Setting.{Batched}
 use Rattle.update_notes.proofs.Setting.{batched-facts}
-use Rattle.update_rows.proofs.Listed.{listedId, twice-found, twice-none}
+use Rattle.update_rows.proofs.Clashes.{listedId, twice-found, twice-none}
 use borrow.Author.Needs.{needs}
 use native.Mathlib.Omega.{arith}
 use Rattle.update_rows.proofs.listed_twice.Statement.{statement}
@@ -40,9 +40,6 @@ loop-holds c =
       λ j h. absurd (omega arith),
     )
 
-first-of-requires : tie.Need-first-of-requires Inv-loop μ-loop
-first-of-requires c κs = omega arith
-
 -- what the search says of an earlier number, by the number itself
 same-as : (b : NodeId) (m : ℕ) (a x : NodeId) → m ≡ a .0 → x ≡ b → eqb m (x .0) ≡ sameNode a b
 unfolding sameNode
@@ -56,18 +53,6 @@ returns c =
     sym
     (twice-found b (p .result) (l .i) (c .if1 .taken) (omega (arith, l .inv .0))
     (sym (same-as (listedId b (l .i)) _ (listedId b (p .result)) _ (l .inv .4 (p .result) (c .if1 .taken)) (c .before .before .before .node-id .ensures)) ∙ p .ensures .hit (c .if1 .taken)))
-
-mul-seen : tie.Need-mul-seen Inv-loop μ-loop
-mul-seen c = omega arith
-
-array-write-seen : tie.Need-array-write-seen Inv-loop μ-loop
-array-write-seen c = omega arith
-
-add-i : tie.Need-add-i Inv-loop μ-loop
-add-i c = omega arith
-
-loop-less : tie.Need-loop-less Inv-loop μ-loop
-loop-less c = omega arith
 
 loop-again : tie.Need-loop-again Inv-loop μ-loop
 loop-again c =
@@ -98,11 +83,8 @@ listed-twice-spec =
     (λ c κs. search needs)
     loop-holds
     (λ c κs. search needs)
-    first-of-requires
+    (λ c κs. omega arith)
     returns
-    mul-seen
-    array-write-seen
-    add-i
-    loop-less
+    (λ c. omega arith) (λ c. omega arith) (λ c. omega arith) (λ c. omega arith)
     loop-again
     returns-2)

@@ -8,7 +8,7 @@ use Rattle.ids.specs.declared.TreeIndex.{TreeIndex}
 use Rattle.record_reader.specs.Reader.{batchIn}
 use Rattle.update.specs.Words.{here, withTreeData}
 use Rattle.update_notes.specs.Setting.{rootIn}
-use Rattle.update_rows.proofs.Trees.{number-is}
+use Rattle.update_rows.proofs.Outcomes.{number-is}
 use borrow.Author.Needs.{needs}
 use Rattle.update_rows.proofs.scope_of.Statement.{statement}
 use Rattle.update_rows.proofs.scope_of.Tie as tie
@@ -33,12 +33,7 @@ pub scope-of-spec : {M : Type 1} → statement M
 scope-of-spec =
     tie.close
     (tie.spec
-    (λ c κs. search needs)
-    (λ c κs. search needs)
+    (λ c κs. search needs) (λ c κs. search needs)
     (λ c. search needs)
-    (λ c κs. search needs)
-    (λ c κs. search needs)
-    (λ c κs. search needs)
-    (λ c κs. search needs)
-    (λ c κs. search needs)
+    (λ c κs. search needs) (λ c κs. search needs) (λ c κs. search needs) (λ c κs. search needs) (λ c κs. search needs)
     returns)

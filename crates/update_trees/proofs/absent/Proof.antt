@@ -4,9 +4,5 @@ use Rattle.state_array.specs.Stored.{treeRow}
 use Rattle.update_trees.proofs.absent.Statement.{statement}
 use Rattle.update_trees.proofs.absent.Tie as tie
 
-returns : tie.Need-returns
-unfolding treeRow
-returns c = refl
-
 pub absent-spec : {M : Type 1} → statement M
-absent-spec = tie.close (tie.spec returns)
+absent-spec = tie.close (tie.spec (λ c. unfold treeRow in refl))

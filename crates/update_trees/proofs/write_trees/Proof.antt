@@ -1,7 +1,9 @@
 -- `update_trees::write_trees` meets its contract. The trees before k are in their places. Assumes nothing.
 use denote.Ref.{now}
-use mathlib.Core.Path.{_≡_, refl, sym, _∙_}
-use Prim.Native.Nat.{_-_, _≤_}
+use mathlib.Core.List.{List}
+use Rattle.update_notes.specs.declared.Scope.{Scope}
+use mathlib.Core.Path.{_≡_, refl, _∙_}
+use Prim.Native.Nat.{_-_, _≤_, ℕ}
 use lib.ListN.{length}
 use Rattle.base.specs.Tests.{_&&_}
 use Rattle.base.specs.Regions.{fills}
@@ -9,7 +11,7 @@ use Rattle.base.proofs.Regions.{fills-none, row-stored}
 use Rattle.state_array.specs.Stored.{treeWord}
 use Rattle.state_array.proofs.Filled.{treeRegions, TABLE-FIELDS}
 use Rattle.update_trees.specs.Trees.{treesAfter}
-use Rattle.update_notes.specs.Setting.{asked, forest}
+use Rattle.update_notes.specs.Setting.{Given}
 use Rattle.update_outcome.proofs.Room.{trees-few}
 use borrow.Author.Needs.{needs}
 use native.Mathlib.Omega.{arith}
@@ -22,25 +24,17 @@ Inv-loop state batch scope notes next₀ count k₀ next k = (count ≡ length (
 abbrev μ-loop : tie.MeasureT-loop
 μ-loop state batch scope notes next₀ count k₀ next k = count - k
 
-loop-holds : tie.Need-loop-holds Inv-loop μ-loop
-loop-holds c = (c .tree-count .ensures, omega arith, sym (fills-none (treeRegions (treesAfter (now (c .before .before .args .state)) (now (c .before .before .args .batch)) (c .before .before .args .scope)) TABLE-FIELDS) (now (c .before .before .args .next))))
-
-tree-after-requires : tie.Need-tree-after-requires Inv-loop μ-loop
-tree-after-requires c κs = (c .before .before .before .before .pre, omega (arith, c .before .loop .inv .0))
-
-put-tree-requires : tie.Need-put-tree-requires Inv-loop μ-loop
-put-tree-requires c κs =
-    let s = c .before .before .before .before .before .before in
-    omega (arith, c .before .before .before .loop .inv .0, trees-few (forest (now (s .args .state))) (asked (now (s .args .batch)) (s .args .scope)) (s .pre .given .kept) (s .pre .given .numbered))
+-- there is room for them
+few : {state bytes : List ℕ} {c : Scope} → Given state bytes c → length (treesAfter state bytes c) ≤ 32
+few g = trees-few _ _ (g .kept) (g .numbered)
 
 loop-again : tie.Need-loop-again Inv-loop μ-loop
 unfolding _&&_ treeWord
 loop-again c =
     let l = c .before .before .before .before .loop in
-    let s = c .before .before .before .before .before .before .before in
-    let few = trees-few (forest (now (s .args .state))) (asked (now (s .args .batch)) (s .args .scope)) (s .pre .given .kept) (s .pre .given .numbered) in
-    let ts = treesAfter (now (s .args .state)) (now (s .args .batch)) (s .args .scope) in
-    (l .inv .0, omega arith, rw (c .put-tree .ensures, l .inv .2, c .before .before .tree-after .ensures) (row-stored (treeRegions ts TABLE-FIELDS) 0 32 (l .k) refl (omega (arith, l .inv .0)) (now (s .args .next))))
+    let a = c .before .before .before .before .before .before .before .args in
+    let ts = treesAfter (now (a .state)) (now (a .batch)) (a .scope) in
+    (l .inv .0, omega arith, rw (c .put-tree .ensures, l .inv .2, c .before .before .tree-after .ensures) (row-stored (treeRegions ts TABLE-FIELDS) 0 32 (l .k) refl (omega (arith, few, l .inv .0)) (now (a .next))))
 
 returns : tie.Need-returns Inv-loop μ-loop
 returns c =
@@ -55,10 +49,9 @@ write-trees-spec =
     Inv-loop
     μ-loop
     (λ c κs. search needs)
-    loop-holds
-    tree-after-requires
-    put-tree-requires
-    (λ c. search needs)
-    (λ c. search needs)
+    (λ c. (c .tree-count .ensures, omega arith, search fills-none))
+    (λ c κs. (c .before .before .before .before .pre, omega (arith, c .before .loop .inv .0)))
+    (λ c κs. omega (arith, few, c .before .before .before .loop .inv .0))
+    (λ c. search needs) (λ c. search needs)
     loop-again
     returns)

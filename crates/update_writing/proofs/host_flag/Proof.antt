@@ -5,13 +5,10 @@ use borrow.Author.Needs.{needs}
 use Rattle.update_writing.proofs.host_flag.Statement.{statement}
 use Rattle.update_writing.proofs.host_flag.Tie as tie
 
-returns : tie.Need-returns
-unfolding view
-returns c = rw (eq-eqb _ 0 (rw (c .before .host .ensures) at (c .if1 .taken)))
-
-returns-2 : tie.Need-returns-2
-unfolding view
-returns-2 c = rw (ne-eqb _ 0 (rw (c .before .host .ensures) at (c .if1 .left)))
-
 pub host-flag-spec : {M : Type 1} → statement M
-host-flag-spec = tie.close (tie.spec (λ c κs. search needs) returns returns-2)
+host-flag-spec =
+    tie.close
+    (tie.spec
+    (λ c κs. search needs)
+    (λ c. unfold view in (rw (eq-eqb _ 0 (rw (c .before .host .ensures) at (c .if1 .taken)))))
+    (λ c. unfold view in (rw (ne-eqb _ 0 (rw (c .before .host .ensures) at (c .if1 .left))))))

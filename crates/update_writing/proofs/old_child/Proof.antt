@@ -20,5 +20,4 @@ returns-2 c = rw (← c .before .before .before .id-at .ensures, ← c .before .
 
 pub old-child-spec : {M : Type 1} → statement M
 old-child-spec =
-    tie.close
-    (tie.spec (λ c κs. search needs) (λ c κs. search needs) returns (λ c. search needs) (λ c κs. search needs) returns-2)
+    tie.close (tie.spec (λ c κs. search needs) (λ c κs. search needs) returns (λ c. search needs) (λ c κs. search needs) returns-2)

@@ -11,14 +11,8 @@ use Rattle.update_writing.proofs.put_body.Tie as tie
 slice-aggregate-put-words-3 : tie.Need-slice-aggregate-put-words-3
 slice-aggregate-put-words-3 c = search needs
 
-put-words-requires-3 : tie.Need-put-words-requires-3
-put-words-requires-3 c κs = omega (arith, slice-aggregate-put-words-3 c)
-
 slice-aggregate-put-words-4 : tie.Need-slice-aggregate-put-words-4
 slice-aggregate-put-words-4 c = search needs
-
-put-words-requires-4 : tie.Need-put-words-requires-4
-put-words-requires-4 c κs = omega (arith, slice-aggregate-put-words-4 c)
 
 returns : tie.Need-returns
 returns c =
@@ -39,7 +33,7 @@ put-body-spec =
     (λ c. search needs)
     (λ c κs. search needs)
     slice-aggregate-put-words-3
-    put-words-requires-3
+    (λ c κs. omega (arith, slice-aggregate-put-words-3 c))
     slice-aggregate-put-words-4
-    put-words-requires-4
+    (λ c κs. omega (arith, slice-aggregate-put-words-4 c))
     returns)

@@ -4,7 +4,7 @@ use mathlib.Core.Path.{_≡_}
 use Prim.Native.Nat.{_-_, _≤_}
 use lib.ListN.{length}
 use Rattle.update_writing.specs.Written.{puts}
-use Rattle.update_writing.proofs.Rows.{puts-none, puts-more}
+use Rattle.update_writing.proofs.Kids.{puts-none, puts-more}
 use borrow.Author.Needs.{needs}
 use native.Mathlib.Omega.{arith}
 use Rattle.update_writing.proofs.put_words.Statement.{statement}
@@ -15,15 +15,6 @@ Inv-loop next₀ f r words k₀ next k = (k ≤ length words) × (next ≡ puts 
 
 abbrev μ-loop : tie.MeasureT-loop
 μ-loop next₀ f r words k₀ next k = length words - k
-
-loop-holds : tie.Need-loop-holds Inv-loop μ-loop
-loop-holds c = (omega arith, puts-none _ _ _ _)
-
-loop-again : tie.Need-loop-again Inv-loop μ-loop
-loop-again c =
-    let l = c .before .before .before .before .loop in
-    let a = c .before .before .before .before .before .before .args in
-    (omega arith, rw (c .put-word .ensures, l .inv .1) (puts-more (a .f) (a .r) (now (a .words)) (l .k) (now (a .next))))
 
 returns : tie.Need-returns Inv-loop μ-loop
 returns c =
@@ -36,12 +27,9 @@ put-words-spec =
     (tie.spec
     Inv-loop
     μ-loop
-    loop-holds
-    (λ c. search needs)
-    (λ c. search needs)
-    (λ c. search needs)
+    (λ c. (omega arith, puts-none _ _ _ _))
+    (λ c. search needs) (λ c. search needs) (λ c. search needs)
     (λ c κs. search needs)
-    (λ c. search needs)
-    (λ c. search needs)
-    loop-again
+    (λ c. search needs) (λ c. search needs)
+    (λ c. (omega arith, rw (c .put-word .ensures, c .before .before .before .before .loop .inv .1) (puts-more _ _ _ _ _)))
     returns)

@@ -1,5 +1,4 @@
 -- `update_writing::write_head` meets its contract: three words. Assumes nothing.
-use denote.Ref.{now}
 use Rattle.base.specs.Regions.{fill}
 use Rattle.state_array.specs.Stored.{headWord}
 use Rattle.update_writing.proofs.Plan.{count-told}
@@ -9,18 +8,12 @@ use Rattle.update_writing.proofs.write_head.Tie as tie
 
 returns : tie.Need-returns
 unfolding fill headWord
-returns c =
-    let s = c .before .before .before .before in
-    rw (count-told (now (s .args .state)) (now (s .args .batch)) (s .args .scope) (now (s .args .notes)) (s .pre), c .before .host-flag .ensures, c .before .before .tree-count .ensures)
+returns c = rw (count-told (c .before .before .before .before .pre), c .before .host-flag .ensures, c .before .before .tree-count .ensures)
 
 pub write-head-spec : {M : Type 1} → statement M
 write-head-spec =
     tie.close
     (tie.spec
-    (λ c κs. search needs)
-    (λ c κs. search needs)
-    (λ c. search needs)
-    (λ c. search needs)
-    (λ c. search needs)
-    (λ c. search needs)
+    (λ c κs. search needs) (λ c κs. search needs)
+    (λ c. search needs) (λ c. search needs) (λ c. search needs) (λ c. search needs)
     returns)

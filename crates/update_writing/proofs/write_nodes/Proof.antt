@@ -1,6 +1,6 @@
 -- `update_writing::write_nodes` meets its contract. The nodes before r are in their places. Assumes nothing.
 use denote.Ref.{now}
-use mathlib.Core.Path.{_≡_, sym, ap, _∙_}
+use mathlib.Core.Path.{_≡_, ap, _∙_}
 use Prim.Native.Nat.{_-_, _≤_, _<_}
 use lib.ListN.{length}
 use Rattle.base.specs.Regions.{fills}
@@ -8,9 +8,8 @@ use Rattle.base.proofs.Regions.{fills-none}
 use Rattle.state_array.specs.Stored.{linkRow}
 use Rattle.update_links.specs.Links.{linkWord}
 use Rattle.update_writing.specs.Written.{nodesAfter, nodesRegions}
-use Rattle.update_writing.proofs.Plan.{count-told, nodes-room, told-compared, code-there, id-there, link-there}
-use Rattle.update_writing.proofs.Rows.{node-more}
-use Rattle.update_writing.proofs.Sources.{body-there}
+use Rattle.update_writing.proofs.Plan.{count-told, nodes-room, told-compared, code-there, id-there, link-there, body-there}
+use Rattle.update_writing.proofs.Kids.{node-more}
 use borrow.Author.Needs.{needs}
 use native.Mathlib.Omega.{arith}
 use Rattle.update_writing.proofs.write_nodes.Statement.{statement}
@@ -23,27 +22,15 @@ abbrev μ-loop : tie.MeasureT-loop
 μ-loop state batch scope notes next₀ count r₀ next r = count - r
 
 loop-holds : tie.Need-loop-holds Inv-loop μ-loop
-loop-holds c =
-    let s = c .before .before in
-    let all = count-told (now (s .args .state)) (now (s .args .batch)) (s .args .scope) (now (s .args .notes)) (s .pre) in (
-      all,
-      omega (arith, all, nodes-room (now (s .args .state)) (now (s .args .batch)) (s .args .scope) (now (s .args .notes)) (s .pre)),
-      omega arith,
-      sym (fills-none (nodesRegions (nodesAfter (now (s .args .state)) (now (s .args .batch)) (s .args .scope))) (now (s .args .next))),
-    )
+loop-holds c = let all = count-told (c .before .before .pre) in (all, omega (arith, all, nodes-room (c .before .before .pre)), omega arith, search fills-none)
 
 id-of-requires : tie.Need-id-of-requires Inv-loop μ-loop
-id-of-requires c κs =
-    let s = c .before .before .before .before .before in
-    (s .pre, code-there (now (s .args .state)) (now (s .args .batch)) (s .args .scope) (now (s .args .notes)) (s .pre) (c .before .before .loop .r) (omega (arith, c .before .before .loop .inv .0)))
+id-of-requires c κs = let told = c .before .before .before .before .before .pre in (told, code-there told (omega (arith, c .before .before .loop .inv .0)))
 
 link-of-requires : tie.Need-link-of-requires Inv-loop μ-loop
 link-of-requires c κs =
-    let s = c .before .before .before .before .before .before in
-    let l = c .before .before .before .loop in (
-      told-compared (now (s .args .state)) (now (s .args .batch)) (s .args .scope) (now (s .args .notes)) (s .pre),
-      code-there (now (s .args .state)) (now (s .args .batch)) (s .args .scope) (now (s .args .notes)) (s .pre) (l .r) (omega (arith, l .inv .0)),
-    )
+    let told = c .before .before .before .before .before .before .pre in
+    (told-compared told, code-there told (omega (arith, c .before .before .before .loop .inv .0)))
 
 loop-again : tie.Need-loop-again Inv-loop μ-loop
 unfolding linkWord
@@ -53,14 +40,12 @@ loop-again c =
     let at = read .before .before in
     let l = at .before .before .before .before .loop in
     let s = at .before .before .before .before .before .before .before in
-    let among : l .r < length (nodesAfter (now (s .args .state)) (now (s .args .batch)) (s .args .scope)) = omega (arith, l .inv .0) in
-    let id = at .before .id-of .ensures ∙ id-there (now (s .args .state)) (now (s .args .batch)) (s .args .scope) (now (s .args .notes)) (s .pre) (l .r) among in
-    let link = at .link-of .ensures ∙ ap linkRow (link-there (now (s .args .state)) (now (s .args .batch)) (s .args .scope) (now (s .args .notes)) (s .pre) (l .r) among) in
-    let body = body-there (now (s .args .state)) (now (s .args .batch)) (s .args .scope) (now (s .args .notes)) (s .pre) (l .r) among (read .body-of .result) (read .body-of .ensures) in (
+    let among : l .r < length (nodesAfter (now (s .args .state)) (now (s .args .batch)) (s .args .scope)) = omega (arith, l .inv .0) in (
       l .inv .0,
       l .inv .1,
       omega arith,
-      node-more (nodesAfter (now (s .args .state)) (now (s .args .batch)) (s .args .scope)) (l .r) (omega arith) (now (s .args .next)) (l .inv .3) id link body (stored .put-id .ensures) (c .before .before .put-link .ensures) (c .put-body .ensures),
+      node-more _ (l .r) (omega arith) _ (l .inv .3) (at .before .id-of .ensures ∙ id-there (s .pre) among) (at .link-of .ensures ∙ ap linkRow (link-there (s .pre) among))
+          (body-there (s .pre) among (read .body-of .ensures)) (stored .put-id .ensures) (c .before .before .put-link .ensures) (c .put-body .ensures),
     )
 
 returns : tie.Need-returns Inv-loop μ-loop
@@ -77,19 +62,11 @@ write-nodes-spec =
     μ-loop
     (λ c. search needs)
     loop-holds
-    (λ c. search needs)
-    (λ c. search needs)
-    (λ c. search needs)
+    (λ c. search needs) (λ c. search needs) (λ c. search needs)
     id-of-requires
     link-of-requires
-    (λ c. search needs)
-    (λ c. search needs)
-    (λ c. search needs)
-    (λ c κs. search needs)
-    (λ c κs. search needs)
-    (λ c κs. search needs)
-    (λ c κs. search needs)
-    (λ c. search needs)
-    (λ c. search needs)
+    (λ c. search needs) (λ c. search needs) (λ c. search needs)
+    (λ c κs. search needs) (λ c κs. search needs) (λ c κs. search needs) (λ c κs. search needs)
+    (λ c. search needs) (λ c. search needs)
     loop-again
     returns)
