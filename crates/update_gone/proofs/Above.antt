@@ -2,7 +2,7 @@
 use mathlib.Core.Bool.{true}
 use mathlib.Core.List.{List}
 use mathlib.Core.Option.{Option, none, some}
-use mathlib.Core.Path.{_≡_, sym, ap, _∙_}
+use mathlib.Core.Path.{_≡_, refl, sym, ap, _∙_}
 use Prim.Native.Nat.{ℕ, _<_}
 use lib.ListN.{length}
 use borrow.Author.Tests.{eq-eqb, ne-eqb, lt-ltb, ltb-true}
@@ -63,7 +63,7 @@ module _ (state : List ℕ) (l : LinkRow) where
     -- it stands in a slot
     pub slot-near : r < slotsOf state → sameId (l .parent) (idIn state r) ≡ true → r ≡ slotAbove state (linkOf l)
     unfolding inSlot
-    slot-near h e = slot-under (slot-here (idIn state) (slotsOf state) (l .parent) r (joined (lt-ltb r (slotsOf state) h) e))
+    slot-near h e = slot-under (slot-here {id = idIn state} refl refl (joined (lt-ltb r (slotsOf state) h) e))
 
 -- the word of the column
 pub above-is : (state bytes : List ℕ) (c : Scope) (i : ℕ) → i < slotsOf state → slotAbove state (linkOf (linkIn state i)) ≡ aboveWord state bytes c i

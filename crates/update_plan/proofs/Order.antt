@@ -8,7 +8,7 @@ use lib.ListN.{length, getD}
 use Rattle.base.specs.Tests.{has, position}
 use Rattle.base.specs.Bytes.{listOf}
 use Rattle.base.proofs.Tests.{both, joined, iff, at-position}
-use Rattle.base.proofs.Lists.{has-list-of}
+use Rattle.base.proofs.Lists.{has-list-of, all-at}
 use Rattle.base.proofs.Bytes.{length-list-of, list-of-at, all-list-of}
 use Rattle.ids.specs.Ids.{sameId, before}
 use Rattle.ids.proofs.Ids.{same-id→≡, same-id-refl}
@@ -19,7 +19,6 @@ use Rattle.update.specs.Reports.{sorted}
 use Rattle.update.proofs.Sorted.{same-members}
 use Rattle.state_array.specs.Stored.{noState}
 use Rattle.update_notes.specs.Codes.{idAt}
-use Rattle.update_outcome.proofs.Fits.{all-at}
 use Rattle.update_plan.specs.Plan.{Ascends}
 
 -- an ascending run is a sorted list

@@ -18,7 +18,7 @@ use Rattle.update_notes.specs.Says.{Told, PLANNED}
 use Rattle.update_notes.proofs.Places.{forest-length, forest-node}
 use Rattle.update_notes.proofs.Setting.{batched-at}
 use Rattle.update_notes.proofs.Told.{batched}
-use Rattle.update_outcome.proofs.Fits.{all-at}
+use Rattle.base.proofs.Lists.{all-at}
 use Rattle.update_bodies.specs.Bodies.{BodyIs}
 use Rattle.update_writing.specs.Written.{nodesAfter}
 use Rattle.update_writing.proofs.Plan.{source-there}
