@@ -1,23 +1,21 @@
 -- Laws of regions: stated once, for loops that fill them and for the image that they make. Assumes nothing.
 use mathlib.Core.Bool.{true}
 use mathlib.Core.List.{List, [], _∷_, _++_}
-use mathlib.Core.Logic.{_⊎_, inl, inr}
 use mathlib.Core.Path.{_≡_, refl, sym, ap, _∙_}
 use Prim.Native.Nat.{ℕ, zero, suc, _+_, _≤_, _<_}
-use native.Mathlib.Nat.{eq-or-lt-of-le, le-of-suc-le-suc}
+use native.Mathlib.Nat.{zero-add}
 use native.Mathlib.Numerals.{add-one, unary-clauses}
 use native.Mathlib.Omega.{arith}
-use native.Mathlib.Decide.{decLt}
 use lib.Dec.{ltb}
-use lib.ListN.{length, take, drop, getD, set, take-append-drop, length-drop, replicate, length-set, replicate-append-replicate, List·getD-append}
-use lib.Seq.{length-take-le, getD-set-same, getD-set-other, set-comm, set-append-left, getD-append-add, ext-getD}
+use lib.ListN.{length, getD, set, replicate, length-set, replicate-append-replicate}
+use lib.Seq.{getD-set-same, getD-set-other, set-comm, set-append-left, ext-getD}
 use borrow.Author.Tests.{leb-true, lt-ltb, le-ltb}
+use Rattle.base.proofs.Cases.{by-order}
 use Rattle.base.specs.Tests.{if_then_else_}
 use Rattle.base.specs.Bytes.{listOf}
 use Rattle.base.proofs.Tests.{both}
 use Rattle.base.proofs.Bytes.{length-list-of, list-of-at}
-use Rattle.base.proofs.Indexed.{list-of-cong}
-use Rattle.base.specs.Regions.{fill, Region, fills, row, laid, Part, part, wordsOf, image, startOf, withPart, partOf}
+use Rattle.base.specs.Regions.{fill, Region, fills, row, laid, Part, part, wordsOf, image, startOf, withPart}
 
 -- ## One region
 
@@ -48,11 +46,9 @@ module _ (start : ℕ) (f : ℕ → ℕ) where
   pub fill-put : (n : ℕ) (s : List ℕ) → start + n ≤ length s → (i : ℕ) → i < n → getD (fill start n f s) (start + i) 0 ≡ f i
   unfolding fill
   fill-put zero s l i h = absurd (omega arith)
-  fill-put (suc n) s l i h = go (eq-or-lt-of-le (le-of-suc-le-suc h)) (fill-put n s (omega arith) i)
-    where
-      go : (i ≡ n) ⊎ (i < n) → (i < n → getD (fill start n f s) (start + i) 0 ≡ f i) → getD (set (fill start n f s) (start + n) (f n)) (start + i) 0 ≡ f i
-      go (inl q) before = rw q (getD-set-same (fill start n f s) (start + n) (f n) 0 (omega (arith, fill-length n s)))
-      go (inr k) before = getD-set-other (fill start n f s) (start + n) (start + i) (f n) 0 (λ e. omega arith) ∙ before k
+  fill-put (suc n) s l i h =
+      by-order i n (λ k. getD-set-other (fill start n f s) (start + n) (start + i) (f n) 0 (λ e. omega arith) ∙ fill-put n s (omega arith) i k)
+      (λ k. let q : i ≡ n = omega arith in rw q (getD-set-same (fill start n f s) (start + n) (f n) 0 (omega (arith, fill-length n s))))
 
   -- a store outside may come before or after
   pub fill-set : (n : ℕ) (s : List ℕ) (k v : ℕ) → (start ≤ k → k < start + n → ⊥) → set (fill start n f s) k v ≡ fill start n f (set s k v)
@@ -76,31 +72,11 @@ unfolding fill
 fill-cong start zero f g s h = refl
 fill-cong start (suc n) f g s h = rw (fill-cong start n f g s (λ i l. h i (omega arith)), h n (omega arith))
 
--- two regions apart are filled in either order
-pub fill-comm : (a m : ℕ) (f : ℕ → ℕ) (b n : ℕ) (g : ℕ → ℕ) (s : List ℕ) → (a + m ≤ b) ⊎ (b + n ≤ a)
-    → fill a m f (fill b n g s) ≡ fill b n g (fill a m f s)
-unfolding fill
-fill-comm a zero f b n g s h = refl
-fill-comm a (suc m) f b n g s h =
-    ap (λ l. set l (a + m) (f m)) (fill-comm a m f b n g s (less h)) ∙ fill-set b g n (fill a m f s) (a + m) (f m) (out h)
-  where
-    less : (a + suc m ≤ b) ⊎ (b + n ≤ a) → (a + m ≤ b) ⊎ (b + n ≤ a)
-    less (inl l) = inl (omega arith)
-    less (inr l) = inr l
-
-    out : (a + suc m ≤ b) ⊎ (b + n ≤ a) → b ≤ a + m → a + m < b + n → ⊥
-    out (inl l) p q = omega arith
-    out (inr l) p q = omega arith
-
 -- ## A row of several regions, as a loop stores it
 
 pub fills-none : (gs : List Region) (s : List ℕ) → fills gs 0 s ≡ s
 fills-none [] s = refl
 fills-none (g ∷ gs) s = rw (fill-none (g .start) (g .word) s) (fills-none gs s)
-
-pub fills-length : (gs : List Region) (n : ℕ) (s : List ℕ) → length (fills gs n s) ≡ length s
-fills-length [] n s = refl
-fills-length (g ∷ gs) n s = fills-length gs n (fill (g .start) n (g .word) s) ∙ fill-length (g .start) (g .word) n s
 
 -- a store below the regions
 fills-set : (gs : List Region) (from room n : ℕ) → laid from room gs ≡ true → n ≤ room → (s : List ℕ) (k v : ℕ) → k < from
@@ -140,21 +116,16 @@ part-rest p i l h = list-of-at (p .size) i (λ i. if ltb i (p .used) then p .wor
 part-filled : (p : Part) (n : ℕ) (f : ℕ → ℕ) → p .used ≡ 0 → n ≤ p .size → fill 0 n f (wordsOf p) ≡ wordsOf (part (p .size) n f)
 part-filled p n f e l =
     ext-getD 0 (fill 0 n f (wordsOf p)) (wordsOf (part (p .size) n f)) (size ∙ sym (part-length (part (p .size) n f)))
-    (λ i h. at i (rw size at h) (decLt i n))
+    (λ i h. by-order i n (inside i (rw size at h)) (outside i (rw size at h)))
   where
     size : length (fill 0 n f (wordsOf p)) ≡ p .size
     size = fill-length 0 f n (wordsOf p) ∙ part-length p
 
-    at : (i : ℕ) → i < p .size → Dec (i < n) → getD (fill 0 n f (wordsOf p)) i 0 ≡ getD (wordsOf (part (p .size) n f)) i 0
-    at i h (yes k) =
-        let from : 0 + i ≡ i = omega arith in
-        ap (λ m. getD (fill 0 n f (wordsOf p)) m 0) (sym from)
-        ∙ fill-put 0 f n (wordsOf p) (omega (arith, part-length p)) i k
-        ∙ sym (part-at (part (p .size) n f) i h k)
-    at i h (no k) =
-        fill-kept 0 f n (wordsOf p) i (λ a b. k (omega arith))
-        ∙ part-rest p i h (omega arith)
-        ∙ sym (part-rest (part (p .size) n f) i h (omega arith))
+    inside : (i : ℕ) → i < p .size → i < n → getD (fill 0 n f (wordsOf p)) i 0 ≡ getD (wordsOf (part (p .size) n f)) i 0
+    inside i h k = (rw zero-add at (fill-put 0 f n (wordsOf p) (omega (arith, part-length p)) i k)) ∙ sym (part-at (part (p .size) n f) i h k)
+
+    outside : (i : ℕ) → i < p .size → n ≤ i → getD (fill 0 n f (wordsOf p)) i 0 ≡ getD (wordsOf (part (p .size) n f)) i 0
+    outside i h k = fill-kept 0 f n (wordsOf p) i (λ a b. omega arith) ∙ part-rest p i h (omega arith) ∙ sym (part-rest (part (p .size) n f) i h k)
 
 -- a fill within the first of two lists, and one within the second
 fill-left : (n : ℕ) (f : ℕ → ℕ) (l t : List ℕ) → n ≤ length l → fill 0 n f (l ++ t) ≡ fill 0 n f l ++ t
@@ -177,7 +148,7 @@ fill-right start (suc n) f l t =
     let e : length l + start + n ≡ length l + (start + n) = omega arith in
     rw (fill-right start n f l t, e) (set-right l (fill start n f t) (start + n) (f n))
 
--- whether part j is there, unused, and has room for n words
+-- part j is there, unused, and has room for n words
 abbrev pub Free : List Part → ℕ → ℕ → Type 0
 Free [] j n = ⊥
 Free (p ∷ ps) zero n = (p .used ≡ 0) × (n ≤ p .size)
@@ -194,24 +165,6 @@ image-filled (p ∷ ps) (suc j) n f h =
     ap (λ a. fill (a + startOf ps j) n f (wordsOf p ++ image ps)) (sym (part-length p))
     ∙ fill-right (startOf ps j) n f (wordsOf p) (image ps)
     ∙ ap (λ s. wordsOf p ++ s) (image-filled ps j n f h)
-
--- what stands at place i of part j
-image-at : (ps : List Part) (j i : ℕ) → i < partOf ps j .size → getD (image ps) (startOf ps j + i) 0 ≡ getD (wordsOf (partOf ps j)) i 0
-unfolding image
-image-at [] j i h = absurd (omega arith)
-image-at (p ∷ ps) zero i h =
-    let z : 0 + i ≡ i = omega arith in
-    ap (λ k. getD (wordsOf p ++ image ps) k 0) z ∙ List·getD-append (wordsOf p) (image ps) 0 i (rw (part-length p) h)
-image-at (p ∷ ps) (suc j) i h =
-    let e : p .size + startOf ps j + i ≡ length (wordsOf p) + (startOf ps j + i) = omega (arith, part-length p) in
-    ap (λ k. getD (wordsOf p ++ image ps) k 0) e ∙ getD-append-add (wordsOf p) (image ps) (startOf ps j + i) 0 ∙ image-at ps j i h
-
--- a used place, and one that is not
-pub image-used : (ps : List Part) (j i : ℕ) → i < partOf ps j .size → i < partOf ps j .used → getD (image ps) (startOf ps j + i) 0 ≡ partOf ps j .word i
-image-used ps j i l h = image-at ps j i l ∙ part-at (partOf ps j) i l h
-
-pub image-unused : (ps : List Part) (j i : ℕ) → i < partOf ps j .size → partOf ps j .used ≤ i → getD (image ps) (startOf ps j + i) 0 ≡ 0
-image-unused ps j i l h = image-at ps j i l ∙ part-rest (partOf ps j) i l h
 
 -- a list of zeros, cut off a blank part at a time
 zeros-list : (n : ℕ) (f : ℕ → ℕ) → ((i : ℕ) → f i ≡ 0) → listOf n f ≡ replicate n 0
@@ -235,29 +188,3 @@ pub zeros-image : (ns : List ℕ) → replicate (total ns) 0 ≡ image (blanks n
 unfolding image
 zeros-image [] = refl
 zeros-image (n ∷ ns) = sym (replicate-append-replicate n (total ns) 0) ∙ rw (← blank-zeros n, zeros-image ns)
-
--- parts that say the same words have one image
-pub part-cong : (size n : ℕ) (f g : ℕ → ℕ) → ((i : ℕ) → i < n → f i ≡ g i) → wordsOf (part size n f) ≡ wordsOf (part size n g)
-unfolding wordsOf
-part-cong size n f g h = list-of-cong size _ _ (λ i l. go i (decLt i n))
-  where
-    go : (i : ℕ) → Dec (i < n) → (if ltb i n then f i else 0) ≡ (if ltb i n then g i else 0)
-    go i (yes k) = rw (lt-ltb i n k) (h i k)
-    go i (no k) = rw (le-ltb i n (omega arith))
-
--- ## Parts lent as slices
-
--- filling a part of a list that is lent by itself is filling a region of the list
-pub fill-middle : (a k n : ℕ) (f : ℕ → ℕ) (xs : List ℕ) → n ≤ k → a + k ≤ length xs
-    → take a xs ++ (fill 0 n f (take k (drop a xs)) ++ drop k (drop a xs)) ≡ fill a n f xs
-fill-middle a k n f xs h l =
-    ap (λ t. take a xs ++ t) (sym (fill-left n f (take k (drop a xs)) (drop k (drop a xs)) (rw long h)) ∙ ap (fill 0 n f) (take-append-drop k (drop a xs)))
-    ∙ sym (fill-right 0 n f (take a xs) (drop a xs))
-    ∙ ap (λ t. fill (length (take a xs) + 0) n f t) (take-append-drop a xs)
-    ∙ ap (λ m. fill m n f xs) start
-  where
-    long : length (take k (drop a xs)) ≡ k
-    long = length-take-le k (drop a xs) (omega (arith, length-drop a xs))
-
-    start : length (take a xs) + 0 ≡ a
-    start = omega (arith, length-take-le a xs (omega arith))

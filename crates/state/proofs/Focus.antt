@@ -1,9 +1,9 @@
 -- The room of the effective focus suffices: no tree is entered twice on the way through the grafts.
 -- Assumes nothing.
-use mathlib.Core.Bool.{Bool, true, false, not, true≢false}
+use mathlib.Core.Bool.{true, false, not, true≢false}
 use mathlib.Core.List.{List, [], _∷_, map}
-use mathlib.Core.Option.{Option, none, some, Option·none-ne-some, Option·some-injective}
-use mathlib.Core.Logic.{_⊎_, inl, inr}
+use mathlib.Core.Option.{none, some, Option·none-ne-some, Option·some-injective}
+use mathlib.Core.Logic.{_⊎_, inl, inr, ⊎-elim}
 use mathlib.Core.Path.{_≡_, refl, sym, ap, _∙_, subst}
 use Prim.Native.Nat.{ℕ, zero, suc, _+_, _<_}
 use native.Mathlib.Omega.{arith}
@@ -11,9 +11,10 @@ use native.Mathlib.Nat.{suc-add}
 use lib.Dec.{eqb}
 use lib.ListN.{length, getD}
 use borrow.Author.Tests.{eqb-true, eq-eqb}
-use Rattle.base.specs.Tests.{_&&_, if_then_else_, isNone, keep, has}
+use Rattle.base.specs.Tests.{_&&_, isNone, keep, has}
 use Rattle.base.specs.Bytes.{listOf}
-use Rattle.base.proofs.Tests.{and-false, has-keep}
+use Rattle.base.proofs.Cases.{by-test, by-option}
+use Rattle.base.proofs.Tests.{and-false, and-right, has-keep}
 use Rattle.base.proofs.Lists.{some-from, keep-less, has-list-of}
 use Rattle.base.proofs.Bytes.{length-list-of}
 use Rattle.ids.specs.Ids.{ROOT, sameTree}
@@ -40,32 +41,12 @@ subtree-place : (k : ℕ) (es : List TreeEntry) (t : TreeId) (u : SubtreeState) 
     → (i : ℕ) × (u .focus .tree .0 ≡ k + i) × StandsAt es t i
 unfolding subtreeFrom subtreeState
 subtree-place k [] t u e = absurd (Option·none-ne-some u e)
-subtree-place k (r ∷ es) t u e = go (sameTree t (r .id)) refl e (subtree-place (suc k) es t u)
-  where
-    go : (c : Bool) → sameTree t (r .id) ≡ c
-        → (if c then elim (r .subtree) as (λ _. Option SubtreeState) [ none ↦ none | some v ↦ some (subtreeState k v) ] else subtreeFrom (suc k) es t) ≡ some u
-        → (subtreeFrom (suc k) es t ≡ some u → (i : ℕ) × (u .focus .tree .0 ≡ suc k + i) × StandsAt es t i)
-        → (i : ℕ) × (u .focus .tree .0 ≡ k + i) × StandsAt (r ∷ es) t i
-    go true q f h =
-        let z = some-from (r .subtree) (λ v. some (subtreeState k v)) u f in
-        let p : k ≡ u .focus .tree .0 = ap (λ (v : SubtreeState). v .focus .tree .0) (Option·some-injective (subtreeState k (z .0)) u (z .2)) in
-        (0, omega arith, (omega arith, sym (same-tree→≡ t (r .id) q)))
-    go false q f h = let z = h f in (suc (z .0), omega (arith, z .1), (omega (arith, z .2 .0), z .2 .1))
-
--- its root and its focus have one number
-subtree-ends : (k : ℕ) (es : List TreeEntry) (t : TreeId) (u : SubtreeState) → subtreeFrom k es t ≡ some u → u .root .tree .0 ≡ u .focus .tree .0
-unfolding subtreeFrom subtreeState
-subtree-ends k [] t u e = absurd (Option·none-ne-some u e)
-subtree-ends k (r ∷ es) t u e = go (sameTree t (r .id)) e (subtree-ends (suc k) es t u)
-  where
-    go : (c : Bool)
-        → (if c then elim (r .subtree) as (λ _. Option SubtreeState) [ none ↦ none | some v ↦ some (subtreeState k v) ] else subtreeFrom (suc k) es t) ≡ some u
-        → (subtreeFrom (suc k) es t ≡ some u → u .root .tree .0 ≡ u .focus .tree .0) → u .root .tree .0 ≡ u .focus .tree .0
-    go true f h =
-        let z = some-from (r .subtree) (λ v. some (subtreeState k v)) u f in
-        let q = Option·some-injective (subtreeState k (z .0)) u (z .2) in
-        sym (ap (λ (v : SubtreeState). v .root .tree .0) q) ∙ ap (λ (v : SubtreeState). v .focus .tree .0) q
-    go false f h = h f
+subtree-place k (r ∷ es) t u e =
+    by-test (sameTree t (r .id))
+    (λ q. let z = some-from (r .subtree) (λ v. some (subtreeState k v)) u (rw q at e) in
+    let p : k ≡ u .focus .tree .0 = ap (λ (v : SubtreeState). v .focus .tree .0) (Option·some-injective (subtreeState k (z .0)) u (z .2)) in
+    (0, omega arith, (omega arith, sym (same-tree→≡ t (r .id) q))))
+    (λ q. let z = subtree-place (suc k) es t u (rw q at e) in (suc (z .0), omega (arith, z .1), (omega (arith, z .2 .0), z .2 .1)))
 
 -- trees of one number are one
 subtree-one : (s : Forest) (t w : TreeId) (u v : SubtreeState) → subtreeOf s t ≡ some u → subtreeOf s w ≡ some v
@@ -82,11 +63,6 @@ subtree-below : (s : Forest) (t : TreeId) (u : SubtreeState) → subtreeOf s t �
 unfolding subtreeOf
 subtree-below s t u p = let z = subtree-place 0 (s .trees) t u p in omega (arith, z .1, z .2 .0)
 
--- and so is its root's
-pub subtree-root-below : (s : Forest) (t : TreeId) (u : SubtreeState) → subtreeOf s t ≡ some u → u .root .tree .0 < length (s .trees)
-unfolding subtreeOf
-subtree-root-below s t u p = omega (arith, subtree-below s t u p, subtree-ends 0 (s .trees) t u p)
-
 -- ## Numbers left
 
 -- the numbers of a list other than q
@@ -100,21 +76,16 @@ has-without q left k = has-keep eqb eqb-true (λ k. not (eqb q k)) left k
 -- what was not left is not left now
 without-out : (q : ℕ) (left : List ℕ) (k : ℕ) → has eqb left k ≡ false → has eqb (without q left) k ≡ false
 unfolding _&&_
-without-out q left k e = has-without q left k ∙ ap (λ (c : Bool). c && not (eqb q k)) e
+without-out q left k e = rw (has-without q left k, e)
 
 -- nor is q
 without-self : (q : ℕ) (left : List ℕ) → has eqb (without q left) q ≡ false
-without-self q left = has-without q left q ∙ ap (λ (c : Bool). has eqb left q && not c) (eq-eqb q q refl) ∙ and-false (has eqb left q)
+without-self q left = rw (has-without q left q, eq-eqb q q refl) (and-false (has eqb left q))
 
 -- and what is not left now was not left before, or is q
 without-cases : (q : ℕ) (left : List ℕ) (k : ℕ) → has eqb (without q left) k ≡ false → (has eqb left k ≡ false) ⊎ (k ≡ q)
-unfolding _&&_
-without-cases q left k e = go (has eqb left k) (eqb q k) refl (sym (has-without q left k) ∙ e)
-  where
-    go : (c d : Bool) → eqb q k ≡ d → (c && not d) ≡ false → (c ≡ false) ⊎ (k ≡ q)
-    go true true q f = inr (sym (eqb-true _ _ q))
-    go true false q f = absurd (true≢false f)
-    go false d q f = inl refl
+without-cases q left k e =
+    by-test (eqb q k) (λ t. inr (sym (eqb-true q k t))) (λ t. inl (sym (and-right (has eqb left k)) ∙ rw t at (sym (has-without q left k) ∙ e)))
 
 -- ## Entering a tree
 
@@ -123,21 +94,9 @@ through-next : (s : Forest) (m n : ℕ) (x : FullNodeId)
     → ((t : TreeId) (u : SubtreeState) → graftAt (s .nodes) x ≡ some t → subtreeOf s t ≡ some u → throughGrafts m s (u .focus) ≡ throughGrafts n s (u .focus))
     → throughGrafts (suc m) s x ≡ throughGrafts (suc n) s x
 unfolding throughGrafts
-through-next s m n x h = go (graftAt (s .nodes) x) refl
-  where
-    next : ℕ → Option SubtreeState → Option FullNodeId
-    next k o = elim o [ none ↦ none | some u ↦ throughGrafts k s (u .focus) ]
-
-    on : (t : TreeId) → graftAt (s .nodes) x ≡ some t → (o : Option SubtreeState) → subtreeOf s t ≡ o → next m o ≡ next n o
-    on t q none r = refl
-    on t q (some u) r = h t u q r
-
-    step : ℕ → Option TreeId → Option FullNodeId
-    step k o = elim o [ none ↦ some x | some t ↦ next k (subtreeOf s t) ]
-
-    go : (o : Option TreeId) → graftAt (s .nodes) x ≡ o → step m o ≡ step n o
-    go none q = refl
-    go (some t) q = on t q (subtreeOf s t) refl
+through-next s m n x h =
+    by-option (graftAt (s .nodes) x) (λ q. rw (q, throughGrafts))
+    (λ t q. by-option (subtreeOf s t) (λ r. rw (q, throughGrafts, r)) (λ u r. rw (q, throughGrafts, r) (h t u q r)))
 
 -- y grafts the tree of number k, which exists
 record Enters (s : Forest) (y : FullNodeId) (k : ℕ) : Type 0 where
@@ -167,26 +126,20 @@ module _ (s : Forest) (differ : graftsDiffer (s .nodes) ≡ true) where
   follows : (left : List ℕ) (x z : FullNodeId) → has eqb left (x .tree .0) ≡ false → Follows s left x → Enters s x (z .tree .0) → has eqb left (z .tree .0) ≡ true
       → Follows s (without (z .tree .0) left) z
   follows left x z out inv d l y k e f =
-      let gone = go (without-cases (z .tree .0) left k f) in
+      let gone : has eqb left (y .tree .0) ≡ false =
+      ⊎-elim (λ n. inv y k e n .0) (λ p. rw (enters-one y x (z .tree .0) (subst (Enters s y) p e) d) out) (without-cases (z .tree .0) left k f) in
       (without-out (z .tree .0) left (y .tree .0) gone, λ p. true≢false (sym l ∙ ap (has eqb left) (sym p) ∙ gone))
-    where
-      go : (has eqb left k ≡ false) ⊎ (k ≡ z .tree .0) → has eqb left (y .tree .0) ≡ false
-      go (inl n) = inv y k e n .0
-      go (inr p) = ap (λ (w : FullNodeId). has eqb left (w .tree .0)) (enters-one y x (z .tree .0) (subst (Enters s y) p e) d) ∙ out
 
   -- room enough for the tree that is entered next is, with one more, enough
   enough-more : (room : ℕ) → Enough s room → Enough s (suc room)
   enough-more room h left x short out inv more =
       rw suc-add
       (through-next s (room + more) room x
-      (λ t u q r. enter u (record { tree = t; grafts = q; subtree = u; exists = r; numbered = refl }) (has eqb left (u .focus .tree .0)) refl))
-    where
-      enter : (u : SubtreeState) → Enters s x (u .focus .tree .0) → (c : Bool) → has eqb left (u .focus .tree .0) ≡ c
-          → throughGrafts (room + more) s (u .focus) ≡ throughGrafts room s (u .focus)
-      enter u d true l =
-          let q = u .focus .tree .0 in
-          h (without q left) (u .focus) (omega (arith, keep-less (eqb q) left l)) (without-self q left) (follows left x (u .focus) out inv d l) more
-      enter u d false l = absurd (inv x (u .focus .tree .0) d l .1 refl)
+      (λ t u g r. let q = u .focus .tree .0 in
+      let d : Enters s x q = record { tree = t; grafts = g; subtree = u; exists = r; numbered = refl } in
+      by-test (has eqb left q)
+      (λ l. h (without q left) (u .focus) (omega (arith, keep-less (eqb q) left l)) (without-self q left) (follows left x (u .focus) out inv d l) more)
+      (λ l. absurd (inv x q d l .1 refl))))
 
   -- more room than numbers left is always enough
   enough : (room : ℕ) → Enough s room
@@ -215,10 +168,8 @@ room-enough s differ free u is more =
     among k l = has-list-of eqb (λ n. eq-eqb n n refl) count (λ i. i) k l
 
     start : Follows s (without first allNumbers) (u .focus)
-    start y k e f = absurd (go (without-cases first allNumbers k f))
-      where
-        go : (has eqb allNumbers k ≡ false) ⊎ (k ≡ first) → ⊥
-        go (inl n) = true≢false (sym (among k (rw (e .numbered) at (subtree-below s (e .tree) (e .subtree) (e .exists)))) ∙ n)
-        go (inr p) =
-            graft-spared (s .nodes) y ROOT (sym (holder-spared (s .nodes) ROOT) ∙ ap isNone free)
-            (e .grafts ∙ ap some (subtree-one s (e .tree) ROOT (e .subtree) u (e .exists) is (e .numbered ∙ p)))
+    start y k e f =
+        absurd (⊎-elim (λ n. true≢false (sym (among k (rw (e .numbered) at (subtree-below s (e .tree) (e .subtree) (e .exists)))) ∙ n))
+        (λ p. graft-spared (s .nodes) y ROOT (sym (holder-spared (s .nodes) ROOT) ∙ ap isNone free)
+        (e .grafts ∙ ap some (subtree-one s (e .tree) ROOT (e .subtree) u (e .exists) is (e .numbered ∙ p))))
+        (without-cases first allNumbers k f))

@@ -6,6 +6,7 @@ use mathlib.Core.Option.{some, Option·none-ne-some, Option·some-injective}
 use mathlib.Core.Path.{_≡_, refl, sym, ap, _∙_}
 use borrow.Author.Tests.{eqb-true}
 use Rattle.base.specs.Tests.{isNone, all, count, sameOption}
+use Rattle.base.proofs.Cases.{by-test}
 use Rattle.base.proofs.Tests.{same-option→≡, not-true, all-member}
 use Rattle.base.proofs.Lists.{some-from, distinct-given, first-given-some, all-of, all-not}
 use Rattle.ids.specs.Ids.{ROOT, sameTree, sameId}
@@ -32,11 +33,8 @@ spares-not t d e q = true≢false (sym (same-tree-refl t) ∙ not-true (rw q at 
 
 -- and what does not graft t spares it
 pub not-spares : (t : TreeId) (d : NodeData) → (graft? d ≡ some t → ⊥) → spares t d ≡ true
-not-spares t d h = go (sameOption sameTree (graft? d) (some t)) refl
-  where
-    go : (c : Bool) → sameOption sameTree (graft? d) (some t) ≡ c → not c ≡ true
-    go true q = absurd (h (same-option→≡ sameTree same-tree→≡ (graft? d) (some t) q))
-    go false q = refl
+not-spares t d h =
+    by-test (sameOption sameTree (graft? d) (some t)) (λ q. absurd (h (same-option→≡ sameTree same-tree→≡ (graft? d) (some t) q))) (λ q. rw q)
 
 -- a tree has no graft holder where no node grafts it
 pub holder-spared : (ns : List NodeState) (t : TreeId) → isNone (holder ns t) ≡ all (λ n. spares t (n .body)) ns

@@ -7,5 +7,4 @@ pub mod Ends
 pub mod Pool
 pub mod Grafts
 pub mod Focus
-pub mod Trees
 pub mod Examples

@@ -1,25 +1,25 @@
 -- A sound shape names fewer children than it has nodes: the way down meets each node once, and all but the root below another. Assumes nothing.
-use mathlib.Core.Bool.{true, false, _||_, false≢true}
+use mathlib.Core.Bool.{true, false, false≢true}
 use mathlib.Core.List.{List, [], _∷_, _++_, map, List·Memᴰ}
-use mathlib.Core.Option.{Option, none, some}
+use mathlib.Core.Option.{none}
 use mathlib.Core.Path.{_≡_, refl, ap, _∙_, subst}
 use Prim.Native.Nat.{ℕ, zero, suc, _+_, _≤_, _<_}
 use native.Mathlib.Nat.{not-suc-le-zero, le-of-suc-le-suc}
 use native.Mathlib.Omega.{arith}
 use lib.ListN.{length, length-append}
 use borrow.Author.Tests.{eqb-true, leb-true}
-use Rattle.base.specs.Tests.{isNone, isNil, all, count, has}
+use Rattle.base.specs.Tests.{isNil, all, count, has}
+use Rattle.base.proofs.Cases.{by-option}
 use Rattle.base.proofs.Tests.{all-member}
 use Rattle.base.proofs.Lists.{all-map, all-of, has-map}
 use Rattle.base.proofs.Sums.{sumOver, sum-most, sum-among}
 use Rattle.ids.specs.Ids.{sameId}
 use Rattle.ids.proofs.Ids.{same-id→≡, same-id-refl}
-use Rattle.ids.specs.declared.TreeId.{TreeId}
 use Rattle.ids.specs.declared.NodeId.{NodeId}
 use Rattle.ids.specs.declared.FullNodeId.{FullNodeId}
 use Rattle.record.specs.Batch.{graft?}
-use Rattle.state.specs.State.{NodeState, idsOf, Forest, subtreeOf}
-use Rattle.state.specs.Down.{Met, metUnder, childrenMet, below, belowId, down, wayDown}
+use Rattle.state.specs.State.{NodeState, idsOf, Forest}
+use Rattle.state.specs.Down.{Met, childrenMet, below, belowId, down, wayDown}
 use Rattle.state.specs.Sound.{metOnce, graftIsBare}
 use Rattle.state.proofs.State.{find-self}
 use Rattle.state.proofs.Sound.{Shape, root-of-shape}
@@ -41,17 +41,13 @@ length-children-met p i (c ∷ cs) = ap suc (length-children-met p (suc i) cs)
 -- as many are met below a node as it names children, or more
 children-below : (s : Forest) (n : NodeState) → graftIsBare n ≡ true → length (n .body .children) ≤ length (below s n)
 unfolding graftIsBare below
-children-below s n e = go (graft? (n .body)) (n .body .children) e
+children-below s n e =
+    by-option (graft? (n .body)) (λ q. rw (q, below) (omega (arith, length-children-met (n .id) 0 (n .body .children))))
+    (λ t q. let empty : length (n .body .children) ≡ 0 = no-children (n .body .children) (rw q at e) in omega arith)
   where
-    go : (o : Option TreeId) (cs : List NodeId) → (isNone o || isNil cs) ≡ true
-        → length cs
-        ≤ length {A = Met} (elim o as (λ _. List Met) [
-          | none ↦ childrenMet (n .id) 0 cs
-          | some t ↦ elim (subtreeOf s t) as (λ _. List Met) [ none ↦ [] | some u ↦ metUnder (n .id) 0 (u .root) ∷ [] ]
-        ])
-    go none cs f = omega (arith, length-children-met (n .id) 0 cs)
-    go (some t) [] f = omega arith
-    go (some t) (c ∷ cs) f = absurd (false≢true f)
+    no-children : (cs : List NodeId) → isNil cs ≡ true → length cs ≡ 0
+    no-children [] f = refl
+    no-children (c ∷ cs) f = absurd (false≢true f)
 
 module _ (s : Forest) where
   -- how many are met below an id
@@ -101,7 +97,7 @@ module _ (s : Forest) where
 sum-ids : (f : FullNodeId → ℕ) (ns : List NodeState) → sumOver f (idsOf ns) ≡ sumOver (λ n. f (n .id)) ns
 unfolding idsOf
 sum-ids f [] = refl
-sum-ids f (n ∷ ns) = ap (λ (k : ℕ). f (n .id) + k) (sum-ids f ns)
+sum-ids f (n ∷ ns) = rw (sum-ids f ns)
 
 -- a sound shape names fewer children than it has nodes
 pub children-few : (s : Forest) → Shape s → childTotal (s .nodes) < length (s .nodes)

@@ -1,19 +1,20 @@
 -- What soundness says, part by part, and back; the root; the effective focus is never a graft. Assumes nothing.
-use mathlib.Core.Bool.{Bool, true, false, false≢true}
+use mathlib.Core.Bool.{true, false, false≢true}
 use mathlib.Core.List.{List, [], _∷_}
-use mathlib.Core.Option.{Option, none, some, Option·none-ne-some, Option·some-injective}
-use mathlib.Core.Path.{_≡_, refl, sym, ap, _∙_}
+use mathlib.Core.Option.{none, some, Option·none-ne-some, Option·some-injective}
+use mathlib.Core.Path.{_≡_, refl}
 use Prim.Native.Nat.{ℕ, zero, suc}
 use lib.Dec.{leb}
 use lib.ListN.{length}
 use Rattle.base.specs.Tests.{_&&_, all}
-use Rattle.base.proofs.Tests.{both, joined}
+use Rattle.base.proofs.Cases.{by-option}
+use Rattle.base.proofs.Lists.{some-from}
+use Rattle.base.proofs.Tests.{both, joined, and-true}
 use Rattle.ids.specs.Ids.{ROOT, sameTree}
 use Rattle.ids.proofs.Ids.{same-tree→≡}
-use Rattle.ids.specs.declared.TreeId.{TreeId}
 use Rattle.ids.specs.declared.FullNodeId.{FullNodeId}
 use Rattle.record.specs.Batch.{fieldsOk}
-use Rattle.state.specs.State.{NodeState, Subtree, TreeEntry, Forest, present, graftAt, SubtreeState, subtreeState, subtreeFrom, subtreeOf}
+use Rattle.state.specs.State.{NodeState, Subtree, TreeEntry, Forest, present, graftAt, subtreeState, subtreeFrom, subtreeOf}
 use Rattle.state.specs.Down.{rootOf, wayDown}
 use Rattle.state.specs.Focus.{throughGrafts, effectiveFocus}
 use Rattle.state.specs.Sound.{metOnce, recorded, graftIsBare, soundLinks, graftsDiffer, grafted, allGrafted, rootFirst, oneIdEach, soundTrees, ascending, wayEnds, soundShape, focusPresent, sound}
@@ -33,24 +34,7 @@ pub record Shape (s : Forest) : Type 0 where
 
 pub shape-parts : (s : Forest) → soundShape s ≡ true → Shape s
 unfolding soundShape soundLinks soundTrees wayEnds
-shape-parts s e =
-    let parts = both e in
-    let before-order = both (parts .0) in
-    let rules = both (before-order .0) in
-    let links = both (rules .0) in
-    let trees = both (rules .1) in
-    let tables = both (trees .0) in
-    record {
-      once = both (links .0) .0;
-      only = both (links .0) .1;
-      bare = links .1;
-      differ = both (tables .0) .0;
-      first = both (tables .0) .1;
-      one-id = tables .1;
-      held = trees .1;
-      ordered = before-order .1;
-      ends = parts .1;
-    }
+shape-parts s e = let parts = simp and-true at e in search
 
 pub record Sound (s : Forest) : Type 0 where
   pub shape : soundShape s ≡ true
@@ -61,11 +45,7 @@ pub record Sound (s : Forest) : Type 0 where
 
 pub sound-parts : (s : Forest) → sound s ≡ true → Sound s
 unfolding sound
-sound-parts s e =
-    let four = both e in
-    let three = both (four .0) in
-    let two = both (three .0) in
-    record { shape = both (two .0) .0; few-nodes = both (two .0) .1; few-trees = two .1; fields = three .1; focus = four .1 }
+sound-parts s e = let parts = simp and-true at e in search
 
 pub sound-of : (s : Forest) → Sound s → sound s ≡ true
 unfolding sound
@@ -86,15 +66,13 @@ root-of-first ns t ts u p q = rw (p, q) refl
 root-of-tables : (ns : List NodeState) (es : List TreeEntry) → rootFirst es ≡ true → allGrafted ns 0 es ≡ true → Root (record { nodes = ns; trees = es })
 unfolding rootFirst allGrafted grafted
 root-of-tables ns [] e f = absurd (false≢true e)
-root-of-tables ns (t ∷ ts) e f = go (t .subtree) refl
-  where
-    go : (o : Option Subtree) → t .subtree ≡ o → Root (record { nodes = ns; trees = t ∷ ts })
-    go none q = absurd (false≢true (rw q at (both e .1)))
-    go (some u) q = record {
+root-of-tables ns (t ∷ ts) e f =
+    by-option (t .subtree) (λ q. absurd (false≢true (rw q at (both e .1))))
+    (λ u q. record {
       root = record { tree = record { 0 = 0 }; node = u .root };
       is-root = root-of-first ns t ts u (same-tree→≡ (t .id) ROOT (both e .0)) q;
       there = both (rw q at (both f .0)) .0;
-    }
+    })
 
 pub root-of-shape : (s : Forest) → Shape s → Root s
 root-of-shape s h = root-of-tables (s .nodes) (s .trees) (h .first) (h .held)
@@ -105,21 +83,10 @@ root-of-shape s h = root-of-tables (s .nodes) (s .trees) (h .first) (h .held)
 pub through-grafts-end : (s : Forest) (room : ℕ) (x y : FullNodeId) → throughGrafts room s x ≡ some y → graftAt (s .nodes) y ≡ none
 unfolding throughGrafts
 through-grafts-end s zero x y e = absurd (Option·none-ne-some y e)
-through-grafts-end s (suc room) x y e = go (graftAt (s .nodes) x) refl e (λ z. through-grafts-end s room z y)
-  where
-    on : (o : Option SubtreeState) → (elim o as (λ _. Option FullNodeId) [ none ↦ none | some u ↦ throughGrafts room s (u .focus) ]) ≡ some y
-        → ((z : FullNodeId) → throughGrafts room s z ≡ some y → graftAt (s .nodes) y ≡ none) → graftAt (s .nodes) y ≡ none
-    on none f h = absurd (Option·none-ne-some y f)
-    on (some u) f h = h (u .focus) f
-
-    go : (o : Option TreeId) → graftAt (s .nodes) x ≡ o
-        → (elim o as (λ _. Option FullNodeId) [
-          | none ↦ some x
-          | some t ↦ elim (subtreeOf s t) [ none ↦ none | some u ↦ throughGrafts room s (u .focus) ]
-        ]) ≡ some y
-        → ((z : FullNodeId) → throughGrafts room s z ≡ some y → graftAt (s .nodes) y ≡ none) → graftAt (s .nodes) y ≡ none
-    go none q f h = ap (graftAt (s .nodes)) (sym (Option·some-injective x y f)) ∙ q
-    go (some t) q f h = on (subtreeOf s t) f h
+through-grafts-end s (suc room) x y e =
+    by-option (graftAt (s .nodes) x) (λ q. rw (← Option·some-injective x y (rw (q, throughGrafts) at e)) q)
+    (λ t q. let u = some-from (subtreeOf s t) (λ v. throughGrafts room s (v .focus)) y (rw (q, throughGrafts) at e) in
+    through-grafts-end s room (u .0 .focus) y (u .2))
 
 pub record Focus (s : Forest) : Type 0 where
   pub focus : FullNodeId
@@ -129,14 +96,12 @@ pub record Focus (s : Forest) : Type 0 where
 
 pub focus-of-sound : (s : Forest) → focusPresent s ≡ true → Focus s
 unfolding focusPresent
-focus-of-sound s e = go (effectiveFocus s) refl e
-  where
-    end : (o : Option SubtreeState) (y : FullNodeId)
-        → (elim o as (λ _. Option FullNodeId) [ none ↦ none | some u ↦ throughGrafts (suc (length (s .trees))) s (u .focus) ]) ≡ some y
-        → graftAt (s .nodes) y ≡ none
-    end none y q = absurd (Option·none-ne-some y q)
-    end (some u) y q = through-grafts-end s (suc (length (s .trees))) (u .focus) y q
-
-    go : (o : Option FullNodeId) → effectiveFocus s ≡ o → (elim o as (λ _. Bool) [ none ↦ false | some x ↦ present (s .nodes) x ]) ≡ true → Focus s
-    go none q f = absurd (false≢true f)
-    go (some x) q f = record { focus = x; effective = q; there = f; no-graft = end (subtreeOf s ROOT) x (unfold effectiveFocus in q) }
+focus-of-sound s e =
+    by-option (effectiveFocus s) (λ q. absurd (false≢true (rw (q, focusPresent) at e)))
+    (λ x q. let u = some-from (subtreeOf s ROOT) (λ v. throughGrafts (suc (length (s .trees))) s (v .focus)) x (unfold effectiveFocus in q) in
+    record {
+      focus = x;
+      effective = q;
+      there = rw (q, focusPresent) at e;
+      no-graft = through-grafts-end s (suc (length (s .trees))) (u .0 .focus) x (u .2);
+    })

@@ -1,10 +1,11 @@
 -- Laws of finding and keeping nodes. Assumes nothing.
-use mathlib.Core.Bool.{Bool, true, false, _||_}
+use mathlib.Core.Bool.{Bool, true}
 use mathlib.Core.List.{List, [], _∷_, List·Memᴰ, List·Memᴰ·head, List·Memᴰ·tail}
 use mathlib.Core.Option.{some, Option·none-ne-some, Option·some-injective}
 use mathlib.Core.Path.{_≡_, refl, sym, ap, _∙_}
 use borrow.Author.Tests.{eqb-true}
-use Rattle.base.specs.Tests.{_&&_, if_then_else_, isSome, any, all, keep, has}
+use Rattle.base.specs.Tests.{_&&_, all, keep, has}
+use Rattle.base.proofs.Cases.{by-test}
 use Rattle.base.proofs.Tests.{both, all-member, map-keep, has-keep}
 use Rattle.ids.specs.Ids.{sameId, before}
 use Rattle.ids.proofs.Ids.{same-id→≡, same-id-refl, before-apart}
@@ -23,12 +24,7 @@ same-link→≡ k l e =
 pub present-has : (ns : List NodeState) (x : FullNodeId) → present ns x ≡ has sameId (idsOf ns) x
 unfolding present find idsOf
 present-has [] x = refl
-present-has (n ∷ ns) x = go (sameId x (n .id)) (present-has ns x)
-  where
-    go : (c : Bool) → isSome (find x ns) ≡ any (sameId x) (idsOf ns)
-        → isSome (if c then some n else find x ns) ≡ (c || any (sameId x) (idsOf ns))
-    go true h = refl
-    go false h = h
+present-has (n ∷ ns) x = by-test (sameId x (n .id)) (λ t. rw t) (λ t. rw t (present-has ns x))
 
 pub present-keep : (q : FullNodeId → Bool) (ns : List NodeState) (x : FullNodeId) → present (keep (λ n. q (n .id)) ns) x ≡ (present ns x && q x)
 unfolding idsOf
@@ -42,36 +38,23 @@ present-keep q ns x =
 pub find-id : (ns : List NodeState) (x : FullNodeId) (n : NodeState) → find x ns ≡ some n → n .id ≡ x
 unfolding find
 find-id [] x n e = absurd (Option·none-ne-some n e)
-find-id (m ∷ ns) x n e = go (sameId x (m .id)) refl e (find-id ns x n)
-  where
-    go : (c : Bool) → sameId x (m .id) ≡ c → (if c then some m else find x ns) ≡ some n → (find x ns ≡ some n → n .id ≡ x) → n .id ≡ x
-    go true q f h = ap (λ (k : NodeState). k .id) (sym (Option·some-injective m n f)) ∙ sym (same-id→≡ x (m .id) q)
-    go false q f h = h f
+find-id (m ∷ ns) x n e =
+    by-test (sameId x (m .id)) (λ t. rw (← Option·some-injective m n (rw t at e)) (sym (same-id→≡ x (m .id) t))) (λ t. find-id ns x n (rw t at e))
 
 -- and is one of the nodes
 pub find-member : (ns : List NodeState) (x : FullNodeId) (n : NodeState) → find x ns ≡ some n → List·Memᴰ n ns
 unfolding find
 find-member [] x n e = absurd (Option·none-ne-some n e)
-find-member (m ∷ ns) x n e = go (sameId x (m .id)) e (find-member ns x n)
-  where
-    go : (c : Bool) → (if c then some m else find x ns) ≡ some n → (find x ns ≡ some n → List·Memᴰ n ns) → List·Memᴰ n (m ∷ ns)
-    go true f h = List·Memᴰ·head (sym (Option·some-injective m n f))
-    go false f h = List·Memᴰ·tail (h f)
+find-member (m ∷ ns) x n e =
+    by-test (sameId x (m .id)) (λ t. List·Memᴰ·head (sym (Option·some-injective m n (rw t at e)))) (λ t. List·Memᴰ·tail (find-member ns x n (rw t at e)))
 
 -- and passes every test that all nodes pass
 pub all-find : (p : NodeState → Bool) (ns : List NodeState) (x : FullNodeId) (n : NodeState) → all p ns ≡ true → find x ns ≡ some n → p n ≡ true
-unfolding find
-all-find p [] x n e f = absurd (Option·none-ne-some n f)
-all-find p (m ∷ ns) x n e f = go (sameId x (m .id)) f (all-find p ns x n (both e .1))
-  where
-    go : (c : Bool) → (if c then some m else find x ns) ≡ some n → (find x ns ≡ some n → p n ≡ true) → p n ≡ true
-    go true q h = ap p (sym (Option·some-injective m n q)) ∙ both e .0
-    go false q h = h q
+all-find p ns x n e f = all-member p ns n e (find-member ns x n f)
 
 -- a node that stands in order is found by its id
 pub find-self : (ns : List NodeState) (n : NodeState) → ascending ns ≡ true → List·Memᴰ n ns → find (n .id) ns ≡ some n
 unfolding find ascending
-find-self (m ∷ ns) n e (List·Memᴰ·head q) = rw q (ap (λ (c : Bool). if c then some m else find (m .id) ns) (same-id-refl (m .id)))
+find-self (m ∷ ns) n e (List·Memᴰ·head q) = rw (q, same-id-refl (m .id))
 find-self (m ∷ ns) n e (List·Memᴰ·tail i) =
-    ap (λ (c : Bool). if c then some m else find (n .id) ns) (before-apart (m .id) (n .id) (all-member (λ k. before (m .id) (k .id)) ns n (both e .0) i))
-    ∙ find-self ns n (both e .1) i
+    rw (before-apart (m .id) (n .id) (all-member (λ k. before (m .id) (k .id)) ns n (both e .0) i)) (find-self ns n (both e .1) i)

@@ -16,11 +16,6 @@ unfolding sumOf
 sum-front zero f = omega arith
 sum-front (suc n) f = let h = sum-front n f in omega arith
 
-pub sum-cong : (n : ℕ) (f g : ℕ → ℕ) → ((i : ℕ) → i < n → f i ≡ g i) → sumOf n f ≡ sumOf n g
-unfolding sumOf
-sum-cong zero f g h = refl
-sum-cong (suc n) f g h = rw (sum-cong n f g (λ i l. h i (omega arith)), h n (omega arith))
-
 pub entries-length : (ns : List NodeState) → length (entriesOf ns) ≡ childrenBefore ns (length ns)
 unfolding entriesOf sumOf
 entries-length [] = refl

@@ -11,7 +11,7 @@ use Rattle.base.specs.Tests.{_&&_, all}
 use Rattle.base.specs.Bytes.{listOf}
 use Rattle.base.specs.Regions.{fill, Region, region, fills, Part, image, startOf, withPart, partOf}
 use Rattle.base.proofs.Tests.{both}
-use Rattle.base.proofs.Regions.{fill-cong, Free, image-filled, blanks, zeros-image}
+use Rattle.base.proofs.Regions.{Free, image-filled, blanks, zeros-image}
 use Rattle.state.specs.State.{NodeState, TreeEntry, State}
 use Rattle.state_array.specs.Layout.{entryPlace, place, childPlace}
 use Rattle.state_array.specs.Stored.{noNode, noTree, nodeWord, treeWord, entriesOf, headWord, parts, stored}
@@ -150,18 +150,3 @@ filled-stored a few fewTrees room =
     filled-in-order a few fewTrees room (6 ∷ 7 ∷ 8 ∷ 9 ∷ 10 ∷ 11 ∷ 12 ∷ 13 ∷ 14 ∷ 16 ∷ 17 ∷ 18 ∷ 19 ∷ 20 ∷ 21 ∷ 22 ∷ 23 ∷ 24 ∷ 25 ∷ 26 ∷ 27 ∷ 28 ∷ 29 ∷ 30 ∷ 31 ∷ 32 ∷ 33 ∷ 15 ∷ 34 ∷ 1 ∷ 2 ∷ 3 ∷ 4 ∷ 5 ∷ 0 ∷ []) refl refl
 
 -- ## Regions with the same words
-
--- one start each, and one word at each place below n
-abbrev pub Same : ℕ → List Region → List Region → Type 0
-Same n [] [] = Unit {0}
-Same n [] (h ∷ hs) = ⊥
-Same n (g ∷ gs) [] = ⊥
-Same n (g ∷ gs) (h ∷ hs) = (g .start ≡ h .start) × ((i : ℕ) → i < n → g .word i ≡ h .word i) × Same n gs hs
-
-pub fills-same : (gs hs : List Region) (n : ℕ) (s : List ℕ) → Same n gs hs → fills gs n s ≡ fills hs n s
-fills-same [] [] n s e = refl
-fills-same [] (h ∷ hs) n s e = absurd e
-fills-same (g ∷ gs) [] n s e = absurd e
-fills-same (g ∷ gs) (h ∷ hs) n s e =
-    ap (fills gs n) (ap (λ k. fill k n (g .word) s) (e .0) ∙ fill-cong (h .start) n (g .word) (h .word) s (e .1))
-    ∙ fills-same gs hs n (fill (h .start) n (h .word) s) (e .2)

@@ -18,6 +18,7 @@ use Rattle.base.specs.Tests.{all}
 use Rattle.base.specs.Bytes.{littleEndian, le}
 use Rattle.base.specs.Floats.{isFinite}
 use Rattle.base.proofs.Tests.{both}
+use Rattle.base.proofs.Lists.{all-drop}
 use Rattle.base.proofs.Bytes.{le-one, le-add}
 
 -- ## Floats
@@ -64,15 +65,10 @@ little-byte (suc w) (suc m) (x ∷ s) b h =
     let part : (x + 256 * littleEndian w s) / 256 ≡ littleEndian w s = omega arith in
     rw (pow-succ' 256 m, ← div-div-eq-div-mul (x + 256 * littleEndian w s) 256 (256 ^ m), part) (little-byte w m s (both b .1) (omega arith))
 
-pub bytes-drop : (n : ℕ) (s : List ℕ) → areBytes s ≡ true → areBytes (drop n s) ≡ true
-bytes-drop zero s b = b
-bytes-drop (suc n) [] b = refl
-bytes-drop (suc n) (x ∷ s) b = bytes-drop n s (both b .1)
-
 -- byte m of the number of the w bytes from `at`
 pub le-byte : (w m at : ℕ) (s : List ℕ) → areBytes s ≡ true → m < w → le w s at / 2 ^ (8 * m) % 256 ≡ getD s (at + m) 0
 unfolding le
-le-byte w m at s b h = rw (shift-bytes m, little-byte w m (drop at s) (bytes-drop at s b) h) (getD-drop at s m 0)
+le-byte w m at s b h = rw (shift-bytes m, little-byte w m (drop at s) (all-drop _ at s b) h) (getD-drop at s m 0)
 
 little-below : (w : ℕ) (s : List ℕ) → areBytes s ≡ true → littleEndian w s < 256 ^ w
 unfolding littleEndian
@@ -85,7 +81,7 @@ little-below (suc w) (x ∷ s) b =
 -- a label's word is one of 64 bits
 pub le-below : (s : List ℕ) (at : ℕ) → areBytes s ≡ true → le 8 s at < 2 ^ 64
 unfolding le
-le-below s at b = little-below 8 (drop at s) (bytes-drop at s b)
+le-below s at b = little-below 8 (drop at s) (all-drop _ at s b)
 
 -- the first byte, and the others
 front : (w at : ℕ) (s : List ℕ) → le (suc w) s at ≡ getD s at 0 + 256 * le w s (at + 1)

@@ -1,19 +1,18 @@
 -- Laws of the image of a state: where each word of it stands, and that an array that holds its words is the image. Assumes nothing.
-use mathlib.Core.Bool.{Bool}
 use mathlib.Core.List.{List, [], _∷_, _++_}
-use mathlib.Core.Path.{_≡_, refl, sym, ap, _∙_}
+use mathlib.Core.Path.{_≡_, ap, _∙_}
 use Prim.Native.Nat.{ℕ, zero, suc, _+_, _*_, _≤_, _<_}
 use native.Mathlib.Nat.{mul-zero, mul-suc, zero-add}
 use native.Mathlib.Omega.{arith}
-use lib.ListN.{length, getD, set, length-append, List·getD-append}
-use lib.Seq.{getD-append-add, ext-getD}
+use lib.ListN.{length, getD, List·getD-append}
+use lib.Seq.{getD-append-add}
 use Rattle.base.specs.Tests.{if_then_else_}
 use Rattle.base.specs.Bytes.{listOf}
 use Rattle.base.specs.Regions.{Part, part, wordsOf, image}
-use Rattle.base.proofs.Regions.{part-length, part-at, part-rest}
+use Rattle.base.proofs.Regions.{part-length, part-at}
 use Rattle.state.specs.State.{State}
 use Rattle.state_array.specs.Layout.{countOf, treeCountOf, hostOf, entryPlace, entry, place, word, childPlace, child}
-use Rattle.state_array.specs.Stored.{noNode, noTree, nodeWord, treeWord, entriesOf, headWord, parts, stored}
+use Rattle.state_array.specs.Stored.{noNode, noTree, nodeWord, treeWord, entriesOf, headWord, stored}
 use Rattle.state_array.proofs.Words.{word-there, entry-there, child-there}
 
 -- ## Tables of one size that stand first
@@ -46,24 +45,7 @@ module _ (size used : ℕ) (ps : List Part) where
 
 -- ## How long an image is
 
-abbrev pub sizesOf : List Part → ℕ
-sizesOf [] = 0
-sizesOf (p ∷ ps) = p .size + sizesOf ps
-
-pub image-length : (ps : List Part) → length (image ps) ≡ sizesOf ps
-unfolding image
-image-length [] = refl
-image-length (p ∷ ps) = length-append (wordsOf p) (image ps) ∙ rw (part-length p, image-length ps)
-
 module _ (a : State) where
-  pub stored-length : length (stored a) ≡ 9640
-  unfolding stored listOf
-  stored-length = image-length (parts a)
-
-  -- an array of so many words that are the image's is the image
-  pub stored-ext : (t : List ℕ) → length t ≡ 9640 → ((k : ℕ) → k < 9640 → getD t k 0 ≡ getD (stored a) k 0) → t ≡ stored a
-  stored-ext t l h = ext-getD 0 t (stored a) (l ∙ sym stored-length) (λ k b. h k (rw l at b))
-
   -- ## The four regions
 
   abbrev entryParts : List Part
@@ -136,12 +118,6 @@ module _ (a : State) where
         word-there (stored a) f i h (omega arith) ∙ node-place f i h (omega arith)
         ∙ part-at (part 320 (length (a .forest .nodes)) (nodeWord (a .forest .nodes) f)) i (omega arith) l
 
-    -- past the last node
-    pub stored-unused : i < 320 → length (a .forest .nodes) ≤ i → word (stored a) f i ≡ 0
-    stored-unused l past =
-        word-there (stored a) f i h l ∙ node-place f i h l
-        ∙ part-rest (part 320 (length (a .forest .nodes)) (nodeWord (a .forest .nodes) f)) i l past
-
   module _ (few : length (a .forest .trees) ≤ 32) (j k : ℕ) (h : j < 5) where
     pub stored-entry : k < length (a .forest .trees) → entry (stored a) j k ≡ treeWord (getD (a .forest .trees) k noTree) j
     stored-entry l =
@@ -155,7 +131,3 @@ module _ (a : State) where
         ∙ part-at (part 512 (length (entriesOf (a .forest .nodes))) (λ j. getD (entriesOf (a .forest .nodes)) j noNode .0)) j (omega arith) l
 
 -- ## The host flag is one word
-
-pub stored-set-host : (a : State) (h : Bool) → set (stored a) 2 (if h then 1 else 0) ≡ stored (record { forest = a .forest; hostFocused = h })
-unfolding stored image wordsOf listOf headWord
-stored-set-host a h = refl

@@ -1,10 +1,11 @@
 -- The record's rules for the fields of a slot, word by word. Assumes nothing.
-use mathlib.Core.Bool.{_||_}
+use mathlib.Core.Bool.{true, false, _||_}
 use mathlib.Core.List.{List}
-use mathlib.Core.Path.{_≡_, sym, ap, _∙_}
+use mathlib.Core.Path.{_≡_, _∙_}
 use Prim.Native.Nat.{ℕ, _^_, _<_}
 use lib.Dec.{eqb, leb, ltb}
 use lib.Ieee.{ofBits, binary64}
+use borrow.Author.Tests.{eq-eqb, ne-eqb}
 use Rattle.base.specs.Tests.{_&&_, all}
 use Rattle.base.specs.Bytes.{bit, allBelow}
 use Rattle.base.specs.Floats.{zeroBytes}
@@ -38,6 +39,10 @@ pub fields-indexed : (s : List ℕ) → all (λ n. fieldsOk (n .body)) (view s .
 unfolding view nodeIn
 fields-indexed s = all-indexed (λ n. fieldsOk (n .body)) (slotsOf s) (nodeIn s)
 
--- a word that was read is 0 where its float is all zero bytes
-pub word-zero : (w v : ℕ) → w < 2 ^ 64 → w ≡ v → zeroBytes (ofBits binary64 v) ≡ eqb w 0
-word-zero w v fits e = ap (λ (k : ℕ). zeroBytes (ofBits binary64 k)) (sym e) ∙ bits-zero w fits
+-- a word w that was read, and its float's bytes
+module _ (w v : ℕ) (fits : w < 2 ^ 64) (e : w ≡ v) where
+  pub word-zero : w ≡ 0 → zeroBytes (ofBits binary64 v) ≡ true
+  word-zero z = rw (← e) (bits-zero w fits ∙ eq-eqb w 0 z)
+
+  pub word-nonzero : (w ≡ 0 → ⊥) → zeroBytes (ofBits binary64 v) ≡ false
+  word-nonzero z = rw (← e) (bits-zero w fits ∙ ne-eqb w 0 z)

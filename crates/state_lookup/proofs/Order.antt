@@ -1,17 +1,16 @@
 -- Ids in ascending order: neighbours in order are all in order, an id stands in one slot, and bisection finds it. Assumes nothing.
 use mathlib.Core.Bool.{Bool, true, false}
 use mathlib.Core.List.{List}
-use mathlib.Core.Logic.{_⊎_, inl, inr}
-use mathlib.Core.Path.{_≡_, refl, sym, ap, _∙_}
-use Prim.Native.Nat.{ℕ, zero, suc, _+_, _-_, _≤_, _<_}
-use native.Mathlib.Decide.{decLt}
-use native.Mathlib.Nat.{eq-or-lt-of-le, le-of-suc-le-suc}
+use mathlib.Core.Path.{_≡_, sym, ap, _∙_}
+use Prim.Native.Nat.{ℕ, zero, suc, _+_, _-_, _/_, _≤_, _<_}
+use native.Mathlib.Nat.{le-of-lt}
 use native.Mathlib.Numerals.{add-one}
 use native.Mathlib.Omega.{arith}
 use borrow.Author.Tests.{ltb-true, lt-ltb}
 use Rattle.base.specs.Tests.{position}
 use Rattle.base.specs.Search.{First}
-use Rattle.base.proofs.Tests.{both, joined, iff, clash}
+use Rattle.base.proofs.Cases.{by-order}
+use Rattle.base.proofs.Tests.{both, joined, iff, clash, refuted}
 use Rattle.base.proofs.Bytes.{all-below-at}
 use Rattle.base.proofs.Indexed.{all-below-each}
 use Rattle.base.proofs.Search.{first-position}
@@ -34,89 +33,90 @@ module _ (id : ℕ → FullNodeId) (n : ℕ) (up : ascend n id ≡ true) where
   -- and so are any two
   pub in-order-pair : (i k : ℕ) → i < k → k < n → before (id i) (id k) ≡ true
   in-order-pair i zero h l = absurd (omega arith)
-  in-order-pair i (suc k) h l = go (eq-or-lt-of-le (le-of-suc-le-suc h)) (λ b. in-order-pair i k b (omega arith))
-    where
-      go : (i ≡ k) ⊎ (i < k) → (i < k → before (id i) (id k) ≡ true) → before (id i) (id (suc k)) ≡ true
-      go (inl e) f = rw e (neighbours k l)
-      go (inr b) f = before-trans (id i) (id k) (id (suc k)) (f b) (neighbours k l)
+  in-order-pair i (suc k) h l =
+      by-order i k (λ b. before-trans (id i) (id k) (id (suc k)) (in-order-pair i k b (omega arith)) (neighbours k l))
+      (λ b. let e : i ≡ k = omega arith in rw e (neighbours k l))
 
   module _ (x : FullNodeId) where
-    -- what stands before an id is not it, and what an id stands before is not it
-    not-before : (k : ℕ) → before (id k) x ≡ true → sameId x (id k) ≡ false
-    not-before k b = before-apart (id k) x b
-
-    not-after : (i k : ℕ) → i < k → k < n → before (id i) x ≡ false → sameId x (id k) ≡ false
-    not-after i k h l b = go (sameId x (id k)) refl
-      where
-        go : (c : Bool) → sameId x (id k) ≡ c → c ≡ false
-        go false q = refl
-        go true q = absurd (clash b (rw (same-id→≡ x (id k) q) (in-order-pair i k h l)))
-
     -- where the id stands, a search from the first slot would find it
-    pub stands-first : (i : ℕ) → inSlot n id x i ≡ true → First (λ i. sameId x (id i)) n i
-    unfolding inSlot
-    stands-first i e =
-        let h = ltb-true i n (both e .0) in
-        let at = same-id→≡ x (id i) (both e .1) in
-        record {
-          within = omega arith;
-          passed = λ k l. not-before k (rw at (in-order-pair k i l h));
-          hit = λ _. both e .1;
-        }
+    stands-first : (i : ℕ) → i < n → sameId x (id i) ≡ true → First (λ i. sameId x (id i)) n i
+    stands-first i h e = record {
+      within = omega arith;
+      passed = λ k l. before-apart (id k) x (rw (same-id→≡ x (id i) e) (in-order-pair k i l h));
+      hit = λ _. e;
+    }
 
-    -- a middle that stands before the id: so do all slots before it
-    pub before-middle : (middle : ℕ) → middle < n → before (id middle) x ≡ true
-        → (k : ℕ) → k < middle + 1 → before (id k) x ≡ true
-    before-middle middle h b k l = go (eq-or-lt-of-le (le-of-suc-le-suc (rw add-one at l)))
-      where
-        go : (k ≡ middle) ⊎ (k < middle) → before (id k) x ≡ true
-        go (inl e) = rw e b
-        go (inr m) = before-trans (id k) (id middle) x (in-order-pair k middle m h) b
-
-    -- one that does not: nor does any slot after it
-    pub after-middle : (middle : ℕ) → before (id middle) x ≡ false
-        → (k : ℕ) → middle ≤ k → k < n → before (id k) x ≡ false
-    after-middle middle b k l h = on (eq-or-lt-of-le l)
-      where
-        go : middle < k → (c : Bool) → before (id k) x ≡ c → c ≡ false
-        go m false q = refl
-        go m true q = absurd (clash b (before-trans (id middle) (id k) x (in-order-pair middle k m h) q))
-
-        on : (middle ≡ k) ⊎ (middle < k) → before (id k) x ≡ false
-        on (inl e) = rw (← e) b
-        on (inr m) = go m (before (id k) x) refl
+    -- a slot that stands before the id: so do all slots before it
+    before-slot : (i k : ℕ) → i < n → before (id i) x ≡ true → k ≤ i → before (id k) x ≡ true
+    before-slot i k h b l =
+        by-order k i (λ m. before-trans (id k) (id i) x (in-order-pair k i m h) b) (λ m. let e : k ≡ i = omega arith in rw e b)
 
     -- between the slots that stand before the id and those that do not, the id does not stand: it stands nowhere
-    pub stands-nowhere : (low : ℕ) → ((k : ℕ) → k < low → before (id k) x ≡ true)
+    stands-nowhere : (low : ℕ) → ((k : ℕ) → k < low → before (id k) x ≡ true)
         → ((k : ℕ) → low ≤ k → k < n → before (id k) x ≡ false) → inSlot n id x low ≡ false → First (λ i. sameId x (id i)) n n
     unfolding inSlot
-    stands-nowhere low under over e = record { within = omega arith; passed = λ k l. at k l (decLt k low); hit = λ l. absurd (omega arith) }
+    stands-nowhere low under over e = record {
+      within = omega arith;
+      passed = λ k h. by-order k low (λ l. before-apart (id k) x (under k l)) (λ l. refuted (λ q. elsewhere k h l q));
+      hit = λ l. absurd (omega arith);
+    }
       where
-        here : low < n → (c : Bool) → sameId x (id low) ≡ c → c ≡ false
-        here h false q = refl
-        here h true q = absurd (clash e (joined (lt-ltb low n h) q))
+        elsewhere : (k : ℕ) → k < n → low ≤ k → sameId x (id k) ≡ true → ⊥
+        elsewhere k h l q =
+            by-order low k (λ m. clash (over low (omega arith) (omega arith)) (rw (same-id→≡ x (id k) q) (in-order-pair low k m h)))
+            (λ m. let at : k ≡ low = omega arith in clash e (joined (lt-ltb low n (omega arith)) (rw at at q)))
 
-        past : (k : ℕ) → k < n → (low ≡ k) ⊎ (low < k) → sameId x (id k) ≡ false
-        past k h (inl q) = rw (← q) (here (omega arith) (sameId x (id low)) refl)
-        past k h (inr l) = not-after low k l h (over low (omega arith) (omega arith))
+-- ## Bisection
 
-        at : (k : ℕ) → k < n → Dec (k < low) → sameId x (id k) ≡ false
-        at k h (yes l) = not-before k (under k l)
-        at k h (no l) = let m : low ≤ k = omega arith in past k h (eq-or-lt-of-le m)
+-- The slot of x is looked for between `low` and `high`: in order, the slots below `low` stand before x, and those from `high` on do not.
+pub record Bisected (n : ℕ) (id : ℕ → FullNodeId) (x : FullNodeId) (low high : ℕ) : Type 0 where
+  pub order : low ≤ high
+  pub within : high ≤ n
+  pub under : ascend n id ≡ true → (k : ℕ) → k < low → before (id k) x ≡ true
+  pub over : ascend n id ≡ true → (k : ℕ) → high ≤ k → k < n → before (id k) x ≡ false
 
--- ## What a search by bisection answers
+module _ {n : ℕ} {id : ℕ → FullNodeId} {x : FullNodeId} where
+  pub bisect-start : Bisected n id x 0 n
+  bisect-start = record { order = omega arith; within = omega arith; under = λ up k h. absurd (omega arith); over = λ up k h l. absurd (omega arith) }
 
-module _ (id : ℕ → FullNodeId) (n : ℕ) (x : FullNodeId) where
-  -- a slot where the id stands
-  pub slot-here : (i : ℕ) → inSlot n id x i ≡ true → SlotAmong n id x i
+  -- the id y of the middle slot stands before x, or does not
+  module _ {low high : ℕ} (b : Bisected n id x low high) (apart : low < high) {y : FullNodeId} (is : y ≡ id (low + (high - low) / 2)) {r : Bool}
+      (test : r ≡ before y x) where
+    middle : ℕ
+    middle = low + (high - low) / 2
+
+    pub bisect-low : r ≡ true → Bisected n id x (low + (high - low) / 2 + 1) high
+    unfolding middle
+    bisect-low e = record {
+      order = omega arith;
+      within = b .within;
+      under = λ up k l. before-slot id n up x middle k (omega (arith, b .within)) (rw is at (sym test ∙ e)) (omega arith);
+      over = b .over;
+    }
+
+    pub bisect-high : r ≡ false → Bisected n id x low (low + (high - low) / 2)
+    unfolding middle
+    bisect-high e = record {
+      order = omega arith;
+      within = omega (arith, b .within);
+      under = b .under;
+      over = λ up k l h. refuted (λ q. clash (rw is at (sym test ∙ e)) (before-slot id n up x k middle h q l));
+    }
+
+  -- a slot where the id stands; m is n, in the contract
+  pub slot-here : {i m : ℕ} {r : Bool} → r ≡ inSlot n id x i → n ≡ m → r ≡ true → SlotAmong m id x i
   unfolding inSlot
-  slot-here i e =
-      let h = ltb-true i n (both e .0) in
-      record { within = omega arith; hit = λ _. both e .1; first = λ up. stands-first id n up x i e }
+  slot-here {i} test e q =
+      let there = both (sym test ∙ q) in
+      rw (← e) (record { within = le-of-lt (ltb-true i n (there .0)); hit = λ _. there .1; first = λ up. stands-first id n up x i (ltb-true i n (there .0)) (there .1) })
 
-  -- no slot, where the id stands in none if they ascend
-  pub slot-none : (ascend n id ≡ true → First (λ i. sameId x (id i)) n n) → SlotAmong n id x n
-  slot-none f = record { within = omega arith; hit = λ l. absurd (omega arith); first = f }
+  -- no slot
+  pub slot-none : {low high m : ℕ} {r : Bool} → Bisected n id x low high → high ≤ low → r ≡ inSlot n id x low → n ≡ m → r ≡ false → SlotAmong m id x n
+  slot-none {low} b l test e q = rw (← e) (record {
+    within = omega arith;
+    hit = λ l. absurd (omega arith);
+    first = λ up. stands-nowhere id n up x low (b .under up) (λ k h. b .over up k (omega arith)) (sym test ∙ q);
+  })
 
 -- ## The order of nodes
 

@@ -1,5 +1,5 @@
 -- Laws of what is met one step below a node, for each way out of `kid_at`. Assumes nothing.
-use mathlib.Core.Bool.{true, false}
+use mathlib.Core.Bool.{Bool, true, false, not}
 use mathlib.Core.List.{List, [], _∷_}
 use mathlib.Core.Option.{Option, none, some}
 use mathlib.Core.Path.{_≡_, refl, sym, ap, _∙_}
@@ -7,8 +7,9 @@ use Prim.Native.Nat.{ℕ, zero, suc, _+_, _≤_, _<_}
 use native.Mathlib.Nat.{add-zero, zero-add}
 use native.Mathlib.Numerals.{add-one}
 use native.Mathlib.Omega.{arith}
-use lib.ListN.{drop}
+use lib.ListN.{drop, drop-of-length-le}
 use Rattle.base.specs.Bytes.{bit, listOf}
+use Rattle.base.proofs.Tests.{call-true, call-false}
 use Rattle.ids.specs.declared.NodeId.{NodeId}
 use Rattle.ids.specs.declared.FullNodeId.{FullNodeId}
 use Rattle.state_array.specs.declared.ShapeRow.{ShapeRow}
@@ -54,72 +55,52 @@ onGraft x o = elim o [ none ↦ [] | some v ↦ metUnder x 0 (v .root) ∷ [] ]
 
 -- a graft has one place
 graft-past : (x : FullNodeId) (o : Option SubtreeState) (j : ℕ) → 0 < j → drop j (onGraft x o) ≡ []
-graft-past x none zero h = absurd (omega arith)
-graft-past x none (suc j) h = refl
-graft-past x (some v) zero h = absurd (omega arith)
-graft-past x (some v) (suc zero) h = refl
-graft-past x (some v) (suc (suc j)) h = refl
+graft-past x none j h = drop-of-length-le [] {i = j} (omega arith)
+graft-past x (some v) j h = drop-of-length-le (onGraft x (some v)) h
 
--- of nothing, nothing is left
-drop-nil : (j : ℕ) → drop {A = Met} j [] ≡ []
-drop-nil zero = refl
-drop-nil (suc j) = refl
-
-module _ (s : List ℕ) (p j : ℕ) where
-  -- the node, its row, and what is met below it
+-- the node in slot p, with its row and whether it is a graft, for each way out of `kid_at`
+module _ (s : List ℕ) (p j : ℕ) {d : ShapeRow} (is : d ≡ shapeIn s p) {g : Bool} (test : g ≡ bit 8 (d .flags)) where
+  -- its id, and what is met below it by what it grafts
   abbrev x : FullNodeId
   x = idIn s p
 
-  abbrev d : ShapeRow
-  d = shapeIn s p
-
-  abbrev ms : List Met
-  ms = belowIn s p
-
-  -- what is met by what the node grafts
   abbrev step : Option TreeId → List Met
-  step o = elim o [ none ↦ childrenMet x 0 (childrenOf s (x .node) d) | some t ↦ onGraft x (subtreeOf (view s .forest) t) ]
+  step o = elim o [ none ↦ childrenMet x 0 (childrenOf s (x .node) (shapeIn s p)) | some t ↦ onGraft x (subtreeOf (view s .forest) t) ]
 
-  steps : ms ≡ step (graftIn s p)
+  steps : belowIn s p ≡ step (graftIn s p)
   unfolding below nodeIn bodyIn graft? graftIn
   steps = refl
 
-  -- what a graft meets, and what another node meets
-  steps-graft : bit 8 (d .flags) ≡ true → ms ≡ onGraft x (subtreeOf (view s .forest) (d .graft))
-  steps-graft e = steps ∙ ap step (graft-some s p e)
+  steps-graft : not g ≡ false → belowIn s p ≡ onGraft x (subtreeOf (view s .forest) (d .graft))
+  steps-graft e = steps ∙ rw (graft-some s p (rw is at (call-true test e)), step, is)
 
-  steps-children : bit 8 (d .flags) ≡ false → ms ≡ childrenMet x 0 (childrenOf s (x .node) d)
-  steps-children e = steps ∙ ap step (graft-none s p e)
+  steps-children : not g ≡ true → belowIn s p ≡ childrenMet x 0 (childrenOf s (x .node) d)
+  steps-children e = steps ∙ rw (graft-none s p (rw is at (call-false test e)), step, is)
 
   -- a graft has one place
-  pub kid-past : bit 8 (d .flags) ≡ true → 0 < j → KidSays ms j x kid.Nothing
+  pub kid-past : not g ≡ false → 0 < j → KidSays (belowIn s p) j x kid.Nothing
   unfolding KidSays
-  kid-past e h = ap (drop j) (steps-graft e) ∙ graft-past x (subtreeOf (view s .forest) (d .graft)) j h
+  kid-past e h = rw (steps-graft e) (graft-past x (subtreeOf (view s .forest) (d .graft)) j h)
 
   -- a graft whose tree does not exist, and one whose tree's root is met
-  pub kid-unborn : bit 8 (d .flags) ≡ true → (r : FoundTree) → endsOf r ≡ subtreeOf (view s .forest) (d .graft) → r ≡ tree.Nothing
-      → KidSays ms j x kid.Nothing
-  unfolding KidSays endsOf
-  kid-unborn e r q n = ap (drop j) (steps-graft e ∙ ap (onGraft x) (sym q ∙ ap endsOf n)) ∙ drop-nil j
+  module _ (e : not g ≡ false) {r : FoundTree} (found : endsOf r ≡ subtreeOf (view s .forest) (d .graft)) where
+    pub kid-unborn : r ≡ tree.Nothing → KidSays (belowIn s p) j x kid.Nothing
+    unfolding KidSays endsOf
+    kid-unborn n = rw (steps-graft e ∙ ap (onGraft x) (sym found ∙ ap endsOf n)) (drop-of-length-le [] {i = j} (omega arith))
 
-  pub kid-root : bit 8 (d .flags) ≡ true → j ≡ 0 → (r : FoundTree) (e : Ends) → endsOf r ≡ subtreeOf (view s .forest) (d .graft) → r ≡ tree.At e
-      → KidSays ms j x (kid.At (e .root))
-  unfolding KidSays endsOf
-  kid-root f z r e q n =
-      let is : ms ≡ metUnder x 0 (e .root) ∷ [] = steps-graft f ∙ ap (onGraft x) (sym q ∙ ap endsOf n) in
-      rw (is, z) refl
+    pub kid-root : j ≤ 0 → {v : Ends} → r ≡ tree.At v → KidSays (belowIn s p) j x (kid.At (v .root))
+    unfolding KidSays endsOf
+    kid-root h n = let z : j ≡ 0 = omega arith in rw (z, steps-graft e ∙ ap (onGraft x) (sym found ∙ ap endsOf n))
 
   -- past the last child
-  pub kid-end : bit 8 (d .flags) ≡ false → d .«child_count» ≤ j → KidSays ms j x kid.Nothing
+  pub kid-end : not g ≡ true → d .«child_count» ≤ j → KidSays (belowIn s p) j x kid.Nothing
   unfolding KidSays childrenOf
-  kid-end e h = ap (drop j) (steps-children e) ∙ children-past x 0 (d .«child_count») (λ i. record { 0 = child s (x .node .0) (d .«first_child» + i) }) j h
+  kid-end e h = rw (steps-children e) (children-past x 0 (d .«child_count») (λ i. record { 0 = child s (x .node .0) (d .«first_child» + i) }) j h)
 
   -- the child entry, or the node itself
-  pub kid-child : bit 8 (d .flags) ≡ false → j < d .«child_count» → (own : FullNodeId) (met : NodeId) → own ≡ x
-      → met ≡ record { 0 = child s (own .node .0) (d .«first_child» + j) } → KidSays ms j x (kid.At (record { tree = own .tree; node = met }))
+  pub kid-child : not g ≡ true → j < d .«child_count» → {own : FullNodeId} {met : NodeId} → own ≡ x
+      → met ≡ record { 0 = child s (own .node .0) (d .«first_child» + j) } → KidSays (belowIn s p) j x (kid.At (record { tree = own .tree; node = met }))
   unfolding KidSays childrenOf
-  kid-child e h own met p q =
-      rw (q, p)
-      (ap (drop j) (steps-children e)
-      ∙ children-at x 0 (d .«child_count») (λ i. record { 0 = child s (x .node .0) (d .«first_child» + i) }) j h
-      ∙ rw (zero-add j, add-one j, steps-children e) refl)
+  kid-child e h q r =
+      rw (r, q, steps-children e)
+      (children-at x 0 (d .«child_count») (λ i. record { 0 = child s (x .node .0) (d .«first_child» + i) }) j h ∙ rw (zero-add j, add-one j))

@@ -23,8 +23,8 @@ use Rattle.state_array.specs.Layout.{word, LABEL, FLOATS}
 use Rattle.state_array.specs.View.{labelByte, labelIn, boundsIn, transformIn, bodyIn}
 use Rattle.state_array.specs.Stored.{labelWord, floatsOf, bodyOf, DataFits}
 use Rattle.state_array.specs.declared.Body.{Body}
-use Rattle.state_array.proofs.Labels.{areBytes, le-below, bytes-drop, float-back, float-fits}
-use Rattle.state_array.proofs.Fits.{bytes-take}
+use Rattle.state_array.proofs.Labels.{areBytes, le-below, float-back, float-fits}
+use Rattle.base.proofs.Lists.{all-take, all-drop}
 use Rattle.update_bodies.specs.Bodies.{Bodied, patternsIn}
 use Rattle.base.specs.Floats.{isFinite}
 use Rattle.base.proofs.Tests.{both, joined, and-true}
@@ -77,7 +77,7 @@ module _ (bytes : List ℕ) (byte : areBytes bytes ≡ true) (formed : wellForme
   pub listed-fits : DataFits (listedAt (batchIn bytes) i .body)
   listed-fits = rw said (record {
     fields = record-facts bytes formed i within .fields;
-    bytes = bytes-take (labelLength bytes (recordAt i)) (drop from bytes) (bytes-drop from bytes byte);
+    bytes = all-take _ (labelLength bytes (recordAt i)) (drop from bytes) (all-drop _ from bytes byte);
     floats = rw floats-are (patterns-fit patterns);
   })
 

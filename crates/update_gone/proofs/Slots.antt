@@ -80,7 +80,7 @@ module _ (state : List ℕ) (l : LinkRow) where
         → r ≡ slotAbove state (linkOf l)
     unfolding inSlot
     slot-near count h id same e =
-        slot-under (slot-here (idIn state) (slotsOf state) (l .parent) r (joined (lt-ltb r (slotsOf state) (omega arith)) (ap (sameId (l .parent)) (sym id) ∙ sym same ∙ e)))
+        slot-under (slot-here {id = idIn state} refl refl (joined (lt-ltb r (slotsOf state) (omega arith)) (ap (sameId (l .parent)) (sym id) ∙ sym same ∙ e)))
 
 -- the word of the column
 pub above-is : (state bytes : List ℕ) (c : Scope) (i : ℕ) → i < slotsOf state → slotAbove state (linkOf (linkIn state i)) ≡ aboveWord state bytes c i

@@ -3,12 +3,12 @@ use mathlib.Core.Bool.{Bool, true, false, true≢false}
 use mathlib.Core.List.{List, [], _∷_}
 use mathlib.Core.Option.{none, some}
 use mathlib.Core.Path.{_≡_, refl, sym, ap, _∙_}
-use Prim.Native.Nat.{ℕ, zero, suc, _≤_, _<_}
+use Prim.Native.Nat.{ℕ, zero, suc, _<_}
 use native.Mathlib.Decide.{decLt}
 use native.Mathlib.Omega.{arith}
 use lib.Dec.{ltb}
 use lib.ListN.{length, getD}
-use borrow.Author.Tests.{lt-ltb, le-ltb}
+use borrow.Author.Tests.{lt-ltb}
 use Rattle.base.specs.Tests.{if_then_else_, isSome, all, position}
 use Rattle.base.specs.Search.{First}
 use Rattle.base.proofs.Tests.{both, is-some-if}
@@ -18,7 +18,7 @@ use Rattle.ids.specs.Ids.{sameId, before}
 use Rattle.ids.proofs.Ids.{same-id→≡, same-id-refl, before-apart}
 use Rattle.ids.specs.declared.FullNodeId.{FullNodeId}
 use Rattle.record.specs.Batch.{Batch}
-use Rattle.state.specs.State.{NodeState, idsOf, Forest, find, present, linkAt}
+use Rattle.state.specs.State.{NodeState, idsOf, Forest, find, present}
 use Rattle.state.specs.Sound.{ascending}
 use Rattle.state_array.specs.View.{idIn, linkIn, linkOf, nodeIn, slotsOf, view}
 use Rattle.update.specs.Words.{old}
@@ -66,19 +66,12 @@ module _ (s : Forest) (x : FullNodeId) where
   pub slot-search : (r : ℕ) → First (λ i. sameId x (idAt s i)) (length (s .nodes)) r → r ≡ slotAt s x
   slot-search r h = first-unique (λ i. sameId x (idAt s i)) (length (s .nodes)) r (slotAt s x) h slot-first
 
-  -- at most the number of nodes
-  pub slot-within : slotAt s x ≤ length (s .nodes)
-  slot-within = slot-first .within
-
   -- the node found
   pub slot-found : find x (s .nodes) ≡ (if ltb (slotAt s x) (length (s .nodes)) then some (nodeAt s (slotAt s x)) else none)
   slot-found = find-position (s .nodes) x
 
   pub slot-find : slotAt s x < length (s .nodes) → find x (s .nodes) ≡ some (nodeAt s (slotAt s x))
   slot-find h = slot-found ∙ rw (lt-ltb (slotAt s x) (length (s .nodes)) h)
-
-  pub slot-none : length (s .nodes) ≤ slotAt s x → find x (s .nodes) ≡ none
-  slot-none h = slot-found ∙ rw (le-ltb (slotAt s x) (length (s .nodes)) h)
 
   -- a node is present if it has a slot
   pub slot-present : present (s .nodes) x ≡ ltb (slotAt s x) (length (s .nodes))
@@ -92,15 +85,6 @@ module _ (s : Forest) (x : FullNodeId) where
   -- the id in its slot
   pub slot-id : slotAt s x < length (s .nodes) → idAt s (slotAt s x) ≡ x
   slot-id h = sym (same-id→≡ x (idAt s (slotAt s x)) (slot-first .hit h))
-
-  -- the link that it records
-  pub slot-link : slotAt s x < length (s .nodes) → linkAt (s .nodes) x ≡ nodeAt s (slotAt s x) .parentAndIndex
-  unfolding linkAt
-  slot-link h = rw (slot-find h, linkAt)
-
--- two ids in one slot are one
-pub slot-one : (s : Forest) (x y : FullNodeId) → slotAt s x ≡ slotAt s y → slotAt s x < length (s .nodes) → x ≡ y
-slot-one s x y e h = sym (slot-id s x h) ∙ ap (idAt s) e ∙ slot-id s y (rw e at h)
 
 -- ## Slots of nodes in order
 

@@ -1,12 +1,13 @@
 -- The codes of the outcome's nodes: old nodes that stay, and listed nodes that are new. Assumes nothing.
-use mathlib.Core.Bool.{Bool, true, false, not, _||_, true≢false}
-use mathlib.Core.Path.{_≡_, refl, sym, ap, _∙_}
+use mathlib.Core.Bool.{true, false, not, _||_}
+use mathlib.Core.Path.{_≡_, sym, ap, _∙_}
 use Prim.Native.Nat.{ℕ, suc, _+_, _-_, _≤_, _<_}
 use native.Mathlib.Omega.{arith}
 use lib.ListN.{length}
 use borrow.Author.Tests.{lt-ltb, le-ltb, ltb-true}
-use Rattle.base.specs.Tests.{_&&_, if_then_else_, distinct}
-use Rattle.base.proofs.Tests.{both, not-true}
+use Rattle.base.specs.Tests.{_&&_, distinct}
+use Rattle.base.proofs.Cases.{by-test}
+use Rattle.base.proofs.Tests.{both, not-true, clash, refuted}
 use Rattle.ids.specs.Ids.{sameNode}
 use Rattle.ids.specs.declared.FullNodeId.{FullNodeId}
 use Rattle.record.specs.Batch.{Batch, listedIds}
@@ -18,7 +19,7 @@ use Rattle.update.specs.Outcome.{outcome}
 use Rattle.update.proofs.Gone.{gone-old}
 use Rattle.update.proofs.Outcome.{present-after}
 use Rattle.update_notes.specs.Setting.{Kept}
-use Rattle.update_notes.specs.Codes.{idAt, slotAt, codeId, Coded, codeOf, sourceOf, differs}
+use Rattle.update_notes.specs.Codes.{idAt, slotAt, codeId, Coded, codeOf}
 use Rattle.update_notes.specs.Says.{turnMark}
 use Rattle.update_notes.proofs.Places.{slot-old, slot-id, present-at}
 use Rattle.update_notes.proofs.Marks.{turn-within, turn-here}
@@ -42,11 +43,7 @@ module _ (s : Forest) (b : Batch) where
 
   -- a node that was not there does not go
   pub gone-absent : (x : FullNodeId) → present (s .nodes) x ≡ false → gone s b x ≡ false
-  gone-absent x e = go (gone s b x) refl
-    where
-      go : (t : Bool) → gone s b x ≡ t → t ≡ false
-      go false q = refl
-      go true q = absurd (true≢false (sym (gone-old s b x q) ∙ e))
+  gone-absent x e = refuted (λ q. clash e (gone-old s b x q))
 
   -- ## The codes of ids
 
@@ -68,25 +65,6 @@ module _ (s : Forest) (b : Batch) where
   pub listed-mark : (x : FullNodeId) → listed s b x ≡ true → turnMark s b x ≡ suc (turn s b x)
   unfolding turnMark
   listed-mark x q = rw q
-
-  -- codes and sources are below 384
-  module _ (kept : Kept s) (few : length (b .nodes) ≤ 64) (x : FullNodeId) (there : (old s b x || listed s b x) ≡ true) where
-    either-below : (t : Bool) → (t ≡ true → old s b x ≡ true) → (t ≡ false → listed s b x ≡ true) → (if t then slotAt s x else 320 + turn s b x) < 384
-    either-below true f g = omega (arith, old-slot x (f refl), kept .few-nodes)
-    either-below false f g = omega (arith, turn-within s b x (turn s b x) (listed-mark x (g refl)))
-
-    pub code-few : codeOf s b x < 384
-    unfolding codeOf
-    code-few = either-below (old s b x) (λ e. e) (λ e. rw e at there)
-
-    pub source-few : sourceOf s b x < 384
-    unfolding sourceOf _&&_
-    source-few = either-below (old s b x && not (listed s b x && differs s b (listedAt b (turn s b x)))) (λ e. both e .0) (λ e. other (old s b x) (listed s b x) (differs s b (listedAt b (turn s b x))) there e)
-      where
-        other : (p q d : Bool) → (p || q) ≡ true → (p && not (q && d)) ≡ false → q ≡ true
-        other p true d h e = refl
-        other true false d h e = absurd (true≢false e)
-        other false false d h e = absurd (true≢false (sym h))
 
 module _ (s : Forest) (b : Batch) (kept : Kept s) (few : length (b .nodes) ≤ 64) (u : distinct sameNode (listedIds (b .nodes)) ≡ true) where
   -- ## A node of the outcome
@@ -124,20 +102,14 @@ module _ (s : Forest) (b : Batch) (kept : Kept s) (few : length (b .nodes) ≤ 6
     -- its code
     pub id-coded : Coded s b (codeOf s b x)
     unfolding codeOf
-    id-coded = go (old s b x) refl
-      where
-        go : (t : Bool) → old s b x ≡ t → Coded s b (if t then slotAt s x else 320 + turn s b x)
-        go true q = stays-slot q
-        go false q = new-turn q
+    id-coded = by-test (old s b x) (λ q. rw q (stays-slot q)) (λ q. rw q (new-turn q))
 
     -- which stands for it
     pub id-code : codeId s b (codeOf s b x) ≡ x
     unfolding codeOf
-    id-code = go (old s b x) refl
-      where
-        go : (t : Bool) → old s b x ≡ t → codeId s b (if t then slotAt s x else 320 + turn s b x) ≡ x
-        go true q = let l = old-slot s b x q in code-old s b (slotAt s x) (omega (arith, kept .few-nodes)) ∙ slot-id s x l
-        go false q = new-id q
+    id-code =
+        by-test (old s b x)
+        (λ q. let l = old-slot s b x q in rw q (code-old s b (slotAt s x) (omega (arith, kept .few-nodes)) ∙ slot-id s x l)) (λ q. rw q (new-id q))
 
   -- ## The outcome's nodes, by index
 
@@ -150,9 +122,3 @@ module _ (s : Forest) (b : Batch) (kept : Kept s) (few : length (b .nodes) ≤ 6
 
     pub code-id : codeId s b (codeOf s b (idAt (outcome s b) r)) ≡ idAt (outcome s b) r
     code-id = id-code x (present-at (outcome s b) r l)
-
-    pub code-below : codeOf s b (idAt (outcome s b) r) < 384
-    code-below = code-few s b kept few x (both (stands x (present-at (outcome s b) r l)) .1)
-
-    pub source-below : sourceOf s b (idAt (outcome s b) r) < 384
-    source-below = source-few s b kept few x (both (stands x (present-at (outcome s b) r l)) .1)

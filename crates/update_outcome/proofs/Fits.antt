@@ -3,22 +3,23 @@ use mathlib.Core.Bool.{Bool, true, false}
 use mathlib.Core.List.{List, [], _∷_, map, List·Memᴰ, List·Memᴰ·head, List·Memᴰ·tail}
 use mathlib.Core.Option.{Option, none, some}
 use mathlib.Core.Path.{_≡_, refl, sym, ap, _∙_}
-use Prim.Native.Nat.{ℕ, zero, suc, _-_, _≤_, _<_, _%_}
+use Prim.Native.Nat.{ℕ, _-_, _≤_, _<_}
 use native.Mathlib.Omega.{arith}
 use lib.Dec.{eqb, ltb}
 use lib.Ieee.{fits, ofBits, binary64}
-use lib.Ieee.Bits.{ofBits-fits, is-true}
-use lib.ListN.{length, getD, take, drop, length-map}
+use lib.ListN.{length, getD, drop, length-map}
 use borrow.Author.Tests.{lt-ltb, ltb-true}
-use Rattle.base.specs.Tests.{if_then_else_, all, has, position, firstGiven, sameOption}
-use Rattle.base.specs.Bytes.{listOf}
-use Rattle.base.proofs.Tests.{both, joined, all-member}
+use Rattle.base.proofs.Cases.{by-test, by-option}
+use Rattle.base.specs.Tests.{if_then_else_, all, has, firstGiven, sameOption}
+use Rattle.base.proofs.Tests.{joined, all-member}
+use Rattle.base.proofs.Lists.{all-at, all-index, all-or, all-take, all-drop}
+use Rattle.state_array.proofs.Labels.{float-fits}
 use Rattle.base.proofs.Bytes.{all-list-of}
 use Rattle.ids.specs.Ids.{ROOT, sameTree, sameNode, sameIndex}
 use Rattle.ids.specs.declared.TreeId.{TreeId}
 use Rattle.ids.specs.declared.NodeId.{NodeId}
 use Rattle.ids.specs.declared.FullNodeId.{FullNodeId}
-use Rattle.record.specs.Batch.{NodeData, graft?, fieldsOk, Listed, Batch}
+use Rattle.record.specs.Batch.{NodeData, graft?, fieldsOk, Batch}
 use Rattle.record.specs.Parse.{nodeOf}
 use Rattle.record.specs.Layout.{nodeCount, recordAt, labelLength, labelStart, labelAt}
 use Rattle.record_reader.specs.Reader.{blank, batchIn, listedAt}
@@ -42,32 +43,6 @@ use Rattle.update_outcome.proofs.Room.{entries-few, nodes-few, trees-fe
 -- ## Lists
 
 module _ {A : Type 0} (p : A → Bool) where
-  -- a test that all pass, by index
-  pub all-at : (xs : List A) (d : A) → all p xs ≡ true → (i : ℕ) → i < length xs → p (getD xs i d) ≡ true
-  all-at [] d e i l = absurd (omega arith)
-  all-at (x ∷ xs) d e zero l = both e .0
-  all-at (x ∷ xs) d e (suc i) l = all-at xs d (both e .1) i (omega arith)
-
-  pub all-index : (xs : List A) (d : A) → ((i : ℕ) → i < length xs → p (getD xs i d) ≡ true) → all p xs ≡ true
-  all-index [] d h = refl
-  all-index (x ∷ xs) d h = joined (h 0 (omega arith)) (all-index xs d (λ i l. h (suc i) (omega arith)))
-
-  -- and past the end too
-  all-or : (xs : List A) (d : A) → all p xs ≡ true → p d ≡ true → (i : ℕ) → p (getD xs i d) ≡ true
-  all-or [] d e f i = f
-  all-or (x ∷ xs) d e f zero = both e .0
-  all-or (x ∷ xs) d e f (suc i) = all-or xs d (both e .1) f i
-
-  all-take : (n : ℕ) (xs : List A) → all p xs ≡ true → all p (take n xs) ≡ true
-  all-take zero xs e = refl
-  all-take (suc n) [] e = refl
-  all-take (suc n) (x ∷ xs) e = joined (both e .0) (all-take n xs (both e .1))
-
-  all-drop : (n : ℕ) (xs : List A) → all p xs ≡ true → all p (drop n xs) ≡ true
-  all-drop zero xs e = e
-  all-drop (suc n) [] e = refl
-  all-drop (suc n) (x ∷ xs) e = all-drop n xs (both e .1)
-
   -- a test of what may be there
   abbrev orNone : Option A → Bool
   orNone none = true
@@ -81,12 +56,9 @@ module _ {A : Type 0} (p : A → Bool) where
 or-none-given : {A B : Type 0} (p : B → Bool) (f : A → Option B) (xs : List A) → ((x : A) → List·Memᴰ x xs → orNone p (f x) ≡ true)
     → orNone p (firstGiven f xs) ≡ true
 or-none-given p f [] h = refl
-or-none-given {A} {B} p f (x ∷ xs) h = go (f x) (h x (List·Memᴰ·head refl)) (or-none-given p f xs (λ y m. h y (List·Memᴰ·tail m)))
-  where
-    go : (o : Option B) → orNone p o ≡ true → orNone p (firstGiven f xs) ≡ true
-        → orNone p (elim o as (λ _. Option B) [ none ↦ firstGiven f xs | some y ↦ some y ]) ≡ true
-    go none e r = r
-    go (some y) e r = e
+or-none-given p f (x ∷ xs) h =
+    by-option (f x) (λ q. rw (q, firstGiven) (or-none-given p f xs (λ y m. h y (List·Memᴰ·tail m))))
+    (λ y q. rw (q, firstGiven) (rw q at (h x (List·Memᴰ·head refl))))
 
 -- ## Data
 
@@ -98,20 +70,14 @@ bytesFit d = all (λ x. ltb x 256) (d .label)
 abbrev pub floatsFit : NodeData → Bool
 floatsFit d = all (fits binary64) (floatsOf d)
 
-float-fit : (w : ℕ) → fits binary64 (ofBits binary64 w) ≡ true
-float-fit w = is-true (fits binary64 (ofBits binary64 w)) (ofBits-fits binary64 w)
-
 -- ten that are read from words
 ten-fit : (a b c d e f g h i j : ℕ)
     → all (fits binary64)
     (ofBits binary64 a ∷ ofBits binary64 b ∷ ofBits binary64 c ∷ ofBits binary64 d ∷ ofBits binary64 e ∷ ofBits binary64 f ∷ ofBits binary64 g
     ∷ ofBits binary64 h ∷ ofBits binary64 i ∷ ofBits binary64 j ∷ []) ≡ true
 ten-fit a b c d e f g h i j =
-    joined (float-fit a) (joined (float-fit b) (joined (float-fit c) (joined (float-fit d) (joined (float-fit e)
-    (joined (float-fit f) (joined (float-fit g) (joined (float-fit h) (joined (float-fit i) (joined (float-fit j) refl)))))))))
-
-low-byte : (w : ℕ) → ltb (w % 256) 256 ≡ true
-low-byte w = lt-ltb (w % 256) 256 (omega arith)
+    joined (float-fits a) (joined (float-fits b) (joined (float-fits c) (joined (float-fits d) (joined (float-fits e)
+    (joined (float-fits f) (joined (float-fits g) (joined (float-fits h) (joined (float-fits i) (joined (float-fits j) refl)))))))))
 
 -- of a state's nodes
 view-floats : (state : List ℕ) → all (λ n. floatsFit (n .body)) (forest state .nodes) ≡ true
@@ -120,14 +86,10 @@ view-floats state = all-list-of (λ n. floatsFit (n .body)) (slotsOf state) (nod
 
 view-bytes : (state : List ℕ) → all (λ n. bytesFit (n .body)) (forest state .nodes) ≡ true
 unfolding view nodeIn bodyIn labelIn labelByte
-view-bytes state = all-list-of (λ n. bytesFit (n .body)) (slotsOf state) (nodeIn state) (λ i l. label i)
-  where
-    byte : (t : Bool) (w : ℕ) → ltb (if t then w % 256 else 0) 256 ≡ true
-    byte true w = low-byte w
-    byte false w = lt-ltb 0 256 (omega arith)
-
-    label : (i : ℕ) → all (λ x. ltb x 256) (listOf (word state LABEL-LENGTH i) (labelByte state i)) ≡ true
-    label i = all-list-of (λ x. ltb x 256) (word state LABEL-LENGTH i) (labelByte state i) (λ j l. byte (ltb j 32) _)
+view-bytes state =
+    all-list-of (λ n. bytesFit (n .body)) (slotsOf state) (nodeIn state)
+    (λ i l. all-list-of (λ x. ltb x 256) (word state LABEL-LENGTH i) (labelByte state i)
+    (λ j k. by-test (ltb j 32) (λ t. rw t (omega (arith, lt-ltb))) (λ t. rw t (omega (arith, lt-ltb)))))
 
 -- of a record's nodes
 asked-floats : (bytes : List ℕ) (c : Scope) → all (λ l. floatsFit (l .body)) (asked bytes c .nodes) ≡ true
@@ -166,11 +128,9 @@ view-small state = all-list-of (λ n. small (n .id)) (slotsOf state) (nodeIn sta
 
 view-links : (state : List ℕ) → all (λ n. smallLink (n .parentAndIndex)) (forest state .nodes) ≡ true
 unfolding view nodeIn linkIn linkOf
-view-links state = all-list-of (λ n. smallLink (n .parentAndIndex)) (slotsOf state) (nodeIn state) (λ i l. go i (eqb (linkIn state i .linked) 0))
-  where
-    go : (i : ℕ) (t : Bool) → smallLink (if t then none else some (record { parent = linkIn state i .parent; index = linkIn state i .index })) ≡ true
-    go i true = refl
-    go i false = lt-ltb (linkIn state i .parent .tree .0) 4294967296 (omega arith)
+view-links state =
+    all-list-of (λ n. smallLink (n .parentAndIndex)) (slotsOf state) (nodeIn state)
+    (λ i l. by-test (eqb (linkIn state i .linked) 0) (λ t. rw t) (λ t. rw t (lt-ltb (linkIn state i .parent .tree .0) 4294967296 (omega arith))))
 
 module _ (s : Forest) (b : Batch) (few : length (s .trees) ≤ 32) (ids : all (λ n. small (n .id)) (s .nodes) ≡ true) where
   -- of the batch's nodes
@@ -182,14 +142,11 @@ module _ (s : Forest) (b : Batch) (few : length (s .trees) ≤ 32) (ids : all (�
 
   naming-small : (x : FullNodeId) → smallLink (naming s b x) ≡ true
   unfolding naming
-  naming-small x = go (mine s b x)
-    where
-      by : Listed → ParentAndIndex
-      by l = record { parent = here s b (l .id); index = position sameNode (l .body .children) (x .node) }
-
-      go : (t : Bool) → smallLink (if t then firstGiven (λ (l : Listed). if has sameNode (l .body .children) (x .node) then some (by l) else none) (b .nodes) else none) ≡ true
-      go true = or-none-given (λ l. small (l .parent)) _ (b .nodes) (λ l m. or-none-if (λ k. small (k .parent)) (has sameNode (l .body .children) (x .node)) (by l) (here-small (l .id)))
-      go false = refl
+  naming-small x =
+      by-test (mine s b x)
+      (λ t. rw t (or-none-given (λ l. small (l .parent)) _ (b .nodes)
+      (λ l m. or-none-if (λ k. small (k .parent)) (has sameNode (l .body .children) (x .node)) _ (here-small (l .id)))))
+      (λ t. rw t)
 
   holder-small : (t : TreeId) → orNone small (holder (s .nodes) t) ≡ true
   unfolding holder
@@ -199,11 +156,10 @@ module _ (s : Forest) (b : Batch) (few : length (s .trees) ≤ 32) (ids : all (�
 
   claimed-small : (p : FullNodeId) → orNone small (claimedFrom s b p) ≡ true
   unfolding claimedFrom claimer
-  claimed-small p = go (graftAt (s .nodes) p)
-    where
-      go : (o : Option TreeId) → orNone small (elim o as (λ _. Option FullNodeId) [ none ↦ none | some t ↦ claimer s b t ]) ≡ true
-      go none = refl
-      go (some t) = or-none-given small _ (b .nodes) (λ l m. or-none-if small (sameOption sameTree (claim s b l) (some t)) (here s b (l .id)) (here-small (l .id)))
+  claimed-small p =
+      by-option (graftAt (s .nodes) p) (λ q. rw (q, claimedFrom))
+      (λ t q. rw (q, claimedFrom)
+      (or-none-given small _ (b .nodes) (λ l m. or-none-if small (sameOption sameTree (claim s b l) (some t)) (here s b (l .id)) (here-small (l .id)))))
 
   -- under a holder
   under-small : (o : Option FullNodeId) (l : Option ParentAndIndex) → orNone small o ≡ true → smallLink l ≡ true
@@ -214,50 +170,33 @@ module _ (s : Forest) (b : Batch) (few : length (s .trees) ≤ 32) (ids : all (�
 
   here-link : (x : FullNodeId) (was : Option ParentAndIndex) → smallLink was ≡ true → smallLink (linkHere s b x was) ≡ true
   unfolding linkHere
-  here-link x was h = go (paneRoot s b x) (linkIsCut s b x) (naming s b x) (naming-small x)
-    where
-      go : (p c : Bool) (o : Option ParentAndIndex) → smallLink o ≡ true
-          → smallLink (if p then elim (holder (s .nodes) (b .tree)) as (λ _. Option ParentAndIndex) [ none ↦ none | some g ↦ underGraft g ]
-          else if c then none
-          else elim o as (λ _. Option ParentAndIndex) [ none ↦ was | some l ↦ some l ]) ≡ true
-      go true c o e = under-small (holder (s .nodes) (b .tree)) none (holder-small (b .tree)) refl
-      go false true o e = refl
-      go false false none e = h
-      go false false (some l) e = e
+  here-link x was h =
+      by-test (paneRoot s b x) (λ p. rw p (under-small (holder (s .nodes) (b .tree)) none (holder-small (b .tree)) refl))
+      (λ p. by-test (linkIsCut s b x) (λ c. rw (p, c))
+      (λ c. by-option (naming s b x) (λ o. rw (p, c, o) h) (λ l o. rw (p, c, o) (rw o at (naming-small x)))))
 
   elsewhere-link : (x : FullNodeId) (was : Option ParentAndIndex) → smallLink was ≡ true → smallLink (linkElsewhere s b x was) ≡ true
   unfolding linkElsewhere
   elsewhere-link x none h = refl
-  elsewhere-link x (some l) h = go (sameIndex (l .parent .tree) (x .tree))
-    where
-      go : (t : Bool) → smallLink (if t then some l else elim (claimedFrom s b (l .parent)) as (λ _. Option ParentAndIndex) [ none ↦ some l | some g ↦ underGraft g ]) ≡ true
-      go true = h
-      go false = under-small (claimedFrom s b (l .parent)) (some l) (claimed-small (l .parent)) h
+  elsewhere-link x (some l) h =
+      by-test (sameIndex (l .parent .tree) (x .tree)) (λ t. rw t h)
+      (λ t. rw t (under-small (claimedFrom s b (l .parent)) (some l) (claimed-small (l .parent)) h))
 
   link-small : (x : FullNodeId) (was : Option ParentAndIndex) → smallLink was ≡ true → smallLink (linkAfter s b x was) ≡ true
   unfolding linkAfter
-  link-small x was h = go (mine s b x)
-    where
-      go : (t : Bool) → smallLink (if t then linkHere s b x was else linkElsewhere s b x was) ≡ true
-      go true = here-link x was h
-      go false = elsewhere-link x was h
+  link-small x was h = by-test (mine s b x) (λ t. rw t (here-link x was h)) (λ t. rw t (elsewhere-link x was h))
 
   -- of codes
   code-small : (c : ℕ) → small (codeId s b c) ≡ true
   unfolding codeId
-  code-small c = go (ltb c 320)
-    where
-      go : (t : Bool) → small (if t then idAt s c else here s b (listedAt b (c - 320) .id)) ≡ true
-      go true = all-or (λ n. small (n .id)) (s .nodes) noState ids (lt-ltb 0 4294967296 (omega arith)) c
-      go false = here-small (listedAt b (c - 320) .id)
+  code-small c =
+      by-test (ltb c 320) (λ t. rw t (all-or (λ n. small (n .id)) (s .nodes) noState ids (lt-ltb 0 4294967296 (omega arith)) c))
+      (λ t. rw t (here-small (listedAt b (c - 320) .id)))
 
   code-link-small : (links : all (λ n. smallLink (n .parentAndIndex)) (s .nodes) ≡ true) (c : ℕ) → smallLink (codeLink s b c) ≡ true
   unfolding codeLink
-  code-link-small links c = go (ltb c 320)
-    where
-      go : (t : Bool) → smallLink (if t then nodeAt s c .parentAndIndex else none) ≡ true
-      go true = all-or (λ n. smallLink (n .parentAndIndex)) (s .nodes) noState links refl c
-      go false = refl
+  code-link-small links c =
+      by-test (ltb c 320) (λ t. rw t (all-or (λ n. smallLink (n .parentAndIndex)) (s .nodes) noState links refl c)) (λ t. rw t)
 
 -- ## The outcome
 

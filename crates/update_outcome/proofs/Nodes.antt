@@ -1,14 +1,14 @@
 -- The outcome's nodes by their codes: their links, and where their data comes from. Assumes nothing.
-use mathlib.Core.Bool.{Bool, true, false, not, true≢false}
-use mathlib.Core.Option.{Option, none, some, Option·some-injective}
+use mathlib.Core.Bool.{true, false, not, true≢false}
+use mathlib.Core.Option.{some, Option·some-injective}
 use mathlib.Core.Path.{_≡_, refl, sym, ap, _∙_}
 use Prim.Native.Nat.{ℕ, suc, _+_, _-_, _≤_, _<_}
-use native.Mathlib.Decide.{decLt}
 use native.Mathlib.Omega.{arith}
 use lib.Dec.{ltb}
 use lib.ListN.{length}
 use borrow.Author.Tests.{lt-ltb, le-ltb}
-use Rattle.base.specs.Tests.{_&&_, if_then_else_, isSome, has, distinct}
+use Rattle.base.proofs.Cases.{by-test, by-option, by-order}
+use Rattle.base.specs.Tests.{_&&_, if_then_else_, isSome, distinct}
 use Rattle.base.proofs.Lists.{none-of}
 use Rattle.ids.specs.Ids.{sameNode}
 use Rattle.ids.specs.declared.FullNodeId.{FullNodeId}
@@ -48,12 +48,7 @@ module _ (s : Forest) (b : Batch) where
   -- its link
   pub code-node-link : (c : ℕ) → codeNode c .parentAndIndex ≡ linkAfter s b (codeId s b c) (codeLink s b c)
   unfolding codeNode codeId codeLink nodeAfter relink
-  code-node-link c = go (ltb c 320)
-    where
-      go : (t : Bool) → (if t then nodeAfter s b (nodeAt s c) else relink s b (newNode (c - 320))) .parentAndIndex
-          ≡ linkAfter s b (if t then idAt s c else here s b (listedAt b (c - 320) .id)) (if t then nodeAt s c .parentAndIndex else none)
-      go true = refl
-      go false = refl
+  code-node-link c = by-test (ltb c 320) (λ t. rw t) (λ t. rw t)
 
   -- its data, of an old node
   pub old-node-body : (c : ℕ) → c < 320 → codeNode c .body ≡ bodyAfter s b (nodeAt s c)
@@ -88,16 +83,12 @@ module _ (s : Forest) (b : Batch) where
     -- what is found of a code's node
     pub code-found : (c : ℕ) → Coded s b c → find (codeId s b c) (outcome s b .nodes) ≡ some (codeNode c)
     unfolding old
-    code-found c h = go (decLt c 320)
-      where
-        go : Dec (c < 320) → find (codeId s b c) (outcome s b .nodes) ≡ some (codeNode c)
-        go (yes l) =
-            let p = h .stays l in
-            rw (code-old s b c l, node-old c l) (find-old-outcome s b (kept .ascending) u (nodeAt s c) (find-at s (kept .ascending) c (p .0)) ∙ rw (p .1))
-        go (no l) =
-            let m : 320 ≤ c = omega arith in
-            let p = h .new m in
-            rw (code-new s b c m, node-new c m) (find-new (c - 320) (p .0) (ap (present (s .nodes)) (sym (code-new s b c m)) ∙ p .1))
+    code-found c h =
+        by-order c 320
+        (λ l. let p = h .stays l in
+        rw (code-old s b c l, node-old c l) (find-old-outcome s b (kept .ascending) u (nodeAt s c) (find-at s (kept .ascending) c (p .0)) ∙ rw (p .1)))
+        (λ m. let p = h .new m in
+        rw (code-new s b c m, node-new c m) (find-new (c - 320) (p .0) (ap (present (s .nodes)) (sym (code-new s b c m)) ∙ p .1)))
 
 -- ## Data
 
@@ -105,13 +96,11 @@ module _ (s : Forest) (b : Batch) (n : NodeState) where
   -- the data of a node that is not listed stays
   body-unlisted : listed s b (n .id) ≡ false → bodyAfter s b n ≡ n .body
   unfolding bodyAfter listed _&&_
-  body-unlisted e = go (mine s b (n .id)) (listing (b .nodes) (n .id .node)) (has sameNode (listedIds (b .nodes)) (n .id .node)) (listing-some (b .nodes) (n .id .node)) e
-    where
-      go : (c : Bool) (o : Option NodeData) (l : Bool) → isSome o ≡ l → c && l ≡ false
-          → (if c then elim o [ none ↦ n .body | some d ↦ renewed (n .body) d ] else n .body) ≡ n .body
-      go false o l h e = refl
-      go true none l h e = refl
-      go true (some d) l h e = absurd (true≢false (h ∙ e))
+  body-unlisted e =
+      by-test (mine s b (n .id))
+      (λ t. by-option (listing (b .nodes) (n .id .node)) (λ q. rw (t, q))
+      (λ d q. absurd (true≢false (sym (ap isSome q) ∙ listing-some (b .nodes) (n .id .node) ∙ rw t at e))))
+      (λ t. rw t)
 
   module _ (t : ℕ) (mark : turnMark s b (n .id) ≡ suc t) where
     -- the data of a listed node is renewed
@@ -122,9 +111,7 @@ module _ (s : Forest) (b : Batch) (n : NodeState) where
     -- and differs by value or not
     differs-listed : find (n .id) (s .nodes) ≡ some n → differs s b (listedAt b t) ≡ not (sameData (n .body) (listedAt b t .body))
     unfolding differs
-    differs-listed f =
-        ap (λ (o : Option NodeState). elim o as (λ _. Bool) [ none ↦ false | some m ↦ not (sameData (m .body) (listedAt b t .body)) ])
-        (ap (λ (x : FullNodeId). find x (s .nodes)) (turn-here s b (n .id) t mark) ∙ f)
+    differs-listed f = rw (turn-here s b (n .id) t mark, f, differs)
 
 module _ (s : Forest) (b : Batch) (kept : Kept s) where
   -- data that comes from the batch, and data that comes from a slot
@@ -140,25 +127,13 @@ module _ (s : Forest) (b : Batch) (kept : Kept s) where
   old-source : (c : ℕ) → c < length (s .nodes) → (x : FullNodeId) → idAt s c ≡ x
       → SourceOf s b (if not (listed s b x && differs s b (listedAt b (turn s b x))) then c else 320 + turn s b x) (bodyAfter s b (nodeAt s c))
   unfolding _&&_ renewed
-  old-source c l x at = go (listed s b x) refl
-    where
-      n : NodeState
-      n = nodeAt s c
-
-      t : ℕ
-      t = turn s b x
-
-      go : (m : Bool) → listed s b x ≡ m → SourceOf s b (if not (m && differs s b (listedAt b t)) then c else 320 + t) (bodyAfter s b n)
-      go false q = from-slot c l (bodyAfter s b n) (sym (body-unlisted s b n (ap (listed s b) at ∙ q)))
-      go true q = rw (differs-listed s b n t mark (find-at s (kept .ascending) c l), body-listed s b n t mark) (on (sameData (n .body) (listedAt b t .body)) refl)
-        where
-          mark : turnMark s b (n .id) ≡ suc t
-          mark = ap (turnMark s b) at ∙ listed-mark s b x q
-
-          on : (p : Bool) → sameData (n .body) (listedAt b t .body) ≡ p
-              → SourceOf s b (if not (not p) then c else 320 + t) (renewed (n .body) (listedAt b t .body))
-          on true p = from-slot c l (renewed (n .body) (listedAt b t .body)) (rw p)
-          on false p = from-batch t (turn-within s b (n .id) t mark) (renewed (n .body) (listedAt b t .body)) (rw p)
+  old-source c l x at =
+      by-test (listed s b x)
+      (λ q. let mark : turnMark s b (nodeAt s c .id) ≡ suc (turn s b x) = ap (turnMark s b) at ∙ listed-mark s b x q in
+      rw (q, differs-listed s b (nodeAt s c) (turn s b x) mark (find-at s (kept .ascending) c l), body-listed s b (nodeAt s c) (turn s b x) mark)
+      (by-test (sameData (nodeAt s c .body) (listedAt b (turn s b x) .body)) (λ p. rw p (from-slot c l _ refl))
+      (λ p. rw p (from-batch (turn s b x) (turn-within s b (nodeAt s c .id) (turn s b x) mark) _ refl))))
+      (λ q. rw q (from-slot c l _ (sym (body-unlisted s b (nodeAt s c) (ap (listed s b) at ∙ q)))))
 
 -- ## The outcome's nodes, by index
 
@@ -181,15 +156,12 @@ module _ (s : Forest) (b : Batch) (kept : Kept s) (few : length (b .nodes) ≤ 6
   -- where its data comes from
   pub source-of : SourceOf s b (sourceOf s b (idAt (outcome s b) r)) (nodeAt (outcome s b) r .body)
   unfolding sourceOf _&&_
-  source-of = rw (ap (λ (n : NodeState). n .body) code-node) (go (old s b x) refl)
-    where
-      go : (t : Bool) → old s b x ≡ t
-          → SourceOf s b (if t && not (listed s b x && differs s b (listedAt b (turn s b x))) then slotAt s x else 320 + turn s b x) (codeNode s b (codeOf s b x) .body)
-      go true q =
-          let m = old-slot s b x q in
-          rw (code-slot s b x q, old-node-body s b (slotAt s x) (omega (arith, kept .few-nodes))) (old-source s b kept (slotAt s x) m x (slot-id s x m))
-      go false q =
-          let first : 320 + turn s b x - 320 ≡ turn s b x = omega arith in
-          let mark = new-mark s b kept few u x (present-at (outcome s b) r l) q in
-          rw (code-turn s b x q, new-node-body s b (320 + turn s b x) (omega arith), first)
-          (from-batch s b kept (turn s b x) (turn-within s b x (turn s b x) mark) (listedAt b (turn s b x) .body) refl)
+  source-of =
+      rw (ap (λ (n : NodeState). n .body) code-node)
+      (by-test (old s b x)
+      (λ q. let m = old-slot s b x q in
+      rw (q, code-slot s b x q, old-node-body s b (slotAt s x) (omega (arith, kept .few-nodes))) (old-source s b kept (slotAt s x) m x (slot-id s x m)))
+      (λ q. let first : 320 + turn s b x - 320 ≡ turn s b x = omega arith in
+      let mark = new-mark s b kept few u x (present-at (outcome s b) r l) q in
+      rw (q, code-turn s b x q, new-node-body s b (320 + turn s b x) (omega arith), first)
+      (from-batch s b kept (turn s b x) (turn-within s b x (turn s b x) mark) (listedAt b (turn s b x) .body) refl)))

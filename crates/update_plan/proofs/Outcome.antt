@@ -40,7 +40,7 @@ use Rattle.state.specs.Sound.{ascending}
 use Rattle.update.specs.Reports.{sorted}
 use Rattle.update.proofs.Sorted.{same-members}
 use Rattle.state_array.specs.Stored.{noState}
-use Rattle.update_outcome.proofs.Fits.{all-at}
+use Rattle.base.proofs.Lists.{all-at}
 
 -- an ascending run is a sorted list
 sorted-list-of : (n : ℕ) (f : ℕ → FullNodeId) → Ascends f n → sorted (listOf n f) ≡ true

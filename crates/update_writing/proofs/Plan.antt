@@ -26,7 +26,7 @@ use Rattle.update_writing.specs.Written.{nodesAfter}
 use native.Mathlib.Decide.{decLt}
 use Rattle.state_array.specs.declared.Body.{Body}
 use Rattle.update_notes.proofs.Setting.{batched-at}
-use Rattle.update_outcome.proofs.Fits.{all-at}
+use Rattle.base.proofs.Lists.{all-at}
 use Rattle.update_bodies.specs.Bodies.{BodyIs}
 
 module _ {state bytes : List ℕ} {c : Scope} {notes : List ℕ} (told : Told PLANNED state bytes c notes) where

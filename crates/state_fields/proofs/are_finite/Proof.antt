@@ -1,54 +1,17 @@
 -- `state_fields::are_finite` meets its contract: each word passed is a finite number's pattern. Assumes nothing.
-use mathlib.Core.Bool.{true}
-use mathlib.Core.Path.{_≡_, sym, ap, _∙_}
-use Prim.Native.Nat.{_≤_, _-_}
-use native.Mathlib.Omega.{arith}
+use Prim.Native.Nat.{_+_, _-_}
 use borrow.Author.Needs.{needs}
-use Rattle.base.proofs.Bytes.{all-below-none, all-below-more, all-below-fails}
-use Rattle.base.proofs.Indexed.{all-below-end}
-use lib.Ieee.{ofBits, binary64}
 use Rattle.base.specs.Floats.{isFinite}
-use Rattle.base.proofs.Tests.{call-true, call-false}
-use Rattle.state_fields.specs.Fields.{finiteFrom}
+use Rattle.base.proofs.Scan.{Passed, scan}
+use Rattle.state_array.specs.View.{floatIn}
 use Rattle.state_fields.proofs.are_finite.Statement.{statement}
 use Rattle.state_fields.proofs.are_finite.Tie as tie
 
 abbrev Inv-loop : tie.InvT-loop
-Inv-loop state i from n k₀ k = (k ≤ n) × (finiteFrom state i from k ≡ true)
+Inv-loop state i from n k₀ k = Passed (λ j. isFinite (floatIn state i (from + j))) n k
 
 abbrev μ-loop : tie.MeasureT-loop
 μ-loop state i from n k₀ k = n - k
-
-loop-holds : tie.Need-loop-holds Inv-loop μ-loop
-loop-holds c = (omega arith, all-below-none _)
-
-add-word-at : tie.Need-add-word-at Inv-loop μ-loop
-add-word-at c = omega arith
-
-add-word-at-2 : tie.Need-add-word-at-2 Inv-loop μ-loop
-add-word-at-2 c = omega arith
-
-returns : tie.Need-returns Inv-loop μ-loop
-returns c =
-    sym
-    (all-below-fails _ _ _ (omega arith)
-    (call-false (c .before .finite-bits .ensures ∙ ap (λ w. isFinite (ofBits binary64 w)) (c .before .before .word-at .ensures)) (c .if1 .taken)))
-
-add-k : tie.Need-add-k Inv-loop μ-loop
-add-k c = omega arith
-
-loop-less : tie.Need-loop-less Inv-loop μ-loop
-loop-less c = omega arith
-
-loop-again : tie.Need-loop-again Inv-loop μ-loop
-loop-again c = (
-  omega arith,
-  all-below-more _ _ (c .before .before .before .before .loop .inv .1)
-      (call-true (c .before .finite-bits .ensures ∙ ap (λ w. isFinite (ofBits binary64 w)) (c .before .before .word-at .ensures)) (c .if1 .left)),
-)
-
-returns-2 : tie.Need-returns-2 Inv-loop μ-loop
-returns-2 c = sym (all-below-end _ _ _ (omega arith) (c .before .loop .inv .1))
 
 pub are-finite-spec : {M : Type 1} → statement M
 are-finite-spec =
@@ -56,13 +19,13 @@ are-finite-spec =
     (tie.spec
     Inv-loop
     μ-loop
-    loop-holds
-    add-word-at
-    add-word-at-2
+    (λ c. search scan)
+    (λ c. search needs)
+    (λ c. search needs)
     (λ c κs. search needs)
     (λ c κs. search needs)
-    returns
-    add-k
-    loop-less
-    loop-again
-    returns-2)
+    (λ c. search (scan, ← c .before .before .word-at .ensures))
+    (λ c. search needs)
+    (λ c. search needs)
+    (λ c. search (scan, ← c .before .before .word-at .ensures))
+    (λ c. search scan))

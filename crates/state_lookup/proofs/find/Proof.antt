@@ -4,8 +4,5 @@ use borrow.Author.Needs.{needs}
 use Rattle.state_lookup.proofs.find.Statement.{statement}
 use Rattle.state_lookup.proofs.find.Tie as tie
 
-returns : tie.Need-returns
-returns c = slot-of-place _ (c .before .args .id) _ (c .before .pre) (c .slot-of .ensures)
-
 pub find-spec : {M : Type 1} → statement M
-find-spec = tie.close (tie.spec (λ c κs. search needs) returns)
+find-spec = tie.close (tie.spec (λ c κs. search needs) (λ c. search (needs, slot-of-place)))

@@ -1,22 +1,12 @@
 -- `state_sound::shape_is_sound` meets its contract: the rules that do not go down, and the way down. Assumes nothing.
 use denote.Ref.{now}
-use mathlib.Core.Path.{sym, _∙_}
-use Rattle.base.proofs.Tests.{call-true, call-false}
+use borrow.Author.Needs.{needs}
 use Rattle.base.specs.Tests.{_&&_}
+use Rattle.base.proofs.Tests.{call-true}
 use Rattle.state_lookup.proofs.Order.{ordered-is}
 use Rattle.state_sound.proofs.Decide.{shape-ordered, shape-unordered}
-use borrow.Author.Needs.{needs}
 use Rattle.state_sound.proofs.shape_is_sound.Statement.{statement}
 use Rattle.state_sound.proofs.shape_is_sound.Tie as tie
-
-returns : tie.Need-returns
-returns c = sym (shape-unordered (now (c .before .before .args .state)) (call-false (c .before .ordered .ensures) (c .if1 .taken)))
-
-trees-are-sound-requires : tie.Need-trees-are-sound-requires
-trees-are-sound-requires c κs = sym (ordered-is _) ∙ call-true (c .before .ordered .ensures) (c .if1 .left)
-
-is-linked-requires : tie.Need-is-linked-requires
-is-linked-requires c κs = sym (ordered-is _) ∙ call-true (c .before .before .ordered .ensures) (c .before .if1 .left)
 
 returns-2 : tie.Need-returns-2
 unfolding _&&_
@@ -26,4 +16,10 @@ returns-2 c =
 
 pub shape-is-sound-spec : {M : Type 1} → statement M
 shape-is-sound-spec =
-    tie.close (tie.spec (λ c κs. search needs) returns trees-are-sound-requires is-linked-requires returns-2)
+    tie.close
+    (tie.spec
+    (λ c κs. search needs)
+    (λ c. search (needs, shape-unordered))
+    (λ c κs. rw (← ordered-is _) (call-true (c .before .ordered .ensures) (c .if1 .left)))
+    (λ c κs. rw (← ordered-is _) (call-true (c .before .before .ordered .ensures) (c .before .if1 .left)))
+    returns-2)
