@@ -34,7 +34,7 @@ module _ (s : List ℕ) (x : FullNodeId) where
   asked-found i h =
       let up = sym (ordered-is s) ∙ in-order s (h .is-sound) in
       let at : sameId x (idIn s i) ≡ true = rw (h .id-is) (same-id-refl x) in
-      find-there s x i (stands-first (idIn s) (slotsOf s) up x i (joined (lt-ltb i (slotsOf s) (h .within)) at)) (h .within)
+      find-there s x i (stands-first (idIn s) (slotsOf s) up x i (h .within) at) (h .within)
 
   -- the slot holds the node with its id
   pub asked-here : (i : ℕ) → NodeAt s x i → NodeAt s (idIn s i) i

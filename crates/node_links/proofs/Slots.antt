@@ -60,7 +60,7 @@ module _ (s : List ℕ) (h : Sound s) where
   -- a node stands in its slot alone
   pub slot-first : (i : ℕ) → i < slotsOf s → First (standsAt s (idIn s i)) (slotsOf s) i
   unfolding inSlot
-  slot-first i l = stands-first (idIn s) (slotsOf s) in-order (idIn s i) i (joined (lt-ltb i (slotsOf s) l) (same-id-refl (idIn s i)))
+  slot-first i l = stands-first (idIn s) (slotsOf s) in-order (idIn s i) i l (same-id-refl (idIn s i))
 
   -- the node in a slot is the node of its id
   pub slot-found : (i : ℕ) → i < slotsOf s → find (idIn s i) (view s .forest .nodes) ≡ some (nodeIn s i)

@@ -16,7 +16,7 @@ use Rattle.state.specs.Down.{Met, metUnder, childrenMet, below, belowId, wayDow
 use Rattle.state.proofs.State.{find-id}
 use Rattle.state.proofs.Sound.{Shape, Root, root-of-shape}
 use Rattle.state.proofs.Down.{Descent, descent, some-met, below-met}
-use Rattle.state.proofs.Family.{child, climb-ends, linked-present}
+use Rattle.state.proofs.Family.{child, linked-present}
 use Rattle.questions.specs.Links.{childIds, ancestorsWithin, ancestors, hiddenAt, isHidden}
 
 -- ## Places in lists
@@ -212,6 +212,11 @@ module _ (s : Forest) (h : Shape s) where
 
   -- ## Climbing
 
+  -- climbing from a present node comes, in fewer steps than there are nodes, to one that records no link
+  climb-ends : (x : FullNodeId) → present (s .nodes) x ≡ true
+      → (k : ℕ) × (k < length (s .nodes)) × (linkAt (s .nodes) (climb k (s .nodes) x) ≡ none)
+  climb-ends x there = let z = d .climbs x there in (z .0, z .1, ap (linkAt (s .nodes)) (z .2) ∙ d .parentless)
+
   -- a node without a link has no ancestors
   pub ancestors-end : (x : FullNodeId) → linkAt (s .nodes) x ≡ none → ancestors s x ≡ []
   unfolding ancestors
@@ -221,14 +226,14 @@ module _ (s : Forest) (h : Shape s) where
   pub ancestors-step : (x : FullNodeId) (l : ParentAndIndex) → linkAt (s .nodes) x ≡ some l → ancestors s x ≡ l .parent ∷ ancestors s (l .parent)
   unfolding ancestors
   ancestors-step x l q =
-      let z = climb-ends s h x (linked-present (s .nodes) x l q) in
+      let z = climb-ends x (linked-present (s .nodes) x l q) in
       within-step (s .nodes) (length (s .nodes)) (z .0) x l q (z .1) (z .2)
 
   -- there are fewer than nodes
   pub ancestors-few : (x : FullNodeId) → present (s .nodes) x ≡ true → length (ancestors s x) < length (s .nodes)
   unfolding ancestors
   ancestors-few x there =
-      let z = climb-ends s h x there in
+      let z = climb-ends x there in
       omega (arith, z .1, within-few (s .nodes) (length (s .nodes)) (z .0) x (z .2))
 
   -- a child is present, and its ancestors are its parent and the parent's

@@ -39,7 +39,7 @@ module _ (id : ℕ → FullNodeId) (n : ℕ) (up : ascend n id ≡ true) where
 
   module _ (x : FullNodeId) where
     -- where the id stands, a search from the first slot would find it
-    stands-first : (i : ℕ) → i < n → sameId x (id i) ≡ true → First (λ i. sameId x (id i)) n i
+    pub stands-first : (i : ℕ) → i < n → sameId x (id i) ≡ true → First (λ i. sameId x (id i)) n i
     stands-first i h e = record {
       within = omega arith;
       passed = λ k l. before-apart (id k) x (rw (same-id→≡ x (id i) e) (in-order-pair k i l h));

@@ -32,7 +32,7 @@ use Rattle.update_outcome.proofs.Codes.{code-old, code-new, code-listed, gone-a
 use Rattle.update_plan.specs.Plan.{codeIn, Codes, Among, Planned, CODED, Ascends}
 use Rattle.base.specs.Bytes.{listOf}
 use Rattle.base.proofs.Tests.{both, joined, iff, at-position}
-use Rattle.base.proofs.Lists.{has-list-of}
+use Rattle.base.proofs.Lists.{has-list-of, all-at}
 use Rattle.base.proofs.Bytes.{length-list-of, list-of-at, all-list-of}
 use Rattle.ids.proofs.Ids.{same-id→≡, same-id-refl}
 use Rattle.ids.specs.declared.FullNodeId.{FullNodeId}
@@ -40,7 +40,6 @@ use Rattle.state.specs.Sound.{ascending}
 use Rattle.update.specs.Reports.{sorted}
 use Rattle.update.proofs.Sorted.{same-members}
 use Rattle.state_array.specs.Stored.{noState}
-use Rattle.base.proofs.Lists.{all-at}
 
 -- an ascending run is a sorted list
 sorted-list-of : (n : ℕ) (f : ℕ → FullNodeId) → Ascends f n → sorted (listOf n f) ≡ true
