@@ -1,5 +1,5 @@
 -- A walk meets no more nodes than there are, so its list is no longer. Assumes nothing.
-use mathlib.Core.Bool.{true}
+use mathlib.Core.Bool.{Bool, true, false}
 use mathlib.Core.List.{List, [], _∷_, _++_, map, reverse, flatMap, map-append, reverse-cons, List·Memᴰ, List·Memᴰ·head, List·Memᴰ·tail}
 use mathlib.Core.Option.{Option, none, some}
 use mathlib.Core.Path.{_≡_, refl, sym, ap, _∙_, subst}
@@ -8,6 +8,7 @@ use native.Mathlib.Omega.{arith}
 use lib.ListN.{length, getD, take, drop, length-append, take-append-drop}
 use lib.Seq.{drop-cons, take-suc}
 use borrow.Author.Tests.{leb-true}
+use Rattle.base.specs.Tests.{if_then_else_}
 use Rattle.base.proofs.Sums.{sumOver, sum-most}
 use Rattle.ids.specs.declared.FullNodeId.{FullNodeId}
 use Rattle.state.specs.State.{ParentAndIndex, Forest, present, linkAt}
@@ -20,12 +21,12 @@ use Rattle.questions.specs.declared.Side.the-variants.{Following, Preced
 use Rattle.questions.specs.declared.FilterResult.{FilterResult}
 use Rattle.questions.specs.declared.FilterResult.the-variants.{Include, ExcludeNode, ExcludeSubtree}
 use Rattle.questions.specs.Links.{childIds, beside, siblings, ancestors}
-use Rattle.questions.specs.Walks.{turned, shownWithin, shown}
+use Rattle.questions.specs.Walks.{turned, leading, shownWithin, shown, isExcludedNode, climbed, hasFilteredSiblings, filteredSiblings}
 use Rattle.questions.specs.Ahead.{ahead}
 use Rattle.questions.proofs.Links.{link-child, ancestors-step, ancestors-few}
 use Rattle.questions.proofs.Ahead.{siblings-of, ahead-top}
 use Rattle.questions.proofs.Walks.{gather}
-use Rattle.questions.proofs.Shown.{everything, mass, mass-step, mass-into, mass-past}
+use Rattle.questions.proofs.Shown.{everything, mass, mass-step, mass-into, mass-past, climbed-ahead}
 
 -- ## Sums over parts of a list
 
@@ -265,6 +266,15 @@ module _ (side : Side) (s : Forest) where
       pub ahead-few : length (flatMap (shown filter side s) (ahead side s level x)) ≤ length (s .nodes)
       ahead-few =
           omega (arith, shown-few filter (ahead side s level x), mass-past side s h x there (ahead side s level x), met-few h level x there)
+
+    -- and so are the filtered siblings
+    pub filtered-few : (filter : FullNodeId → FilterResult) → length (filteredSiblings filter side s x) ≤ length (s .nodes)
+    unfolding filteredSiblings
+    filtered-few filter = go (hasFilteredSiblings filter s x)
+      where
+        go : (b : Bool) → length (if b then flatMap (shown filter side s) (flatMap (siblings side s) (climbed filter s x)) else []) ≤ length (s .nodes)
+        go true = rw (climbed-ahead filter side s x) (ahead-few filter (length (leading (isExcludedNode filter) (ancestors s x))))
+        go false = omega arith
 
 pub kids-few : (s : Forest) → Shape s → (x : FullNodeId) → present (s .nodes) x ≡ true → length (childIds s x) ≤ length (s .nodes)
 unfolding turned
