@@ -66,45 +66,79 @@ CHANGES = [
     ('a batch sets the host flag', 'update_writing', 'next[state_array::HOST] = host;', 'next[state_array::HOST] = 1;'),
     ('bytes of a label that is cut are left', 'state_array', 'low_bytes(word_at(state, LABEL + k, i), length - from)', 'word_at(state, LABEL + k, i)'),
     ('the added ids are written before 21', 'update_reports', '    if !fit {\n', '    if !fit {\n        if 1 < changes.len() {\n            changes[0] = 0;\n        }\n'),
-    ('21 hands back the blank state', 'cartgravel', '        return refused(21);', '        clear(state);\n        return refused(21);'),
-    ('a refused start leaves what it made', 'cartgravel', '        clear(state);\n        return refused(refusal.number);', '        return refused(refusal.number);'),
+    ('21 hands back the blank state', 'calls', '        return refused(21);', '        clear(state);\n        return refused(21);'),
+    ('a refused start leaves what it made', 'calls', '        clear(state);\n        return refused(refusal.number);', '        return refused(refusal.number);'),
 ]
 
-# Reaches the library's functions, so that they are compiled.
-PROGRAM = '''fn main() {
+# The library's functions after `cartgravel_`: what C's answer is called, and the arguments.
+FUNCTIONS = {
+    'start': ('reply', 'state batch number'), 'update': ('reply', 'state batch changes'), 'host_focus': ('reply', 'state number'),
+    'focus': ('found', 'asked'), 'root': ('found', 'asked'), 'counts': ('counts_answer', 'asked'),
+    'tree_id': ('tree_answer', 'asked index'), 'tree_index': ('index_answer', 'asked tree'), 'tree_ends': ('ends_answer', 'asked index'),
+    'node': ('node_answer', 'asked id'), 'label': ('listed', 'asked id label'),
+    'parent': ('found', 'asked id'), 'children': ('listed', 'asked id ids'),
+    'hidden': ('flag', 'asked id'), 'transform': ('transform_answer', 'asked id'), 'bounding_box': ('box_answer', 'asked id'),
+    'filter': ('filter_answer', 'asked id number'), 'filtered_parent': ('found', 'asked id number'),
+    'first_filtered_child': ('found', 'asked id number'), 'last_filtered_child': ('found', 'asked id number'),
+    'deepest_first_filtered_child': ('found', 'asked id number'), 'deepest_last_filtered_child': ('found', 'asked id number'),
+    'siblings': ('listed', 'asked id number ids'), 'filtered_children': ('listed', 'asked id number ids'),
+    'filtered_siblings': ('listed', 'asked id number other ids'), 'next': ('found', 'walk asked'),
+}
+# An argument as the program below gives it.
+GIVEN = {'state': '&mut state', 'asked': '&state', 'batch': '&b', 'changes': '&mut lent', 'ids': '&mut lent', 'label': '&mut bytes', 'number': '1', 'other': '1',
+         'index': 'ids::TreeIndex(1)', 'tree': 'ids::TreeId { high: 0, low: 0 }', 'id': 'ids::FullNodeId { tree: ids::TreeIndex(0), node: ids::NodeId(1) }',
+         'walk': '&mut walk'}
+
+
+def path_of(name):
+    """Where the library has a function: in lib.rt or in a module."""
+    folder = f'{REPOSITORY}/crates/cartgravel/src'
+    found = [f[:-3] for f in os.listdir(folder) if re.search(rf'\bfn cartgravel_{name}\b', read(f'{folder}/{f}'))]
+    module = '' if found == ['lib'] else f'{found[0]}::'
+    return f'cartgravel::{module}cartgravel_{name}'
+
+
+def program():
+    """Reaches the library's functions, so that they are compiled."""
+    lines = [f'    said += {path_of(name)}({", ".join(GIVEN[a] for a in words.split())}).number as u64;' for name, (_, words) in FUNCTIONS.items()]
+    return '''fn main() {
     let b = [0u8; 3];
     let mut lent = [0u64; 9];
+    let mut bytes = [0u8; 9];
     let mut state = [0u64; 9640];
-    let a = cartgravel::cartgravel_start(&mut state, &b, 1);
-    let d = cartgravel::cartgravel_update(&mut state, &b, &mut lent);
-    let e = cartgravel::cartgravel_host_focus(&mut state, 1);
-    io::print_decimal(1, (a.number + d.number + e.number) as u64);
+    let mut said = 0u64;
+    let mut walk = questions::Walk {
+        node: ids::FullNodeId { tree: ids::TreeIndex(0), node: ids::NodeId(1) },
+        side: 0,
+        filter: 0,
+        count: 0,
+    };
+''' + '\n'.join(lines) + '''
+    io::print_decimal(1, said);
 }
 '''
-# In a build without proofs slices and replies are behind pointers.
-BOUNDARY = '''#include "cartgravel.h"
-struct slice { const void *at; size_t length; };
-void unproved_start(cartgravel_reply *, cartgravel_state *, const struct slice *, uint32_t);
-void unproved_update(cartgravel_reply *, cartgravel_state *, const struct slice *, const struct slice *);
-void unproved_host_focus(cartgravel_reply *, cartgravel_state *, uint32_t);
-cartgravel_reply cartgravel_start(cartgravel_state *state, const uint8_t *batch, size_t length, uint32_t host_focused) {
-    cartgravel_reply reply;
-    const struct slice record = {batch, length};
-    unproved_start(&reply, state, &record, host_focused);
-    return reply;
+
+# An argument in C, in a build without proofs (where slices, structs and answers are behind pointers), and how one becomes the other.
+CROSSES = {
+    'state': ('cartgravel_state *state', 'cartgravel_state *', 'state'), 'asked': ('const cartgravel_state *state', 'const cartgravel_state *', 'state'),
+    'batch': ('const uint8_t *batch, size_t length', 'const struct slice *', '&(struct slice){batch, length}'),
+    'changes': ('uint64_t *changes, size_t room', 'const struct slice *', '&(struct slice){changes, room}'),
+    'ids': ('uint64_t *out, size_t room', 'const struct slice *', '&(struct slice){out, room}'),
+    'label': ('uint8_t *out, size_t room', 'const struct slice *', '&(struct slice){out, room}'),
+    'number': ('uint32_t number', 'uint32_t', 'number'), 'other': ('uint32_t other', 'uint32_t', 'other'),
+    'index': ('uint32_t index', 'const uint32_t *', '&index'), 'tree': ('cartgravel_uuid tree', 'const cartgravel_uuid *', '&tree'),
+    'id': ('cartgravel_node_id id', 'const cartgravel_node_id *', '&id'), 'walk': ('cartgravel_walk *walk', 'cartgravel_walk *', 'walk'),
 }
-cartgravel_reply cartgravel_update(cartgravel_state *state, const uint8_t *batch, size_t length, uint64_t *changes, size_t room) {
-    cartgravel_reply reply;
-    const struct slice record = {batch, length}, lent = {changes, room};
-    unproved_update(&reply, state, &record, &lent);
-    return reply;
-}
-cartgravel_reply cartgravel_host_focus(cartgravel_state *state, uint32_t host_focused) {
-    cartgravel_reply reply;
-    unproved_host_focus(&reply, state, host_focused);
-    return reply;
-}
-'''
+
+
+def boundary():
+    """The functions as C has them, over those of a build without proofs."""
+    out = ['#include "cartgravel.h"', 'struct slice { const void *at; size_t length; };']
+    for name, (answer, words) in FUNCTIONS.items():
+        c, unproved, given = zip(*(CROSSES[a] for a in words.split()))
+        out += [f'void unproved_{name}(cartgravel_{answer} *, {", ".join(unproved)});', f'cartgravel_{answer} cartgravel_{name}({", ".join(c)}) {{',
+                f'    cartgravel_{answer} answer;', f'    unproved_{name}(&answer, {", ".join(given)});', '    return answer;', '}']
+    return '\n'.join(out) + '\n'
 
 
 # ## The library, built without proofs
@@ -138,6 +172,7 @@ def copy_sources(folder, change):
             if change and source_file(change[1]) == f'{source}/{name}':
                 text = text.replace(change[2], change[3])
             text = re.sub(r'^ghost use .*\n', '', text, flags=re.M)
+            text = re.sub(r'^mod ', 'pub mod ', text, flags=re.M)
             write(f'{folder}/{crate}/{name}', re.sub(r'^    (requires|ensures)\b.*\n', '', text, flags=re.M))
         words += ['--lib', f'{crate}={folder}/{crate}/lib.rt']
     return words
@@ -150,7 +185,7 @@ def build(folder, change):
     for sub in ('program', 'tools/bin', 'saved'):
         os.makedirs(f'{folder}/{sub}')
     words = [w for n in ('std', 'io', 'libc') for w in ('--lib', f'{n}={kit}/libs/{n}/src/lib.rt')] + copy_sources(folder, change)
-    write(f'{folder}/program/main.rt', PROGRAM)
+    write(f'{folder}/program/main.rt', program())
     os.symlink(f'{on}/toolchain/lib', f'{folder}/tools/lib')
     os.symlink(f'{on}/toolchain/bin/llvm-ar', f'{folder}/tools/bin/llvm-ar')
     keep = f'for a in "$@"; do case $a in *.bc) cp -n "$a" {folder}/saved/;; esac; done\n'
@@ -162,11 +197,11 @@ def build(folder, change):
         sys.exit(said.stdout + said.stderr)
     clang = f'{on}/toolchain/bin/clang'
     subprocess.run([clang, '-S', '-emit-llvm', '-x', 'ir', f'{folder}/saved/module.bc', '-o', f'{folder}/library.ll', '-O0', '-Xclang', '-disable-llvm-passes'], check=True, stderr=subprocess.DEVNULL)
-    text = re.sub(r'define internal ([^\n]*@"cartgravel::cartgravel_\w+")', r'define \1', read(f'{folder}/library.ll'))
+    text = re.sub(r'define internal ([^\n]*@"cartgravel::(?:\w+::)?cartgravel_\w+")', r'define \1', read(f'{folder}/library.ll'))
     text = re.sub(r'define ([^\n]*@main\()', r'define internal \1', text)
-    write(f'{folder}/library.ll', re.sub(r'@"cartgravel::cartgravel_(\w+)"', r'@unproved_\1', text))
+    write(f'{folder}/library.ll', re.sub(r'@"cartgravel::(?:\w+::)?cartgravel_(\w+)"', r'@unproved_\1', text))
     subprocess.run([clang, '--target=x86_64-unknown-linux-gnu', '-march=x86-64', '-c', '-x', 'ir', f'{folder}/library.ll', '-o', f'{folder}/library.o', '-fPIC', '-O3'], check=True)
-    write(f'{folder}/boundary.c', BOUNDARY)
+    write(f'{folder}/boundary.c', boundary())
     subprocess.run(['cc', '-O2', '-fPIC', '-c', f'{folder}/boundary.c', '-I', f'{REPOSITORY}/include', '-o', f'{folder}/boundary.o'], check=True)
     subprocess.run([f'{on}/toolchain/bin/llvm-ar', 'rcs', f'{folder}/libcartgravel.a', f'{folder}/library.o', f'{folder}/boundary.o'], check=True)
 
