@@ -1,0 +1,15 @@
+-- `iterators::list_from` meets its contract: the buffer holds the list. Assumes nothing.
+use native.Mathlib.Omega.{arith}
+use borrow.Author.Needs.{needs}
+use Rattle.iterators.proofs.Lists.{puts-collected}
+use Rattle.iterators.proofs.list_from.Statement.{statement}
+use Rattle.iterators.proofs.list_from.Tie as tie
+
+put-requires : tie.Need-put-requires
+put-requires c κs = omega (arith, c .before .before .before .collect .ensures .few)
+
+returns : tie.Need-returns
+returns c = puts-collected _ _ _ _ _ _ _ (c .before .before .before .before .before .before .collect .ensures) (c .before .before .put .ensures)
+
+pub list-from-spec : {M : Type 1} → statement M
+list-from-spec = tie.close (tie.spec (λ c. search needs) (λ c κs. search needs) (λ c. search needs) put-requires (λ c. search needs) returns)

@@ -1,0 +1,222 @@
+// Module 8, names as in src/iterators.rs and src/node.rs: lists of ids in a lent slice, two u64 for an id, and single nodes. Every question answers
+// for any words: 1 where the state is not sound, 22 where the node is not there, 21 where the slice is too short, else 0.
+ghost use mathlib.Core.Path.{_≡_};
+ghost use Prim.Native.Nat.{_*_, _≤_};
+ghost use lib.ListN.{length, take};
+ghost use Rattle.state_array.specs.View.{view};
+ghost use Rattle.questions.specs.Answers.{askNumber, idWords};
+ghost use Rattle.questions.specs.Filters.{filterOf};
+ghost use Rattle.questions.specs.Links as links;
+ghost use Rattle.questions.specs.Walks.{filteredChildren, filteredSiblings, filteredParent, firstFilteredChild, lastFilteredChild};
+ghost use Rattle.questions.specs.Walks.{deepestFirstFilteredChild, deepestLastFilteredChild};
+ghost use Rattle.node_links.specs.Slots.{Sound, slotId};
+ghost use Rattle.node.specs.Answers.{nodeAnswer};
+ghost use Rattle.filters_plain.specs.Plain.{Focused, listedFrom};
+ghost use Rattle.iterators_shown.specs.Shown.{filteredChildOn, deepestOn};
+ghost use Rattle.iterators.specs.Lists.{ListOf, ChildList, SiblingList, Puts, PutsList, NodeOf, noNode};
+use ids::FullNodeId;
+use iterators_steps::Place;
+use node::ListAnswer;
+use node::NodeAnswer;
+use questions::Filter;
+use questions::Side;
+use state_array::State;
+use state_focus::FoundNode;
+
+// The siblings on a side, nearest first.
+pub fn siblings<'a, 'b>(
+    state: &'a State,
+    id: FullNodeId,
+    side: Side,
+    out: &'b mut [u64],
+) -> ListAnswer
+    ensures { λ r. ⌜ ListOf (view (now (state .entry)) .forest) id (links.siblings side (view (now (state .entry)) .forest) id) (now (out .entry)) r (now (out .exit)) ⌝ }
+{
+    let asked = node_asked::asked(state, id);
+    let number = asked.number;
+    if number != 0 {
+        return ListAnswer { number, length: 0 };
+    }
+    let mut ids = [0u64; 512];
+    let n = iterators_lists::collect_siblings(state, side, asked.slot, &mut ids);
+    put(&ids, n, out)
+}
+
+// The filtered children, in order.
+pub fn filtered_children<'a, 'b>(
+    state: &'a State,
+    id: FullNodeId,
+    filter: Filter,
+    out: &'b mut [u64],
+) -> ListAnswer
+    ensures { λ r. ⌜ ChildList (view (now (state .entry))) id filter (now (out .entry)) r (now (out .exit)) ⌝ }
+{
+    let asked = node_asked::asked(state, id);
+    let number = asked.number;
+    if number != 0 {
+        return ListAnswer { number, length: 0 };
+    }
+    let focused = filters_plain::focused_slot(state);
+    let start = iterators_shown::shown_child(state, focused, filter, Side::Following, asked.slot);
+    list_from(state, focused, filter, Side::Following, start, out)
+}
+
+// The filtered siblings on a side, nearest first.
+pub fn filtered_siblings<'a, 'b>(
+    state: &'a State,
+    id: FullNodeId,
+    filter: Filter,
+    side: Side,
+    out: &'b mut [u64],
+) -> ListAnswer
+    ensures { λ r. ⌜ SiblingList (view (now (state .entry))) id filter side (now (out .entry)) r (now (out .exit)) ⌝ }
+{
+    let asked = node_asked::asked(state, id);
+    let number = asked.number;
+    if number != 0 {
+        return ListAnswer { number, length: 0 };
+    }
+    let focused = filters_plain::focused_slot(state);
+    let start = iterators_shown::shown_sibling(state, focused, filter, side, asked.slot);
+    list_from(state, focused, filter, side, start, out)
+}
+
+// Writes what is listed from a place on, if the slice has room for it.
+fn list_from<'a, 'b>(
+    state: &'a State,
+    focused: usize,
+    filter: Filter,
+    side: Side,
+    start: Place,
+    out: &'b mut [u64],
+) -> ListAnswer
+    requires { ⌜ Sound (now state) ⌝ }
+    requires { ⌜ Focused (now state) focused ⌝ }
+    ensures { λ r. ⌜ PutsList (listedFrom (filterOf filter (view (now (state .entry)))) side (now (state .entry)) start) (now (out .entry)) r (now (out .exit)) ⌝ }
+{
+    let mut ids = [0u64; 512];
+    let n = iterators_shown::collect(state, focused, filter, side, start, &mut ids);
+    put(&ids, n, out)
+}
+
+// Copies the first n ids of a buffer into the lent slice, if it has room for them.
+fn put<'a, 'b>(ids: &'a [u64], n: usize, out: &'b mut [u64]) -> ListAnswer
+    requires { ⌜ 2 * n ≤ length (now ids) ⌝ }
+    ensures { λ r. ⌜ Puts (take (2 * n) (now (ids .entry))) n (now (out .entry)) r (now (out .exit)) ⌝ }
+{
+    let words = 2 * n;
+    if out.len() < words {
+        return ListAnswer {
+            number: 21,
+            length: 0,
+        };
+    }
+    let mut i = 0usize;
+    while i < words {
+        out[i] = ids[i];
+        i += 1;
+    }
+    ListAnswer {
+        number: 0,
+        length: n,
+    }
+}
+
+// The filtered parent: the nearest ancestor that is included.
+pub fn filtered_parent(state: &State, id: FullNodeId, filter: Filter) -> NodeAnswer
+    ensures { λ r. ⌜ NodeOf (view (now (state .entry))) id filter filteredParent r ⌝ }
+{
+    let asked = node_asked::asked(state, id);
+    let number = asked.number;
+    if number != 0 {
+        return refused(number);
+    }
+    let focused = filters_plain::focused_slot(state);
+    found(
+        state,
+        iterators_shown::filtered_parent(state, focused, filter, asked.slot),
+    )
+}
+
+// The first filtered child.
+pub fn first_filtered_child(state: &State, id: FullNodeId, filter: Filter) -> NodeAnswer
+    ensures { λ r. ⌜ NodeOf (view (now (state .entry))) id filter firstFilteredChild r ⌝ }
+{
+    filtered_child(state, id, filter, Side::Following)
+}
+
+// The last filtered child.
+pub fn last_filtered_child(state: &State, id: FullNodeId, filter: Filter) -> NodeAnswer
+    ensures { λ r. ⌜ NodeOf (view (now (state .entry))) id filter lastFilteredChild r ⌝ }
+{
+    filtered_child(state, id, filter, Side::Preceding)
+}
+
+// The deepest first filtered child: the first filtered child, that of it, and so on.
+pub fn deepest_first_filtered_child(state: &State, id: FullNodeId, filter: Filter) -> NodeAnswer
+    ensures { λ r. ⌜ NodeOf (view (now (state .entry))) id filter deepestFirstFilteredChild r ⌝ }
+{
+    deepest_child(state, id, filter, Side::Following)
+}
+
+// The deepest last filtered child.
+pub fn deepest_last_filtered_child(state: &State, id: FullNodeId, filter: Filter) -> NodeAnswer
+    ensures { λ r. ⌜ NodeOf (view (now (state .entry))) id filter deepestLastFilteredChild r ⌝ }
+{
+    deepest_child(state, id, filter, Side::Preceding)
+}
+
+// The first filtered child, or on the preceding side the last.
+fn filtered_child(state: &State, id: FullNodeId, filter: Filter, side: Side) -> NodeAnswer
+    ensures { λ r. ⌜ NodeOf (view (now (state .entry))) id filter (filteredChildOn side) r ⌝ }
+{
+    let asked = node_asked::asked(state, id);
+    let number = asked.number;
+    if number != 0 {
+        return refused(number);
+    }
+    let focused = filters_plain::focused_slot(state);
+    found(
+        state,
+        iterators_shown::filtered_child(state, focused, filter, side, asked.slot),
+    )
+}
+
+// The deepest of them.
+fn deepest_child(state: &State, id: FullNodeId, filter: Filter, side: Side) -> NodeAnswer
+    ensures { λ r. ⌜ NodeOf (view (now (state .entry))) id filter (deepestOn side) r ⌝ }
+{
+    let asked = node_asked::asked(state, id);
+    let number = asked.number;
+    if number != 0 {
+        return refused(number);
+    }
+    let focused = filters_plain::focused_slot(state);
+    found(
+        state,
+        iterators_shown::deepest_child(state, focused, filter, side, asked.slot),
+    )
+}
+
+// 1 or 22, and no node.
+fn refused(number: u8) -> NodeAnswer
+    ensures { λ r. ⌜ r ≡ noNode number ⌝ }
+{
+    NodeAnswer {
+        number,
+        node: FoundNode::Nothing,
+    }
+}
+
+// The node in a slot, if there is one.
+fn found(state: &State, slot: usize) -> NodeAnswer
+    ensures { λ r. ⌜ r ≡ nodeAnswer 0 (slotId (now (state .entry)) slot) ⌝ }
+{
+    if state_array::slots(state) <= slot {
+        return refused(0);
+    }
+    NodeAnswer {
+        number: 0,
+        node: FoundNode::At(state_array::id_at(state, slot)),
+    }
+}
