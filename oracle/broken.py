@@ -70,6 +70,40 @@ CHANGES = [
     ('a refused start leaves what it made', 'calls', '        clear(state);\n        return refused(refusal.number);', '        return refused(refusal.number);'),
 ]
 
+# The same in the code of modules 6 to 8: questions about made screens must notice these.
+QUESTIONS = [
+    ('the child\'s transform on the left', 'node_links', 'geometry_box::product(above, below)', 'geometry_box::product(below, above)'),
+    ('a product\'s shift is not shifted', 'geometry_box', 'e: p.a * q.e + p.c * q.f + p.e,', 'e: p.a * q.e + p.c * q.f + q.e,'),
+    ('a box from three corners', 'geometry_box', 'let q = apply(t, r.x0, r.y1);', 'let q = apply(t, r.x0, r.y0);'),
+    ('a box with a corner that is not finite', 'geometry_box', 'if are_finite(p, q, u, v) {', 'if are_finite(p, q, u, v) | (t.a > 1.0) {'),
+    ('an overlap not cut at zero', 'geometry_box', 'if 0.0 < length { length } else { 0.0 }', 'length'),
+    ('hidden not inherited', 'node_links', 'hidden_up(state, i, state_array::SLOTS)', 'hidden_at(state, i)'),
+    ('a filled graft without a child', 'node_links', 'FoundTree::At(_) => 1,', 'FoundTree::At(_) => 0,'),
+    ('the last sibling not stepped to', 'node_links', 'if count - index < 2 {', 'if count - index < 3 {'),
+    ('back to the first sibling', 'node_links', 'child_id(state, p, index as usize - 1)', 'child_id(state, p, 0)'),
+    ('a node that is not there is asked about', 'node_asked', 'if state_array::slots(state) <= slot {', 'if state_array::slots(state) < slot {'),
+    ('a question on a state that is not sound', 'node_asked', 'if !state_sound::sound(state) {', 'if !state_fields::fields_are_ok(state) {'),
+    ('a slice just long enough for the children refused', 'node', 'if out.len() / 2 < length {', 'if out.len() / 2 <= length {'),
+    ('a node\'s own flags mixed up', 'node/own', 'hidden: flag(flags, 1),', 'hidden: flag(flags, 2),'),
+    ('the ends of a tree that went', 'node/tree_state', 'if t.exists == 0 {', 'if (t.exists == 0) & (k < 1) {'),
+    ('focused though it is its own active descendant', 'filters_plain', 'if a == i {\n        return n;', 'if a == i {\n        return i;'),
+    ('focused without the host', 'filters_plain', 'if state_array::host(state) == 0 {', 'if state_array::host(state) == 7 {'),
+    ('a text run is listed', 'filters_plain', ' | (role == 1)', ''),
+    ('a neighbour inside a container not met', 'filters_plain', 'FilterResult::ExcludeNode => iterators_steps::into(state, side, at),', 'FilterResult::ExcludeNode => iterators_steps::after(state, side, at),'),
+    ('the parent\'s filter not asked', 'filters', 'if is_exclude_subtree(common_filter_up(state, focused, p)) {', 'if is_exclude_subtree(common_filter_up(state, focused, p)) & (p < 1) {'),
+    ('the neighbour before not asked', 'filters', '    !is_first_sibling_in_parent_bbox(state, focused, Side::Preceding, at, parent_bbox)', '    true'),
+    ('clips where the node, not its parent, clips', 'filters', 'if !clips_children(state, p) {', 'if !clips_children(state, i) {'),
+    ('no exception for the root', 'filters', '    if is_root(state, i) {\n        return FilterResult::Include;', '    if is_root(state, i) {\n        return common_filter_at(state, focused, i);'),
+    ('a walk climbs one level less', 'iterators_steps', 'if level < 1 {', 'if level < 2 {'),
+    ('a level not counted on the way down', 'iterators_steps', 'level: one_more(at.level),', 'level: at.level,'),
+    ('the siblings before in order', 'iterators_lists', 'run.index - 1 - k', 'k'),
+    ('filtered siblings of its own parent alone', 'iterators_shown', 'let level = up.level;', 'let level = 0usize;'),
+    ('the deepest child one level down', 'iterators_shown', 'if n <= next {', 'if n <= next + n {'),
+    ('a walk one behind its count', 'iterators_shown', 'while left > 0 {', 'while left > 1 {'),
+    ('a slice just long enough for a list refused', 'iterators', 'if out.len() < words {', 'if out.len() <= words {'),
+    ('an element beyond the list written', 'iterators', 'while i < words {', 'while (i < words + 1) & (i < out.len()) {'),
+]
+
 # The library's functions after `cartgravel_`: what C's answer is called, and the arguments.
 FUNCTIONS = {
     'start': ('reply', 'state batch number'), 'update': ('reply', 'state batch changes'), 'host_focus': ('reply', 'state number'),
@@ -161,8 +195,10 @@ def write(path, text):
 def copy_sources(folder, change):
     """The crates without contracts, with the change; answers the compiler's words that name them."""
     deps = dict(re.findall(r'^(\w+): *(.*)$', read(f'{REPOSITORY}/crates.txt'), re.M))
-    words = []
-    for crate in deps['cartgravel'].split() + ['cartgravel']:
+    needed, words = {'cartgravel'}, []
+    for crate in reversed(deps):
+        needed |= set(deps[crate].split()) if crate in needed else set()
+    for crate in [c for c in deps if c in needed]:
         source = f'{REPOSITORY}/crates/{crate}/src'
         if os.path.getsize(f'{source}/lib.rt') < 3:
             continue  # definitions alone
@@ -214,23 +250,24 @@ def noticed(driver, words, seconds):
         said = subprocess.run([driver] + words, capture_output=True, text=True, timeout=seconds)
     except subprocess.TimeoutExpired:
         return 'no end', ''
-    first = re.search(r'^call (\d+), the first that differs', said.stdout, re.M)
-    count = re.search(r'; (\d+) differ$', said.stdout, re.M)
-    if not count:
+    first = re.search(r'^(?:call|question) (\d+), the first that differs', said.stdout, re.M)
+    counts = re.findall(r'; (\d+) differ$', said.stdout, re.M)
+    if not counts:
         return f'ended with {said.returncode}', first[1] if first else ''
-    return int(count[1]), first[1] if first else ''
+    return sum(map(int, counts)), first[1] if first else ''
 
 
 def tried(change, archive, environment, options):
-    """Builds the library with a change and answers what the two runs noticed."""
+    """Builds the library with a change and answers what the runs noticed: of calls, of small batches, of questions; none where there is no run."""
     with tempfile.TemporaryDirectory() as folder:
         build(folder, change)
         shutil.copy(f'{folder}/libcartgravel.a', archive)
     subprocess.run(['cargo', 'build', '--release', '--offline', '--quiet', '-p', 'driver'], cwd=HERE, env=environment, check=True)
     driver = os.path.join(environment['CARGO_TARGET_DIR'], 'release', 'driver')
-    made = noticed(driver, ['--batches', str(options.batches), '--seed', str(options.seed)], options.seconds)
-    small = noticed(driver, ['--exhaustive', '--every', str(options.every)], options.seconds)
-    return made, small
+    seed = ['--seed', str(options.seed)]
+    runs = [['--batches', str(options.batches)] + seed, ['--exhaustive', '--every', str(options.every)], ['--questions', str(options.screens)] + seed]
+    wanted = [change not in QUESTIONS, change not in QUESTIONS, change not in CHANGES]
+    return [noticed(driver, words, options.seconds) if run else (0, None) for words, run in zip(runs, wanted)]
 
 
 def main():
@@ -238,12 +275,14 @@ def main():
     options.add_argument('--batches', type=int, default=20000)
     options.add_argument('--seed', type=int, default=1)
     options.add_argument('--every', type=int, default=50, help='of the small batches')
+    options.add_argument('--screens', type=int, default=600, help='made screens that questions are asked about')
+    options.add_argument('--questions', action='store_true', help='the changes in modules 6 to 8 alone')
     options.add_argument('--seconds', type=int, default=600, help='the most that a run may take')
     options.add_argument('--only', default='', help='changes whose description has these words')
     o = options.parse_args()
     if not os.environ.get(SOURCE):
         sys.exit(f"{SOURCE} is not set: it must name the folder with accesskit_consumer 0.39.2's src/*.rs")
-    for what, where, text, _ in CHANGES:
+    for what, where, text, _ in CHANGES + QUESTIONS:
         count = read(source_file(where)).count(text)
         if count != 1:
             sys.exit(f'{what}: the text stands {count} times in {source_file(where)}')
@@ -251,14 +290,14 @@ def main():
     archive = os.path.join(target, 'archive')
     os.makedirs(archive, exist_ok=True)
     environment = {**os.environ, 'CARGO_TARGET_DIR': target, 'CARTGRAVEL_LIB': archive}
-    print('| what was changed | in | made calls that differ, the first | small calls that differ, the first |\n|---|---|---|---|', flush=True)
+    print('| what was changed | in | made calls that differ, the first | small calls that differ, the first | answers about screens that differ, the first |\n|---|---|---|---|---|', flush=True)
     good = True
-    for change in [None] + [c for c in CHANGES if o.only in c[0]]:
-        made, small = tried(change, archive, environment, o)
+    for change in [None] + [c for c in ([] if o.questions else CHANGES) + QUESTIONS if o.only in c[0]]:
+        runs = tried(change, archive, environment, o)
         what, where = (change[0], os.path.relpath(source_file(change[1]), REPOSITORY)) if change else ('nothing', '')
-        cells = ['{}, {}'.format(*x) if x[1] else str(x[0]) for x in (made, small)]
-        print(f'| {what} | {where} | {cells[0]} | {cells[1]} |', flush=True)
-        good &= ((made[0], small[0]) == (0, 0)) == (change is None)
+        cells = ['' if x[1] is None else '{}, {}'.format(*x) if x[1] else str(x[0]) for x in runs]
+        print(f'| {what} | {where} | {" | ".join(cells)} |', flush=True)
+        good &= all(x[0] == 0 for x in runs) == (change is None)
     sys.exit(not good)
 
 

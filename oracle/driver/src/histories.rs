@@ -10,7 +10,7 @@ const SHARE: u64 = 12;
 
 /// Questions are asked on the states of one accepted call in so many, on one damaged copy in so many, and on so many made
 /// screens after each history; a walk goes on in the state of one accepted call in so many.
-const STATES: u64 = 50;
+const STATES: u64 = 120;
 const DAMAGED: u64 = 8;
 const LATER: u64 = 7;
 const SCREENS: u64 = 1;

@@ -27,6 +27,7 @@ pub struct Asked {
     crates: BTreeMap<Key, u64>,
     left_out: BTreeMap<(Key, LeftOut), u64>,
     shown: BTreeMap<&'static str, u64>,
+    screens: u64,
     states: u64,
     nodes: u64,
     pub differences: u64,
@@ -43,6 +44,8 @@ impl Default for Asked {
 
 /// Of a state with more nodes so many are asked about.
 const SAMPLE: usize = 12;
+/// A longer walk is not gone through from its start to its end.
+const LONG: usize = 12;
 
 impl Asked {
     /// Nothing was asked.
@@ -54,6 +57,7 @@ impl Asked {
             crates: BTreeMap::new(),
             left_out: BTreeMap::new(),
             shown: BTreeMap::new(),
+            screens: 0,
             states: 0,
             nodes: 0,
             differences: 0,
@@ -70,7 +74,9 @@ impl Asked {
 
     /// So many made screens, some with a damaged copy; one in sixteen has up to 256 nodes.
     pub fn screens(&mut self, count: u64) {
-        for round in 0..count {
+        for _ in 0..count {
+            let round = self.screens;
+            self.screens += 1;
             let most = if round % 16 == 0 { 256 } else { 24 };
             let pair = Pair::new(held(screen(&mut self.r, most)));
             self.pair(&pair);
@@ -173,6 +179,11 @@ impl Asked {
 
     /// One question of the library, with a slice of the length that is needed or a longer one; and one too short.
     fn question(&mut self, m: &sys::State, s: &State, q: Question, id: Id, due: Answer) {
+        if let (Question::Walk(filter, side), Answer::Nodes(list)) = (q, &due)
+            && list.len() > LONG
+        {
+            return self.long_walk(m, s, (filter, side), id, list);
+        }
         let room = q.room(&due);
         let more = if self.r.chance(50) { 0 } else { 1 + self.r.below(40) };
         self.compare(Some(s), q, id, 0, &due, q.asked(m, id, room.unwrap_or(0) + more));
@@ -183,6 +194,16 @@ impl Asked {
             let short = if self.r.chance(70) { n - 1 } else { self.r.below(n) };
             self.compare(Some(s), q, id, 21, &Answer::Refused(21), q.asked(m, id, short));
             self.show("a slice one shorter than needed: 21", short == n - 1);
+        }
+    }
+
+    /// A walk over a long list, begun anew at some places of it.
+    fn long_walk(&mut self, m: &sys::State, s: &State, (filter, side): (u32, u32), id: Id, list: &[Id]) {
+        let n = list.len();
+        for count in [0, self.r.below(n), n - 1, n, usize::MAX] {
+            let mut walk = Walk { node: full(id), side, filter, count: count as u64 };
+            let due = Answer::Node(list.get(count).copied());
+            self.compare(Some(s), Question::Walk(filter, side), id, 0, &due, stepped(m, &mut walk));
         }
     }
 
