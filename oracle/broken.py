@@ -1,15 +1,16 @@
 #!/usr/bin/env python3
 """Shows that the driver notices a library that is broken on purpose.
 
-Each change below replaces one text of crates/*/src. The changed sources are built without their contracts to an archive that stands in for
-the proved one, the driver is linked to it, and a short run must find calls that differ. Exit status 0: every change was noticed, and the sources
-without a change differ nowhere.
+Each change below replaces one text of crates/*/src. The changed sources are built without their contracts to a library that stands in for
+the proved archive, the driver loads it, and a short run must find calls or answers that differ. Exit status 0: every change was noticed, and the
+sources without a change differ nowhere.
 """
-import argparse, os, re, shutil, subprocess, sys, tempfile
+import argparse, os, re, subprocess, sys, tempfile
 
 HERE = os.path.dirname(os.path.abspath(__file__))
 REPOSITORY = os.path.dirname(HERE)
 SOURCE = 'ACCESSKIT_CONSUMER_SRC'
+UNPROVED = 'CARTGRAVEL_UNPROVED'
 
 # What is changed, the crate, the text, and what stands there instead. `crate/file` where the file is not lib.rt.
 CHANGES = [
@@ -166,12 +167,15 @@ CROSSES = {
 
 
 def boundary():
-    """The functions as C has them, over those of a build without proofs."""
-    out = ['#include "cartgravel.h"', 'struct slice { const void *at; size_t length; };']
+    """The functions as C has them, over those of a build without proofs, which are loaded from the file that UNPROVED names."""
+    out = ['#include <dlfcn.h>', '#include <stdlib.h>', '#include "cartgravel.h"', 'struct slice { const void *at; size_t length; };',
+           'static void *loaded(const char *name) {', '    static void *library;', f'    if (!library) library = dlopen(getenv("{UNPROVED}"), RTLD_NOW);',
+           '    void *found = library ? dlsym(library, name) : 0;', '    if (!found) exit(3);', '    return found;', '}']
     for name, (answer, words) in FUNCTIONS.items():
         c, unproved, given = zip(*(CROSSES[a] for a in words.split()))
-        out += [f'void unproved_{name}(cartgravel_{answer} *, {", ".join(unproved)});', f'cartgravel_{answer} cartgravel_{name}({", ".join(c)}) {{',
-                f'    cartgravel_{answer} answer;', f'    unproved_{name}(&answer, {", ".join(given)});', '    return answer;', '}']
+        out += [f'cartgravel_{answer} cartgravel_{name}({", ".join(c)}) {{', f'    static void (*unproved)(cartgravel_{answer} *, {", ".join(unproved)});',
+                f'    if (!unproved) *(void **)&unproved = loaded("unproved_{name}");', f'    cartgravel_{answer} answer;',
+                f'    unproved(&answer, {", ".join(given)});', '    return answer;', '}']
     return '\n'.join(out) + '\n'
 
 
@@ -215,7 +219,7 @@ def copy_sources(folder, change):
 
 
 def build(folder, change):
-    """Writes folder/libcartgravel.a."""
+    """Writes folder/unproved.so."""
     kit = os.path.dirname(os.path.dirname(subprocess.run(['rt', 'doc'], capture_output=True, text=True, check=True).stdout.strip()))
     on = f'{kit}/on/x86_64'
     for sub in ('program', 'tools/bin', 'saved'):
@@ -237,17 +241,23 @@ def build(folder, change):
     text = re.sub(r'define ([^\n]*@main\()', r'define internal \1', text)
     write(f'{folder}/library.ll', re.sub(r'@"cartgravel::(?:\w+::)?cartgravel_(\w+)"', r'@unproved_\1', text))
     subprocess.run([clang, '--target=x86_64-unknown-linux-gnu', '-march=x86-64', '-c', '-x', 'ir', f'{folder}/library.ll', '-o', f'{folder}/library.o', '-fPIC', '-O3'], check=True)
+    subprocess.run(['cc', '-shared', f'{folder}/library.o', '-o', f'{folder}/unproved.so'], check=True)
+
+
+def write_archive(folder):
+    """Writes folder/libcartgravel.a, which a driver links once for all changes."""
+    os.makedirs(folder, exist_ok=True)
     write(f'{folder}/boundary.c', boundary())
     subprocess.run(['cc', '-O2', '-fPIC', '-c', f'{folder}/boundary.c', '-I', f'{REPOSITORY}/include', '-o', f'{folder}/boundary.o'], check=True)
-    subprocess.run([f'{on}/toolchain/bin/llvm-ar', 'rcs', f'{folder}/libcartgravel.a', f'{folder}/library.o', f'{folder}/boundary.o'], check=True)
+    subprocess.run(['ar', 'rcs', f'{folder}/libcartgravel.a', f'{folder}/boundary.o'], check=True)
 
 
 # ## The runs
 
-def noticed(driver, words, seconds):
+def noticed(driver, words, environment, seconds):
     """How many calls differ, or how the run ended; and the first call that differs."""
     try:
-        said = subprocess.run([driver] + words, capture_output=True, text=True, timeout=seconds)
+        said = subprocess.run([driver] + words, capture_output=True, text=True, timeout=seconds, env=environment)
     except subprocess.TimeoutExpired:
         return 'no end', ''
     first = re.search(r'^(?:call|question) (\d+), the first that differs', said.stdout, re.M)
@@ -257,17 +267,15 @@ def noticed(driver, words, seconds):
     return sum(map(int, counts)), first[1] if first else ''
 
 
-def tried(change, archive, environment, options):
+def tried(change, driver, options):
     """Builds the library with a change and answers what the runs noticed: of calls, of small batches, of questions; none where there is no run."""
-    with tempfile.TemporaryDirectory() as folder:
-        build(folder, change)
-        shutil.copy(f'{folder}/libcartgravel.a', archive)
-    subprocess.run(['cargo', 'build', '--release', '--offline', '--quiet', '-p', 'driver'], cwd=HERE, env=environment, check=True)
-    driver = os.path.join(environment['CARGO_TARGET_DIR'], 'release', 'driver')
     seed = ['--seed', str(options.seed)]
     runs = [['--batches', str(options.batches)] + seed, ['--exhaustive', '--every', str(options.every)], ['--questions', str(options.screens)] + seed]
     wanted = [change not in QUESTIONS, change not in QUESTIONS, change not in CHANGES]
-    return [noticed(driver, words, options.seconds) if run else (0, None) for words, run in zip(runs, wanted)]
+    with tempfile.TemporaryDirectory() as folder:
+        build(folder, change)
+        environment = {**os.environ, UNPROVED: f'{folder}/unproved.so'}
+        return [noticed(driver, words, environment, options.seconds) if run else (0, None) for words, run in zip(runs, wanted)]
 
 
 def main():
@@ -288,12 +296,14 @@ def main():
             sys.exit(f'{what}: the text stands {count} times in {source_file(where)}')
     target = os.path.join(os.environ.get('CARGO_TARGET_DIR', os.path.join(HERE, 'target')), 'broken')
     archive = os.path.join(target, 'archive')
-    os.makedirs(archive, exist_ok=True)
+    write_archive(archive)
     environment = {**os.environ, 'CARGO_TARGET_DIR': target, 'CARTGRAVEL_LIB': archive}
+    subprocess.run(['cargo', 'build', '--release', '--offline', '--quiet', '-p', 'driver'], cwd=HERE, env=environment, check=True)
+    driver = os.path.join(target, 'release', 'driver')
     print('| what was changed | in | made calls that differ, the first | small calls that differ, the first | answers about screens that differ, the first |\n|---|---|---|---|---|', flush=True)
     good = True
     for change in [None] + [c for c in ([] if o.questions else CHANGES) + QUESTIONS if o.only in c[0]]:
-        runs = tried(change, archive, environment, o)
+        runs = tried(change, driver, o)
         what, where = (change[0], os.path.relpath(source_file(change[1]), REPOSITORY)) if change else ('nothing', '')
         cells = ['' if x[1] is None else '{}, {}'.format(*x) if x[1] else str(x[0]) for x in runs]
         print(f'| {what} | {where} | {" | ".join(cells)} |', flush=True)

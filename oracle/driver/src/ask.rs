@@ -46,9 +46,17 @@ use Question::*;
 
 /// Every question, with each filter and side.
 pub fn all() -> Vec<Question> {
-    let mut out = vec![Reading, Label, Parent, Children, Hidden, Transform, BoundingBox, Siblings(0), Siblings(1)];
+    let mut out =
+        vec![Reading, Label, Parent, Children, Hidden, Transform, BoundingBox, Siblings(0), Siblings(1)];
     for f in 1..=3 {
-        out.extend([Filter(f), FilteredParent(f), FirstChild(f), LastChild(f), DeepestFirst(f), DeepestLast(f)]);
+        out.extend([
+            Filter(f),
+            FilteredParent(f),
+            FirstChild(f),
+            LastChild(f),
+            DeepestFirst(f),
+            DeepestLast(f),
+        ]);
         out.extend([FilteredChildren(f), FilteredSiblings(f, 0), FilteredSiblings(f, 1)]);
     }
     out.extend((0..=3).flat_map(|f| [Walk(f, 0), Walk(f, 1)]));
@@ -172,8 +180,7 @@ fn read(n: sys::PlainNode) -> Answer {
     let (b, t) = (n.bounds, n.transform);
     let floats = [b.x0, b.y0, b.x1, b.y1, t.a, t.b, t.c, t.d, t.e, t.f].map(f64::to_bits);
     let rest = [n.graft.high, n.graft.low, n.active_descendant, n.label_length as u64, n.child_count as u64];
-    let words: Vec<u64> =
-        floats.into_iter().chain(rest).chain([n.role.into(), n.flags.into()]).collect();
+    let words: Vec<u64> = floats.into_iter().chain(rest).chain([n.role.into(), n.flags.into()]).collect();
     if n.number == 0 { Answer::Words(words) } else { refused(n.number, words.iter().all(|w| *w == 0)) }
 }
 

@@ -1,5 +1,7 @@
 //! The questions of modules 6 to 8 and those about a state: the linked library against document 01's definitions on a
 //! plain state, and these against the crate's real source but for what document 01's Domain leaves out.
+mod shares;
+
 use crate::ask::{Answer, Question, all, found, full, optional, stepped};
 use crate::damage;
 use crate::memory;
@@ -10,8 +12,8 @@ use calls::make::{Rng, World};
 use calls::model::{Answers, LeftOut, Model};
 use calls::plain::{Id, State, TREES};
 use calls::screens::screen;
-use cartgravel::sys::{self, PlainCounts, PlainEnds, PlainIndex, PlainTreeId, Walk};
 use cartgravel::TreeId;
+use cartgravel::sys::{self, PlainCounts, PlainEnds, PlainIndex, PlainTreeId, Walk};
 use std::collections::{BTreeMap, HashSet};
 use std::hash::{DefaultHasher, Hash, Hasher};
 use std::time::{Duration, Instant};
@@ -171,7 +173,11 @@ impl Asked {
             *self.crates.entry((name, f)).or_default() += 1;
             let given = q.due(&crates, data);
             self.note(given != q.due(&due, data), || {
-                format!("the crate: {q:?} of {id:?}\n  defined: {:?}\n  the crate: {given:?}\n  on {}", q.due(&due, data), text::state(s))
+                format!(
+                    "the crate: {q:?} of {id:?}\n  defined: {:?}\n  the crate: {given:?}\n  on {}",
+                    q.due(&due, data),
+                    text::state(s)
+                )
             });
         }
         self.show_node(&due);
@@ -218,7 +224,10 @@ impl Asked {
         let key = (name, if number == 2 || f > 3 { 0 } else { f });
         *self.numbers.entry((key, number)).or_default() += 1;
         self.note(given != *due, || {
-            format!("{q:?} of {id:?}\n  due: {due:?}\n  given: {given:?}\n  on {}", s.map_or("ids out of order".into(), text::state))
+            format!(
+                "{q:?} of {id:?}\n  due: {due:?}\n  given: {given:?}\n  on {}",
+                s.map_or("ids out of order".into(), text::state)
+            )
         });
     }
 
@@ -272,7 +281,10 @@ impl Asked {
     ) {
         *self.numbers.entry(((name, 0), number)).or_default() += 1;
         self.note(given != due, || {
-            format!("{name}\n  due: {due:?}\n  given: {given:?}\n  on {}", s.map_or("ids out of order".into(), text::state))
+            format!(
+                "{name}\n  due: {due:?}\n  given: {given:?}\n  on {}",
+                s.map_or("ids out of order".into(), text::state)
+            )
         });
     }
 
@@ -296,7 +308,8 @@ impl Asked {
 
     fn walk_on(&mut self, before: &State, after: &Pair) {
         let old = Model::new(before);
-        let linked: Vec<usize> = (0..old.ids().len()).filter(|i| before.nodes[&old.ids()[*i]].0.is_some()).collect();
+        let linked: Vec<usize> =
+            (0..old.ids().len()).filter(|i| before.nodes[&old.ids()[*i]].0.is_some()).collect();
         if linked.is_empty() {
             return;
         }
@@ -321,9 +334,15 @@ impl Asked {
         let given = stepped(&after.memory, &mut walk);
         let number = if due == Answer::Refused(22) { 22 } else { 0 };
         self.show("a walk on a later state: its node is gone", number == 22);
-        self.show("a walk on a later state: the list is shorter, the end", due == Answer::Node(None) && count < had.len());
+        self.show(
+            "a walk on a later state: the list is shorter, the end",
+            due == Answer::Node(None) && count < had.len(),
+        );
         let same = Answer::Node(had.get(count).copied());
-        self.show("a walk on a later state: another node", number == 0 && due != Answer::Node(None) && due != same);
+        self.show(
+            "a walk on a later state: another node",
+            number == 0 && due != Answer::Node(None) && due != same,
+        );
         self.compare(Some(&after.held.plain), q, id, number, &due, given);
     }
 
@@ -342,7 +361,10 @@ impl Asked {
             self.show("filtered children that are not the children", f.children != a.children);
         }
         let [common, _, own] = &a.filtered;
-        self.show("the common filter drops what its own checks include", (common.result, own.result) == (2, 0));
+        self.show(
+            "the common filter drops what its own checks include",
+            (common.result, own.result) == (2, 0),
+        );
     }
 
     /// Counts a difference; the first is described at once, the shortest at the end.
@@ -359,72 +381,6 @@ impl Asked {
             self.shortest = Some(said);
         }
     }
-
-    /// Prints the counts. Answers whether nothing differs and, if any question was asked, each number occurred.
-    pub fn report(&self) -> bool {
-        if self.states == 0 {
-            return true;
-        }
-        println!("\nquestion, filter: answers with 0, 1, 2, 21, 22; equal to the crate's; left out of that, by reason and share");
-        let keys: std::collections::BTreeSet<Key> = self.numbers.keys().map(|k| k.0).collect();
-        for key in keys {
-            self.report_question(key);
-        }
-        self.report_left_out();
-        println!("\nwhat the answers show:");
-        for (what, count) in &self.shown {
-            println!("{count:9}  {what}");
-        }
-        if let Some(said) = &self.shortest {
-            println!("\nthe shortest difference of a question\n{said}");
-        }
-        let with = |n: u32| self.numbers.iter().filter(|(k, _)| k.1 == n).map(|(_, c)| c).sum::<u64>();
-        println!(
-            "\n{} states and {} of their nodes asked about: {} answers compared (1: {}, 2: {}, 21: {}, 22: {}), {} of the crate's; {} s; {} differ",
-            self.states,
-            self.nodes,
-            self.asked(),
-            with(1),
-            with(2),
-            with(21),
-            with(22),
-            self.crates.values().sum::<u64>(),
-            self.spent.as_secs(),
-            self.differences
-        );
-        self.differences == 0
-    }
-
-    fn report_question(&self, key: Key) {
-        let of = |n: u32| self.numbers.get(&(key, n)).copied().unwrap_or(0);
-        let crates = self.crates.get(&key).copied().unwrap_or(0);
-        let left: Vec<String> = self
-            .left_out
-            .iter()
-            .filter(|(k, _)| k.0 == key)
-            .map(|(k, n)| format!("{} {n} ({})", reason(k.1), share(*n, of(0))))
-            .collect();
-        let name = if key.1 == 0 { key.0.to_string() } else { format!("{}, {}", key.0, key.1) };
-        println!(
-            "{name:32} {:9} {:7} {:7} {:8} {:8} {crates:9}  {}",
-            of(0),
-            of(1),
-            of(2),
-            of(21),
-            of(22),
-            left.join(", ")
-        );
-    }
-
-    /// What is left out of the comparison with the crate, of all that the crate was asked.
-    fn report_left_out(&self) {
-        let asked: u64 = self.crates.values().chain(self.left_out.values()).sum();
-        println!("\nleft out of the comparison with the crate, of {asked} answers:");
-        for why in [LeftOut::SteppedIn, LeftOut::NotFinite] {
-            let n = self.left_out.iter().filter(|(k, _)| k.1 == why).map(|(_, n)| n).sum();
-            println!("{n:9}  {} ({})", reason(why), share(n, asked));
-        }
-    }
 }
 
 /// Questions with a side or a filter that is none.
@@ -433,21 +389,21 @@ fn unknown() -> Vec<Question> {
     let mut out = vec![];
     for odd in [4, 9, u32::MAX] {
         out.extend([Filter(odd), FilteredParent(odd), FirstChild(odd), LastChild(odd), DeepestFirst(odd)]);
-        out.extend([DeepestLast(odd), FilteredChildren(odd), FilteredSiblings(odd, 0), FilteredSiblings(1, odd)]);
+        out.extend([
+            DeepestLast(odd),
+            FilteredChildren(odd),
+            FilteredSiblings(odd, 0),
+            FilteredSiblings(1, odd),
+        ]);
         out.extend([Walk(odd, 1), Walk(0, odd), Walk(3, odd), Siblings(odd), FilteredSiblings(odd, odd)]);
     }
     out.extend([Filter(0), FilteredParent(0), FirstChild(0), LastChild(0), DeepestFirst(0), DeepestLast(0)]);
-    out.extend([FilteredChildren(0), FilteredSiblings(0, 0), FilteredSiblings(3, 2), Walk(2, 2), Siblings(2)]);
+    out.extend([
+        FilteredChildren(0),
+        FilteredSiblings(0, 0),
+        FilteredSiblings(3, 2),
+        Walk(2, 2),
+        Siblings(2),
+    ]);
     out
-}
-
-fn reason(why: LeftOut) -> &'static str {
-    match why {
-        LeftOut::SteppedIn => "a walk of the crate steps into a dropped node",
-        LeftOut::NotFinite => "a number that is not finite",
-    }
-}
-
-fn share(n: u64, of: u64) -> String {
-    format!("{:.3}%", 100.0 * n as f64 / of.max(1) as f64)
 }

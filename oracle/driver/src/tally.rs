@@ -94,7 +94,8 @@ impl Tally {
         };
         let given = library::run(Some(memory), call);
         let mut parts = differing(Some(memory), call, &answer, &given);
-        if given.reply.number == 0 && answer.number == 0 && given.memory_differs(&answer, call, Some(memory)) {
+        if given.reply.number == 0 && answer.number == 0 && given.memory_differs(&answer, call, Some(memory))
+        {
             parts.push("state");
         }
         *self.shown.entry("a state's memory changed").or_default() += 1;
