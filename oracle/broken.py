@@ -228,7 +228,7 @@ def build(folder, change):
     write(f'{folder}/program/main.rt', program())
     os.symlink(f'{on}/toolchain/lib', f'{folder}/tools/lib')
     os.symlink(f'{on}/toolchain/bin/llvm-ar', f'{folder}/tools/bin/llvm-ar')
-    keep = f'for a in "$@"; do case $a in *.bc) cp -n "$a" {folder}/saved/;; esac; done\n'
+    keep = f'for a in "$@"; do case $a in *.bc) [ -s "$a" ] && cp -n "$a" {folder}/saved/ && exit 1;; esac; done\n'
     for name, before in (('clang', keep), ('ld.lld', '')):
         write(f'{folder}/tools/bin/{name}', f'#!/bin/sh\n{before}exec {on}/toolchain/bin/{name} "$@"\n')
         os.chmod(f'{folder}/tools/bin/{name}', 0o755)
@@ -240,7 +240,7 @@ def build(folder, change):
     text = re.sub(r'define internal ([^\n]*@"cartgravel::(?:\w+::)?cartgravel_\w+")', r'define \1', read(f'{folder}/library.ll'))
     text = re.sub(r'define ([^\n]*@main\()', r'define internal \1', text)
     write(f'{folder}/library.ll', re.sub(r'@"cartgravel::(?:\w+::)?cartgravel_(\w+)"', r'@unproved_\1', text))
-    subprocess.run([clang, '--target=x86_64-unknown-linux-gnu', '-march=x86-64', '-c', '-x', 'ir', f'{folder}/library.ll', '-o', f'{folder}/library.o', '-fPIC', '-O3'], check=True)
+    subprocess.run([clang, '--target=x86_64-unknown-linux-gnu', '-march=x86-64', '-c', '-x', 'ir', f'{folder}/library.ll', '-o', f'{folder}/library.o', '-fPIC', '-O1'], check=True)
     subprocess.run(['cc', '-shared', f'{folder}/library.o', '-o', f'{folder}/unproved.so'], check=True)
 
 
