@@ -1,15 +1,16 @@
 #!/usr/bin/env python3
 """Shows that the driver notices a library that is broken on purpose.
 
-Each change below replaces one text of crates/*/src. The changed sources are built without their contracts to an archive that stands in for
-the proved one, the driver is linked to it, and a short run must find calls that differ. Exit status 0: every change was noticed, and the sources
-without a change differ nowhere.
+Each change below replaces one text of crates/*/src. The changed sources are built without their contracts to a library that stands in for
+the proved archive, the driver loads it, and a short run must find calls or answers that differ. Exit status 0: every change was noticed, and the
+sources without a change differ nowhere.
 """
-import argparse, os, re, shutil, subprocess, sys, tempfile
+import argparse, os, re, subprocess, sys, tempfile
 
 HERE = os.path.dirname(os.path.abspath(__file__))
 REPOSITORY = os.path.dirname(HERE)
 SOURCE = 'ACCESSKIT_CONSUMER_SRC'
+UNPROVED = 'CARTGRAVEL_UNPROVED'
 
 # What is changed, the crate, the text, and what stands there instead. `crate/file` where the file is not lib.rt.
 CHANGES = [
@@ -66,45 +67,116 @@ CHANGES = [
     ('a batch sets the host flag', 'update_writing', 'next[state_array::HOST] = host;', 'next[state_array::HOST] = 1;'),
     ('bytes of a label that is cut are left', 'state_array', 'low_bytes(word_at(state, LABEL + k, i), length - from)', 'word_at(state, LABEL + k, i)'),
     ('the added ids are written before 21', 'update_reports', '    if !fit {\n', '    if !fit {\n        if 1 < changes.len() {\n            changes[0] = 0;\n        }\n'),
-    ('21 hands back the blank state', 'cartgravel', '        return refused(21);', '        clear(state);\n        return refused(21);'),
-    ('a refused start leaves what it made', 'cartgravel', '        clear(state);\n        return refused(refusal.number);', '        return refused(refusal.number);'),
+    ('21 hands back the blank state', 'calls', '        return refused(21);', '        clear(state);\n        return refused(21);'),
+    ('a refused start leaves what it made', 'calls', '        clear(state);\n        return refused(refusal.number);', '        return refused(refusal.number);'),
 ]
 
-# Reaches the library's functions, so that they are compiled.
-PROGRAM = '''fn main() {
+# The same in the code of modules 6 to 8: questions about made screens must notice these.
+QUESTIONS = [
+    ('the child\'s transform on the left', 'node_links', 'geometry_box::product(above, below)', 'geometry_box::product(below, above)'),
+    ('a product\'s shift is not shifted', 'geometry_box', 'e: p.a * q.e + p.c * q.f + p.e,', 'e: p.a * q.e + p.c * q.f + q.e,'),
+    ('a box from three corners', 'geometry_box', 'let q = apply(t, r.x0, r.y1);', 'let q = apply(t, r.x0, r.y0);'),
+    ('a box with a corner that is not finite', 'geometry_box', 'if are_finite(p, q, u, v) {', 'if are_finite(p, q, u, v) | (t.a > 1.0) {'),
+    ('an overlap not cut at zero', 'geometry_box', 'if 0.0 < length { length } else { 0.0 }', 'length'),
+    ('hidden not inherited', 'node_links', 'hidden_up(state, i, state_array::SLOTS)', 'hidden_at(state, i)'),
+    ('a filled graft without a child', 'node_links', 'FoundTree::At(_) => 1,', 'FoundTree::At(_) => 0,'),
+    ('the last sibling not stepped to', 'node_links', 'if count - index < 2 {', 'if count - index < 3 {'),
+    ('back to the first sibling', 'node_links', 'child_id(state, p, index as usize - 1)', 'child_id(state, p, 0)'),
+    ('a node that is not there is asked about', 'node_asked', 'if state_array::slots(state) <= slot {', 'if state_array::slots(state) < slot {'),
+    ('a question on a state that is not sound', 'node_asked', 'if !state_sound::sound(state) {', 'if !state_fields::fields_are_ok(state) {'),
+    ('a slice just long enough for the children refused', 'node', 'if out.len() / 2 < length {', 'if out.len() / 2 <= length {'),
+    ('a node\'s own flags mixed up', 'node/own', 'hidden: flag(flags, 1),', 'hidden: flag(flags, 2),'),
+    ('the ends of a tree that went', 'node/tree_state', 'if t.exists == 0 {', 'if (t.exists == 0) & (k < 1) {'),
+    ('focused though it is its own active descendant', 'filters_plain', 'if a == i {\n        return n;', 'if a == i {\n        return i;'),
+    ('focused without the host', 'filters_plain', 'if state_array::host(state) == 0 {', 'if state_array::host(state) == 7 {'),
+    ('a text run is listed', 'filters_plain', ' | (role == 1)', ''),
+    ('a neighbour inside a container not met', 'filters_plain', 'FilterResult::ExcludeNode => iterators_steps::into(state, side, at),', 'FilterResult::ExcludeNode => iterators_steps::after(state, side, at),'),
+    ('the parent\'s filter not asked', 'filters', 'if is_exclude_subtree(common_filter_up(state, focused, p)) {', 'if is_exclude_subtree(common_filter_up(state, focused, p)) & (p < 1) {'),
+    ('the neighbour before not asked', 'filters', '    !is_first_sibling_in_parent_bbox(state, focused, Side::Preceding, at, parent_bbox)', '    true'),
+    ('clips where the node, not its parent, clips', 'filters', 'if !clips_children(state, p) {', 'if !clips_children(state, i) {'),
+    ('no exception for the root', 'filters', '    if is_root(state, i) {\n        return FilterResult::Include;', '    if is_root(state, i) {\n        return common_filter_at(state, focused, i);'),
+    ('a walk climbs one level less', 'iterators_steps', 'if level < 1 {', 'if level < 2 {'),
+    ('a level not counted on the way down', 'iterators_steps', 'level: one_more(at.level),', 'level: at.level,'),
+    ('the siblings before in order', 'iterators_lists', 'run.index - 1 - k', 'k'),
+    ('filtered siblings of its own parent alone', 'iterators_shown', 'let level = up.level;', 'let level = 0usize;'),
+    ('the deepest child one level down', 'iterators_shown', 'if n <= next {', 'if n <= next + n {'),
+    ('a walk one behind its count', 'iterators_shown', 'while left > 0 {', 'while left > 1 {'),
+    ('a slice just long enough for a list refused', 'iterators', 'if out.len() < words {', 'if out.len() <= words {'),
+    ('an element beyond the list written', 'iterators', 'while i < words {', 'while (i < words + 1) & (i < out.len()) {'),
+]
+
+# The library's functions after `cartgravel_`: what C's answer is called, and the arguments.
+FUNCTIONS = {
+    'start': ('reply', 'state batch number'), 'update': ('reply', 'state batch changes'), 'host_focus': ('reply', 'state number'),
+    'focus': ('found', 'asked'), 'root': ('found', 'asked'), 'counts': ('counts_answer', 'asked'),
+    'tree_id': ('tree_answer', 'asked index'), 'tree_index': ('index_answer', 'asked tree'), 'tree_ends': ('ends_answer', 'asked index'),
+    'node': ('node_answer', 'asked id'), 'label': ('listed', 'asked id label'),
+    'parent': ('found', 'asked id'), 'children': ('listed', 'asked id ids'),
+    'hidden': ('flag', 'asked id'), 'transform': ('transform_answer', 'asked id'), 'bounding_box': ('box_answer', 'asked id'),
+    'filter': ('filter_answer', 'asked id number'), 'filtered_parent': ('found', 'asked id number'),
+    'first_filtered_child': ('found', 'asked id number'), 'last_filtered_child': ('found', 'asked id number'),
+    'deepest_first_filtered_child': ('found', 'asked id number'), 'deepest_last_filtered_child': ('found', 'asked id number'),
+    'siblings': ('listed', 'asked id number ids'), 'filtered_children': ('listed', 'asked id number ids'),
+    'filtered_siblings': ('listed', 'asked id number other ids'), 'next': ('found', 'walk asked'),
+}
+# An argument as the program below gives it.
+GIVEN = {'state': '&mut state', 'asked': '&state', 'batch': '&b', 'changes': '&mut lent', 'ids': '&mut lent', 'label': '&mut bytes', 'number': '1', 'other': '1',
+         'index': 'ids::TreeIndex(1)', 'tree': 'ids::TreeId { high: 0, low: 0 }', 'id': 'ids::FullNodeId { tree: ids::TreeIndex(0), node: ids::NodeId(1) }',
+         'walk': '&mut walk'}
+
+
+def path_of(name):
+    """Where the library has a function: in lib.rt or in a module."""
+    folder = f'{REPOSITORY}/crates/cartgravel/src'
+    found = [f[:-3] for f in os.listdir(folder) if re.search(rf'\bfn cartgravel_{name}\b', read(f'{folder}/{f}'))]
+    module = '' if found == ['lib'] else f'{found[0]}::'
+    return f'cartgravel::{module}cartgravel_{name}'
+
+
+def program():
+    """Reaches the library's functions, so that they are compiled."""
+    lines = [f'    said += {path_of(name)}({", ".join(GIVEN[a] for a in words.split())}).number as u64;' for name, (_, words) in FUNCTIONS.items()]
+    return '''fn main() {
     let b = [0u8; 3];
     let mut lent = [0u64; 9];
+    let mut bytes = [0u8; 9];
     let mut state = [0u64; 9640];
-    let a = cartgravel::cartgravel_start(&mut state, &b, 1);
-    let d = cartgravel::cartgravel_update(&mut state, &b, &mut lent);
-    let e = cartgravel::cartgravel_host_focus(&mut state, 1);
-    io::print_decimal(1, (a.number + d.number + e.number) as u64);
+    let mut said = 0u64;
+    let mut walk = questions::Walk {
+        node: ids::FullNodeId { tree: ids::TreeIndex(0), node: ids::NodeId(1) },
+        side: 0,
+        filter: 0,
+        count: 0,
+    };
+''' + '\n'.join(lines) + '''
+    io::print_decimal(1, said);
 }
 '''
-# In a build without proofs slices and replies are behind pointers.
-BOUNDARY = '''#include "cartgravel.h"
-struct slice { const void *at; size_t length; };
-void unproved_start(cartgravel_reply *, cartgravel_state *, const struct slice *, uint32_t);
-void unproved_update(cartgravel_reply *, cartgravel_state *, const struct slice *, const struct slice *);
-void unproved_host_focus(cartgravel_reply *, cartgravel_state *, uint32_t);
-cartgravel_reply cartgravel_start(cartgravel_state *state, const uint8_t *batch, size_t length, uint32_t host_focused) {
-    cartgravel_reply reply;
-    const struct slice record = {batch, length};
-    unproved_start(&reply, state, &record, host_focused);
-    return reply;
+
+# An argument in C, in a build without proofs (where slices, structs and answers are behind pointers), and how one becomes the other.
+CROSSES = {
+    'state': ('cartgravel_state *state', 'cartgravel_state *', 'state'), 'asked': ('const cartgravel_state *state', 'const cartgravel_state *', 'state'),
+    'batch': ('const uint8_t *batch, size_t length', 'const struct slice *', '&(struct slice){batch, length}'),
+    'changes': ('uint64_t *changes, size_t room', 'const struct slice *', '&(struct slice){changes, room}'),
+    'ids': ('uint64_t *out, size_t room', 'const struct slice *', '&(struct slice){out, room}'),
+    'label': ('uint8_t *out, size_t room', 'const struct slice *', '&(struct slice){out, room}'),
+    'number': ('uint32_t number', 'uint32_t', 'number'), 'other': ('uint32_t other', 'uint32_t', 'other'),
+    'index': ('uint32_t index', 'const uint32_t *', '&index'), 'tree': ('cartgravel_uuid tree', 'const cartgravel_uuid *', '&tree'),
+    'id': ('cartgravel_node_id id', 'const cartgravel_node_id *', '&id'), 'walk': ('cartgravel_walk *walk', 'cartgravel_walk *', 'walk'),
 }
-cartgravel_reply cartgravel_update(cartgravel_state *state, const uint8_t *batch, size_t length, uint64_t *changes, size_t room) {
-    cartgravel_reply reply;
-    const struct slice record = {batch, length}, lent = {changes, room};
-    unproved_update(&reply, state, &record, &lent);
-    return reply;
-}
-cartgravel_reply cartgravel_host_focus(cartgravel_state *state, uint32_t host_focused) {
-    cartgravel_reply reply;
-    unproved_host_focus(&reply, state, host_focused);
-    return reply;
-}
-'''
+
+
+def boundary():
+    """The functions as C has them, over those of a build without proofs, which are loaded from the file that UNPROVED names."""
+    out = ['#include <dlfcn.h>', '#include <stdlib.h>', '#include "cartgravel.h"', 'struct slice { const void *at; size_t length; };',
+           'static void *loaded(const char *name) {', '    static void *library;', f'    if (!library) library = dlopen(getenv("{UNPROVED}"), RTLD_NOW);',
+           '    void *found = library ? dlsym(library, name) : 0;', '    if (!found) exit(3);', '    return found;', '}']
+    for name, (answer, words) in FUNCTIONS.items():
+        c, unproved, given = zip(*(CROSSES[a] for a in words.split()))
+        out += [f'cartgravel_{answer} cartgravel_{name}({", ".join(c)}) {{', f'    static void (*unproved)(cartgravel_{answer} *, {", ".join(unproved)});',
+                f'    if (!unproved) *(void **)&unproved = loaded("unproved_{name}");', f'    cartgravel_{answer} answer;',
+                f'    unproved(&answer, {", ".join(given)});', '    return answer;', '}']
+    return '\n'.join(out) + '\n'
 
 
 # ## The library, built without proofs
@@ -127,8 +199,10 @@ def write(path, text):
 def copy_sources(folder, change):
     """The crates without contracts, with the change; answers the compiler's words that name them."""
     deps = dict(re.findall(r'^(\w+): *(.*)$', read(f'{REPOSITORY}/crates.txt'), re.M))
-    words = []
-    for crate in deps['cartgravel'].split() + ['cartgravel']:
+    needed, words = {'cartgravel'}, []
+    for crate in reversed(deps):
+        needed |= set(deps[crate].split()) if crate in needed else set()
+    for crate in [c for c in deps if c in needed]:
         source = f'{REPOSITORY}/crates/{crate}/src'
         if os.path.getsize(f'{source}/lib.rt') < 3:
             continue  # definitions alone
@@ -138,22 +212,23 @@ def copy_sources(folder, change):
             if change and source_file(change[1]) == f'{source}/{name}':
                 text = text.replace(change[2], change[3])
             text = re.sub(r'^ghost use .*\n', '', text, flags=re.M)
+            text = re.sub(r'^mod ', 'pub mod ', text, flags=re.M)
             write(f'{folder}/{crate}/{name}', re.sub(r'^    (requires|ensures)\b.*\n', '', text, flags=re.M))
         words += ['--lib', f'{crate}={folder}/{crate}/lib.rt']
     return words
 
 
 def build(folder, change):
-    """Writes folder/libcartgravel.a."""
+    """Writes folder/unproved.so."""
     kit = os.path.dirname(os.path.dirname(subprocess.run(['rt', 'doc'], capture_output=True, text=True, check=True).stdout.strip()))
     on = f'{kit}/on/x86_64'
     for sub in ('program', 'tools/bin', 'saved'):
         os.makedirs(f'{folder}/{sub}')
     words = [w for n in ('std', 'io', 'libc') for w in ('--lib', f'{n}={kit}/libs/{n}/src/lib.rt')] + copy_sources(folder, change)
-    write(f'{folder}/program/main.rt', PROGRAM)
+    write(f'{folder}/program/main.rt', program())
     os.symlink(f'{on}/toolchain/lib', f'{folder}/tools/lib')
     os.symlink(f'{on}/toolchain/bin/llvm-ar', f'{folder}/tools/bin/llvm-ar')
-    keep = f'for a in "$@"; do case $a in *.bc) cp -n "$a" {folder}/saved/;; esac; done\n'
+    keep = f'for a in "$@"; do case $a in *.bc) [ -s "$a" ] && cp -n "$a" {folder}/saved/ && exit 1;; esac; done\n'
     for name, before in (('clang', keep), ('ld.lld', '')):
         write(f'{folder}/tools/bin/{name}', f'#!/bin/sh\n{before}exec {on}/toolchain/bin/{name} "$@"\n')
         os.chmod(f'{folder}/tools/bin/{name}', 0o755)
@@ -162,40 +237,45 @@ def build(folder, change):
         sys.exit(said.stdout + said.stderr)
     clang = f'{on}/toolchain/bin/clang'
     subprocess.run([clang, '-S', '-emit-llvm', '-x', 'ir', f'{folder}/saved/module.bc', '-o', f'{folder}/library.ll', '-O0', '-Xclang', '-disable-llvm-passes'], check=True, stderr=subprocess.DEVNULL)
-    text = re.sub(r'define internal ([^\n]*@"cartgravel::cartgravel_\w+")', r'define \1', read(f'{folder}/library.ll'))
+    text = re.sub(r'define internal ([^\n]*@"cartgravel::(?:\w+::)?cartgravel_\w+")', r'define \1', read(f'{folder}/library.ll'))
     text = re.sub(r'define ([^\n]*@main\()', r'define internal \1', text)
-    write(f'{folder}/library.ll', re.sub(r'@"cartgravel::cartgravel_(\w+)"', r'@unproved_\1', text))
-    subprocess.run([clang, '--target=x86_64-unknown-linux-gnu', '-march=x86-64', '-c', '-x', 'ir', f'{folder}/library.ll', '-o', f'{folder}/library.o', '-fPIC', '-O3'], check=True)
-    write(f'{folder}/boundary.c', BOUNDARY)
+    write(f'{folder}/library.ll', re.sub(r'@"cartgravel::(?:\w+::)?cartgravel_(\w+)"', r'@unproved_\1', text))
+    subprocess.run([clang, '--target=x86_64-unknown-linux-gnu', '-march=x86-64', '-c', '-x', 'ir', f'{folder}/library.ll', '-o', f'{folder}/library.o', '-fPIC', '-O1'], check=True)
+    subprocess.run(['cc', '-shared', f'{folder}/library.o', '-o', f'{folder}/unproved.so'], check=True)
+
+
+def write_archive(folder):
+    """Writes folder/libcartgravel.a, which a driver links once for all changes."""
+    os.makedirs(folder, exist_ok=True)
+    write(f'{folder}/boundary.c', boundary())
     subprocess.run(['cc', '-O2', '-fPIC', '-c', f'{folder}/boundary.c', '-I', f'{REPOSITORY}/include', '-o', f'{folder}/boundary.o'], check=True)
-    subprocess.run([f'{on}/toolchain/bin/llvm-ar', 'rcs', f'{folder}/libcartgravel.a', f'{folder}/library.o', f'{folder}/boundary.o'], check=True)
+    subprocess.run(['ar', 'rcs', f'{folder}/libcartgravel.a', f'{folder}/boundary.o'], check=True)
 
 
 # ## The runs
 
-def noticed(driver, words, seconds):
+def noticed(driver, words, environment, seconds):
     """How many calls differ, or how the run ended; and the first call that differs."""
     try:
-        said = subprocess.run([driver] + words, capture_output=True, text=True, timeout=seconds)
+        said = subprocess.run([driver] + words, capture_output=True, text=True, timeout=seconds, env=environment)
     except subprocess.TimeoutExpired:
         return 'no end', ''
-    first = re.search(r'^call (\d+), the first that differs', said.stdout, re.M)
-    count = re.search(r'; (\d+) differ$', said.stdout, re.M)
-    if not count:
+    first = re.search(r'^(?:call|question) (\d+), the first that differs', said.stdout, re.M)
+    counts = re.findall(r'; (\d+) differ$', said.stdout, re.M)
+    if not counts:
         return f'ended with {said.returncode}', first[1] if first else ''
-    return int(count[1]), first[1] if first else ''
+    return sum(map(int, counts)), first[1] if first else ''
 
 
-def tried(change, archive, environment, options):
-    """Builds the library with a change and answers what the two runs noticed."""
+def tried(change, driver, options):
+    """Builds the library with a change and answers what the runs noticed: of calls, of small batches, of questions; none where there is no run."""
+    seed = ['--seed', str(options.seed)]
+    runs = [['--batches', str(options.batches)] + seed, ['--exhaustive', '--every', str(options.every)], ['--questions', str(options.screens)] + seed]
+    wanted = [change not in QUESTIONS, change not in QUESTIONS, change not in CHANGES]
     with tempfile.TemporaryDirectory() as folder:
         build(folder, change)
-        shutil.copy(f'{folder}/libcartgravel.a', archive)
-    subprocess.run(['cargo', 'build', '--release', '--offline', '--quiet', '-p', 'driver'], cwd=HERE, env=environment, check=True)
-    driver = os.path.join(environment['CARGO_TARGET_DIR'], 'release', 'driver')
-    made = noticed(driver, ['--batches', str(options.batches), '--seed', str(options.seed)], options.seconds)
-    small = noticed(driver, ['--exhaustive', '--every', str(options.every)], options.seconds)
-    return made, small
+        environment = {**os.environ, UNPROVED: f'{folder}/unproved.so'}
+        return [noticed(driver, words, environment, options.seconds) if run else (0, None) for words, run in zip(runs, wanted)]
 
 
 def main():
@@ -203,27 +283,31 @@ def main():
     options.add_argument('--batches', type=int, default=20000)
     options.add_argument('--seed', type=int, default=1)
     options.add_argument('--every', type=int, default=50, help='of the small batches')
+    options.add_argument('--screens', type=int, default=600, help='made screens that questions are asked about')
+    options.add_argument('--questions', action='store_true', help='the changes in modules 6 to 8 alone')
     options.add_argument('--seconds', type=int, default=600, help='the most that a run may take')
     options.add_argument('--only', default='', help='changes whose description has these words')
     o = options.parse_args()
     if not os.environ.get(SOURCE):
         sys.exit(f"{SOURCE} is not set: it must name the folder with accesskit_consumer 0.39.2's src/*.rs")
-    for what, where, text, _ in CHANGES:
+    for what, where, text, _ in CHANGES + QUESTIONS:
         count = read(source_file(where)).count(text)
         if count != 1:
             sys.exit(f'{what}: the text stands {count} times in {source_file(where)}')
     target = os.path.join(os.environ.get('CARGO_TARGET_DIR', os.path.join(HERE, 'target')), 'broken')
     archive = os.path.join(target, 'archive')
-    os.makedirs(archive, exist_ok=True)
+    write_archive(archive)
     environment = {**os.environ, 'CARGO_TARGET_DIR': target, 'CARTGRAVEL_LIB': archive}
-    print('| what was changed | in | made calls that differ, the first | small calls that differ, the first |\n|---|---|---|---|', flush=True)
+    subprocess.run(['cargo', 'build', '--release', '--offline', '--quiet', '-p', 'driver'], cwd=HERE, env=environment, check=True)
+    driver = os.path.join(target, 'release', 'driver')
+    print('| what was changed | in | made calls that differ, the first | small calls that differ, the first | answers about screens that differ, the first |\n|---|---|---|---|---|', flush=True)
     good = True
-    for change in [None] + [c for c in CHANGES if o.only in c[0]]:
-        made, small = tried(change, archive, environment, o)
+    for change in [None] + [c for c in ([] if o.questions else CHANGES) + QUESTIONS if o.only in c[0]]:
+        runs = tried(change, driver, o)
         what, where = (change[0], os.path.relpath(source_file(change[1]), REPOSITORY)) if change else ('nothing', '')
-        cells = ['{}, {}'.format(*x) if x[1] else str(x[0]) for x in (made, small)]
-        print(f'| {what} | {where} | {cells[0]} | {cells[1]} |', flush=True)
-        good &= ((made[0], small[0]) == (0, 0)) == (change is None)
+        cells = ['' if x[1] is None else '{}, {}'.format(*x) if x[1] else str(x[0]) for x in runs]
+        print(f'| {what} | {where} | {" | ".join(cells)} |', flush=True)
+        good &= all(x[0] == 0 for x in runs) == (change is None)
     sys.exit(not good)
 
 

@@ -23,7 +23,9 @@ const FOCUSES: &[u64] = &[1, 2, 3];
 pub fn run(tally: &mut Tally, every: usize) {
     let lists = lists();
     for b in batches(&lists, &[ROOT, T], ROOTS, FOCUSES).step_by(every) {
-        tally.call(None, &Call::Start(Input::Batch(b), true));
+        if let (_, Some(next)) = tally.call(None, &Call::Start(Input::Batch(b), true)) {
+            tally.asked.new_pair(&next);
+        }
     }
     for ground in grounds() {
         let from = tally.batches();
@@ -36,12 +38,16 @@ pub fn run(tally: &mut Tally, every: usize) {
 /// An accepted batch is compared again with slices of and below the length of its lists.
 fn on_ground(tally: &mut Tally, lists: &[Nodes], ground: &Ground, every: usize) {
     let pair = Pair::new(ground.on.clone());
+    tally.asked.new_pair(&pair);
     for b in batches(lists, ground.trees, ground.roots, ground.focuses).step_by(every) {
         if tally.gave_up() {
             return;
         }
         let input = Input::Batch(b);
-        let (answer, _) = tally.call(Some(&pair), &Call::Update(input.clone(), filler(64)));
+        let (answer, next) = tally.call(Some(&pair), &Call::Update(input.clone(), filler(64)));
+        if let Some(next) = next {
+            tally.asked.new_pair(&next);
+        }
         if answer.listed() > 0 {
             tight(tally, &pair, &input, answer.listed());
         }

@@ -8,6 +8,13 @@ use calls::make::{self, Rng, World};
 /// Each number that a batch can get is to have about this many of a thousand.
 const SHARE: u64 = 12;
 
+/// Questions are asked on the states of one accepted call in so many, on one damaged copy in so many, and on so many made
+/// screens after each history; a walk goes on in the state of one accepted call in so many.
+const STATES: u64 = 120;
+const DAMAGED: u64 = 8;
+const LATER: u64 = 7;
+const SCREENS: u64 = 1;
+
 /// Makes histories until so many batches are compared. 8 and 20 come from worlds of many trees or nodes.
 pub fn run(tally: &mut Tally, batches: u64, seed: u64) {
     known(tally);
@@ -21,6 +28,7 @@ pub fn run(tally: &mut Tally, batches: u64, seed: u64) {
             (World::new(&mut r), 5 + r.below(30))
         };
         history(tally, &mut r, &w, steps, batches);
+        tally.asked.screens(SCREENS);
     }
 }
 
@@ -63,6 +71,9 @@ fn step(tally: &mut Tally, r: &mut Rng, w: &World, pair: Pair) -> Pair {
         let memory = damage::damaged(r, w, &pair);
         let call = make::next_call(r, w, &pair.held.plain);
         tally.call_on_memory(&memory, &call);
+        if tally.calls() % DAMAGED == 0 {
+            tally.asked.memory(&memory);
+        }
     }
     let call = match r.below(100) {
         0 | 1 => make::limit_call(r, &pair.held.plain),
@@ -73,7 +84,16 @@ fn step(tally: &mut Tally, r: &mut Rng, w: &World, pair: Pair) -> Pair {
     if let (Call::Update(input, _), 0, true) = (&call, answer.number, r.chance(5)) {
         tight(tally, &pair, input, answer.listed());
     }
-    next.unwrap_or(pair)
+    if let Some(next) = next {
+        if tally.calls() % STATES == 0 {
+            tally.asked.pair(&next);
+        }
+        if tally.calls() % LATER == 0 {
+            tally.asked.later(&pair.held.plain, &next);
+        }
+        return next;
+    }
+    pair
 }
 
 /// A batch again, with a slice as long as its lists and with one that is too short by one.

@@ -1,12 +1,16 @@
-//! Compares the linked library with the crate's real source: made histories of calls, or all small batches.
+//! Compares the linked library with the crate's real source: made histories of calls, or all small batches, with questions
+//! about the states; or questions about made screens alone.
 //!
 //!     driver --batches 1000000 --seed 1
 //!     driver --exhaustive
+//!     driver --questions 2000 --seed 1
+mod ask;
 mod damage;
 mod exhaustive;
 mod histories;
 mod library;
 mod memory;
+mod questions;
 mod tally;
 mod text;
 
@@ -22,11 +26,17 @@ fn main() {
         }
     }));
     let options = options().unwrap_or_else(|| {
-        eprintln!("usage: driver [--batches N] [--seed N] | driver --exhaustive [--every N]");
+        eprintln!("usage: driver [--batches N] [--seed N] | driver --exhaustive [--every N] | driver --questions N [--seed N]");
         std::process::exit(2);
     });
     let begun = Instant::now();
-    let mut tally = Tally::default();
+    let mut tally = Tally::new(options.seed);
+    if options.questions > 0 {
+        tally.asked.screens(options.questions);
+        let good = tally.asked.report();
+        println!("\n{} seconds", begun.elapsed().as_secs());
+        std::process::exit(!good as i32);
+    }
     let due: &[u8] = if options.exhaustive {
         exhaustive::run(&mut tally, options.every);
         &[]
@@ -43,18 +53,21 @@ struct Options {
     batches: u64,
     seed: u64,
     exhaustive: bool,
+    /// The screens that are asked about, without any call.
+    questions: u64,
     /// Of the small batches, how many are passed over for one that is run.
     every: usize,
 }
 
 /// The options, or none where they cannot be read.
 fn options() -> Option<Options> {
-    let mut o = Options { batches: 1_000_000, seed: 1, exhaustive: false, every: 1 };
+    let mut o = Options { batches: 1_000_000, seed: 1, exhaustive: false, questions: 0, every: 1 };
     let mut args = std::env::args().skip(1);
     while let Some(name) = args.next() {
         match name.as_str() {
             "--exhaustive" => o.exhaustive = true,
             "--batches" => o.batches = args.next()?.parse().ok()?,
+            "--questions" => o.questions = args.next()?.parse().ok().filter(|n| *n > 0)?,
             "--seed" => o.seed = args.next()?.parse().ok()?,
             "--every" => o.every = args.next()?.parse().ok().filter(|n| *n > 0)?,
             _ => return None,

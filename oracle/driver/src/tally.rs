@@ -1,5 +1,6 @@
 //! Runs calls on both sides, compares the whole answers and counts.
 use crate::library::{self, Given};
+use crate::questions::Asked;
 use crate::{memory, text};
 use calls::judge::{Answer, Call, Did, Held, held, judge};
 use calls::plain::{Id, State};
@@ -31,6 +32,7 @@ pub struct Tally {
     did: BTreeMap<(u8, char, Did), (u64, String)>,
     restored: u64,
     differences: u64,
+    pub asked: Asked,
     /// The shortest description of a difference.
     shortest: Option<String>,
 }
@@ -39,8 +41,13 @@ pub struct Tally {
 const LIMIT: u64 = 1000;
 
 impl Tally {
+    /// Nothing was compared; the questions are chosen by this seed.
+    pub fn new(seed: u64) -> Tally {
+        Tally { asked: Asked::new(seed), ..Tally::default() }
+    }
+
     /// The calls compared.
-    fn calls(&self) -> u64 {
+    pub fn calls(&self) -> u64 {
         self.counts.values().sum()
     }
 
@@ -54,9 +61,9 @@ impl Tally {
         self.counts.get(&('u', number)).copied().unwrap_or(0)
     }
 
-    /// Whether so many calls differ that the run ends.
+    /// Whether so many calls or questions differ that the run ends.
     pub fn gave_up(&self) -> bool {
-        self.differences >= LIMIT
+        self.differences + self.asked.differences >= LIMIT
     }
 
     /// A call on a sound state that both sides hold (none: a start). Answers what is due, and the next state
@@ -87,7 +94,8 @@ impl Tally {
         };
         let given = library::run(Some(memory), call);
         let mut parts = differing(Some(memory), call, &answer, &given);
-        if given.reply.number == 0 && answer.number == 0 && given.memory_differs(&answer, call, Some(memory)) {
+        if given.reply.number == 0 && answer.number == 0 && given.memory_differs(&answer, call, Some(memory))
+        {
             parts.push("state");
         }
         *self.shown.entry("a state's memory changed").or_default() += 1;
@@ -149,7 +157,7 @@ impl Tally {
         if !missing.is_empty() {
             println!("\nnumbers that did not occur: {missing:?}");
         }
-        missing.is_empty() && self.differences == 0
+        self.asked.report() & (missing.is_empty() && self.differences == 0)
     }
 
     /// The calls of all kinds that got this number.
