@@ -1,9 +1,13 @@
 //! Microseconds of the processor per call: the proved library and the crate's real source on the same inputs, in one
 //! process, side by side in each row. Prints the tables of docs/PERFORMANCE.md.
+mod asked;
 mod clock;
 mod inputs;
+mod question_tables;
+mod questions;
 mod refusals;
 mod rows;
+mod screens;
 mod sides;
 mod tables;
 mod worst;
@@ -27,6 +31,15 @@ const SHAPES: [Shape; 5] = [
 
 fn main() {
     clock::keep_memory();
+    match std::env::args().nth(1).as_deref() {
+        None => calls(),
+        Some("questions") => question_tables::print(),
+        Some(other) => panic!("{other}: `questions`, or nothing for the calls"),
+    }
+}
+
+/// The tables of the calls.
+fn calls() {
     let mut rows: Vec<Row> = [16, 64].into_iter().flat_map(|nodes| starts(Shape { nodes, fan: 4 })).collect();
     rows.extend(SHAPES.into_iter().flat_map(batches));
     rows.extend(SHAPES.into_iter().map(host_focus));
