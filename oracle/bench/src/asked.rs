@@ -92,22 +92,26 @@ pub fn asked(screen: &Screen, row: &Row) -> Asked {
     timed(screen, row.question, &ids)
 }
 
-/// The node of whom ours is asked longest.
+/// The node of whom ours is asked longest, by the least of a few passes over all nodes.
 fn slowest(screen: &Screen, question: Question) -> Id {
     let mut room = [0; _];
-    let mut once = |id| per_call(0..1, |_| ours(&screen.ours, question, id, &mut room));
-    let mut least = |id| (0..5).map(|_| once(id)).fold(f64::INFINITY, f64::min);
-    let times: Vec<(f64, Id)> = screen.ids.iter().map(|id| (least(*id), *id)).collect();
-    times.into_iter().max_by(|x, y| x.0.total_cmp(&y.0)).expect("a node").1
+    let mut least = vec![f64::INFINITY; screen.ids.len()];
+    for _ in 0..5 {
+        for (id, least) in screen.ids.iter().zip(&mut least) {
+            *least = least.min(per_call(0..1, |_| ours(&screen.ours, question, *id, &mut room)));
+        }
+    }
+    let times = screen.ids.iter().zip(least);
+    *times.max_by(|x, y| x.1.total_cmp(&y.1)).expect("a node").0
 }
 
 /// The node nearest the middle that has filtered siblings on both sides, else the one in the middle.
 pub fn middle(screen: &Screen) -> Id {
     let count = |id, side| ours(&screen.ours, Question::FilteredSiblings(COMMON, side), id, &mut [0; _]);
-    let between = |id: &&Id| [FOLLOWING, PRECEDING].iter().all(|side| count(**id, *side) != Answer::Listed(0));
-    let half = screen.ids.len() as u64 / 2;
-    let found = screen.ids.iter().filter(between).min_by_key(|id| id.1.abs_diff(half));
-    *found.unwrap_or(&screen.ids[half as usize])
+    let between = |k: &usize| [FOLLOWING, PRECEDING].iter().all(|side| count(screen.ids[*k], *side) != Answer::Listed(0));
+    let half = screen.ids.len() / 2;
+    let found = (0..screen.ids.len()).filter(between).min_by_key(|k| k.abs_diff(half));
+    screen.ids[found.unwrap_or(half)]
 }
 
 /// Rounds of whole questions, of judging alone and of the crate, a few questions in turn. A few questions' time is the

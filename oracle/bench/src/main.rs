@@ -9,6 +9,7 @@ mod refusals;
 mod rows;
 mod screens;
 mod sides;
+mod stack;
 mod tables;
 mod worst;
 
@@ -31,10 +32,13 @@ const SHAPES: [Shape; 5] = [
 
 fn main() {
     clock::keep_memory();
-    match std::env::args().nth(1).as_deref() {
-        None => calls(),
-        Some("questions") => question_tables::print(),
-        Some(other) => panic!("{other}: `questions`, or nothing for the calls"),
+    let words: Vec<String> = std::env::args().skip(1).collect();
+    match words.iter().map(String::as_str).collect::<Vec<_>>()[..] {
+        [] => calls(),
+        ["questions"] => question_tables::print(None),
+        ["questions", part @ ("48" | "256" | "worst")] => question_tables::print(Some(part)),
+        ["stack"] => stack::print(),
+        _ => panic!("`questions` (with `48`, `256` or `worst`), `stack`, or nothing for the calls"),
     }
 }
 

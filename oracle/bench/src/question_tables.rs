@@ -9,22 +9,20 @@ struct Cell {
     asked: Asked,
 }
 
-/// Prints all tables.
-pub fn print() {
-    let (rows, mut screens) = (rows(), usual(48));
-    let small = screens.len();
-    screens.extend(usual(256));
-    let large = screens.len();
-    screens.extend(worst(256));
-    let mut cells = vec![];
-    for (from, to, nodes) in [(0, small, 48), (small, large, 256), (large, screens.len(), 256)] {
+/// Prints the tables of all states, or of those that `part` names: `48`, `256`, `worst`.
+pub fn print(part: Option<&str>) {
+    let parts = [("48", 48, usual as fn(u64) -> Vec<Screen>), ("256", 256, usual), ("worst", 256, worst)];
+    let (rows, mut screens, mut cells) = (rows(), vec![], vec![]);
+    for (_, nodes, made) in parts.into_iter().filter(|(name, ..)| part.is_none_or(|part| part == *name)) {
         println!("\n{nodes} nodes: our own work / the crate's time, µs, and the ratio.\n");
-        matrix(&rows, &screens[from..to], from, &mut cells);
+        let from = screens.len();
+        screens.extend(made(nodes));
+        matrix(&rows, &screens[from..], from, &mut cells);
     }
     println!("\nThe slowest state of each question, of all above.\n");
     slowest(&rows, &screens, &cells);
     println!("\nA whole walk by `next` over the filtered siblings after a node in the middle.\n");
-    walks(&screens[small..]);
+    walks(&screens);
 }
 
 /// A line for each question, a column for each state.
