@@ -76,7 +76,8 @@ pub fn rows() -> Vec<Row> {
 /// Both answers must be equal.
 fn compare(screen: &Screen, question: Question, id: Id) {
     let (mut x, mut y) = ([0; _], [0; _]);
-    let (given, due) = (ours(&screen.ours, question, id, &mut x), theirs(&screen.theirs, question, id, &mut y));
+    let (given, due) =
+        (ours(&screen.ours, question, id, &mut x), theirs(&screen.theirs, question, id, &mut y));
     assert!(given == due && x == y, "{}: {question:?} of {id:?}: {given:?}, the crate {due:?}", screen.name);
 }
 
@@ -108,7 +109,9 @@ fn slowest(screen: &Screen, question: Question) -> Id {
 /// The node nearest the middle that has filtered siblings on both sides, else the one in the middle.
 pub fn middle(screen: &Screen) -> Id {
     let count = |id, side| ours(&screen.ours, Question::FilteredSiblings(COMMON, side), id, &mut [0; _]);
-    let between = |k: &usize| [FOLLOWING, PRECEDING].iter().all(|side| count(screen.ids[*k], *side) != Answer::Listed(0));
+    let between = |k: &usize| {
+        [FOLLOWING, PRECEDING].iter().all(|side| count(screen.ids[*k], *side) != Answer::Listed(0))
+    };
     let half = screen.ids.len() / 2;
     let found = (0..screen.ids.len()).filter(between).min_by_key(|k| k.abs_diff(half));
     screen.ids[found.unwrap_or(half)]
@@ -120,10 +123,13 @@ fn timed(screen: &Screen, question: Question, ids: &[Id]) -> Asked {
     let mut all = [0.0; 4];
     let chunks: Vec<&[Id]> = ids.chunks(CHUNK).collect();
     let again: Vec<[usize; 2]> = chunks.iter().map(|chunk| repeats(screen, question, chunk)).collect();
-    let rounds = rounds(|| chunks.iter().zip(&again).map(|(chunk, again)| round(screen, question, chunk, *again)).collect());
+    let rounds = rounds(|| {
+        chunks.iter().zip(&again).map(|(chunk, again)| round(screen, question, chunk, *again)).collect()
+    });
     for (k, chunk) in chunks.iter().enumerate() {
         let share = chunk.len() as f64 / ids.len() as f64;
-        let median = |of: &dyn Fn(&[f64; 3]) -> f64| share * median(rounds.iter().map(|round: &Vec<_>| of(&round[k])));
+        let median =
+            |of: &dyn Fn(&[f64; 3]) -> f64| share * median(rounds.iter().map(|round: &Vec<_>| of(&round[k])));
         all[0] += median(&|r| r[0]);
         all[1] += median(&|r| r[1]);
         all[2] += median(&|r| r[0] - r[1]);

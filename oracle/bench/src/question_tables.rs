@@ -51,7 +51,9 @@ fn matrix(rows: &[Row], screens: &[Screen], from: usize, cells: &mut Vec<Cell>) 
 
 /// For each question the state with the longest whole question.
 fn slowest(rows: &[Row], screens: &[Screen], cells: &[Cell]) {
-    println!("| question | state | the whole question, µs | judging, µs | own work, µs | the crate, µs | own work / crate |");
+    println!(
+        "| question | state | the whole question, µs | judging, µs | own work, µs | the crate, µs | own work / crate |"
+    );
     println!("|---|---|---|---|---|---|---|");
     for (k, row) in rows.iter().enumerate() {
         let of_row = cells.iter().filter(|cell| cell.row == k);
@@ -64,7 +66,9 @@ fn slowest(rows: &[Row], screens: &[Screen], cells: &[Cell]) {
 
 /// Own work of a step beside that of a list.
 fn walks(screens: &[Screen]) {
-    println!("| state | steps | judging, µs a step | own work, µs a step | own work of one list, µs | a step / a list |");
+    println!(
+        "| state | steps | judging, µs a step | own work, µs a step | own work of one list, µs | a step / a list |"
+    );
     println!("|---|---|---|---|---|---|");
     for screen in screens {
         let walk = walked(screen);

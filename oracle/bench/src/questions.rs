@@ -1,7 +1,7 @@
 //! The questions of modules 6 to 8, asked of both sides.
 use accesskit_consumer::filters::{self, FilterResult, probe::without_parent_checks};
-use accesskit_consumer::node::probe::{first_filtered_child, full, last_filtered_child, parts};
 use accesskit_consumer::node::NodeRef;
+use accesskit_consumer::node::probe::{first_filtered_child, full, last_filtered_child, parts};
 use accesskit_consumer::tree::TreeState;
 use calls::plain::Id;
 use cartgravel::{FullNodeId, NODES, NodeId, TreeIndex, sys};

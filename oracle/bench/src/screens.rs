@@ -99,7 +99,14 @@ pub fn usual(nodes: u64) -> Vec<Screen> {
 /// A chain of clipping nodes.
 pub fn clipping_chain(nodes: u64) -> Screen {
     let data = |_| with(meeting(), ORDINARY, CLIPS);
-    Plan { name: "a chain, clipping", nodes, parent: Box::new(above), data: Box::new(data), number: consecutive }.screen()
+    Plan {
+        name: "a chain, clipping",
+        nodes,
+        parent: Box::new(above),
+        data: Box::new(data),
+        number: consecutive,
+    }
+    .screen()
 }
 
 /// The slowest states that were found, of these many nodes.
@@ -117,13 +124,27 @@ pub fn worst(nodes: u64) -> Vec<Screen> {
 
 /// A chain of clipping nodes, each outside its parent's box and kept by the sibling before it, which lies inside.
 fn saved_by_siblings(nodes: u64) -> Plan {
-    let parent = |i: u64| if i < 2 { 0 } else if i % 2 == 0 { (i / 2 - 1) * 2 } else { i / 2 * 2 };
+    let parent = |i: u64| {
+        if i < 2 {
+            0
+        } else if i % 2 == 0 {
+            (i / 2 - 1) * 2
+        } else {
+            i / 2 * 2
+        }
+    };
     let data = move |i: u64| {
         let inside = boxed([0.0, 0.0, 10.0, 10.0], [0.0, 0.0]);
         let outside = boxed([0.0, 0.0, 10.0, 10.0], [20.0, 0.0]);
         with(if i % 2 == 1 || i == 0 { inside } else { outside }, ORDINARY, CLIPS)
     };
-    Plan { name: "a clipping chain, each outside, kept by a sibling", nodes, parent: Box::new(parent), data: Box::new(data), number: consecutive }
+    Plan {
+        name: "a clipping chain, each outside, kept by a sibling",
+        nodes,
+        parent: Box::new(parent),
+        data: Box::new(data),
+        number: consecutive,
+    }
 }
 
 /// A chain of clipping nodes, two thirds of all, and the others below its end.
@@ -131,7 +152,13 @@ fn wide_below_a_chain(nodes: u64) -> Plan {
     let last = nodes * 2 / 3;
     let parent = move |i: u64| (i - 1).min(last);
     let data = |_| with(meeting(), ORDINARY, CLIPS);
-    Plan { name: "wide below a clipping chain", nodes, parent: Box::new(parent), data: Box::new(data), number: consecutive }
+    Plan {
+        name: "wide below a clipping chain",
+        nodes,
+        parent: Box::new(parent),
+        data: Box::new(data),
+        number: consecutive,
+    }
 }
 
 /// A clipping root; first a run of nested containers, then nodes outside its box, then another run; the last of each
@@ -144,26 +171,58 @@ fn nested_empty(nodes: u64) -> Plan {
         i if i <= 2 * run => with(meeting(), CONTAINER, 0),
         _ => with(boxed([0.0, 0.0, 10.0, 10.0], [20.0, 0.0]), ORDINARY, CLIPS),
     };
-    Plan { name: "runs of nested empty containers before clipped nodes", nodes, parent: Box::new(parent), data: Box::new(data), number: consecutive }
+    Plan {
+        name: "runs of nested empty containers before clipped nodes",
+        nodes,
+        parent: Box::new(parent),
+        data: Box::new(data),
+        number: consecutive,
+    }
 }
 
 /// A chain of containers below the root and as many ordinary nodes, one below each.
 fn containers_alone(nodes: u64) -> Plan {
-    let parent = |i: u64| if i < 2 { 0 } else if i % 2 == 0 { i - 1 } else { i - 2 };
+    let parent = |i: u64| {
+        if i < 2 {
+            0
+        } else if i % 2 == 0 {
+            i - 1
+        } else {
+            i - 2
+        }
+    };
     let data = |i: u64| with(meeting(), if i % 2 == 1 { CONTAINER } else { ORDINARY }, CLIPS);
-    Plan { name: "nested containers with a node each", nodes, parent: Box::new(parent), data: Box::new(data), number: consecutive }
+    Plan {
+        name: "nested containers with a node each",
+        nodes,
+        parent: Box::new(parent),
+        data: Box::new(data),
+        number: consecutive,
+    }
 }
 
 /// Four children each, numbers scattered.
 fn scattered_four(nodes: u64) -> Plan {
     let data = |_| meeting();
-    Plan { name: "four children each, numbers scattered", nodes, parent: Box::new(below_four), data: Box::new(data), number: scattered }
+    Plan {
+        name: "four children each, numbers scattered",
+        nodes,
+        parent: Box::new(below_four),
+        data: Box::new(data),
+        number: scattered,
+    }
 }
 
 /// A clipping chain, numbers scattered.
 fn scattered_chain(nodes: u64) -> Plan {
     let data = |_| with(meeting(), ORDINARY, CLIPS);
-    Plan { name: "a chain, clipping, numbers scattered", nodes, parent: Box::new(above), data: Box::new(data), number: scattered }
+    Plan {
+        name: "a chain, clipping, numbers scattered",
+        nodes,
+        parent: Box::new(above),
+        data: Box::new(data),
+        number: scattered,
+    }
 }
 
 impl Plan {
@@ -201,7 +260,11 @@ impl Plan {
         let name = |i: u64| (0, (self.number)(i));
         let node = |i: u64| (name(i), (link(i).map(|p| (name(p), place(i, p))), self.node(i, self.nodes).1));
         let root = (self.number)(0);
-        State { nodes: (0..self.nodes).map(node).collect(), trees: vec![(ROOT, Some((root, root)))], host: true }
+        State {
+            nodes: (0..self.nodes).map(node).collect(),
+            trees: vec![(ROOT, Some((root, root)))],
+            host: true,
+        }
     }
 
     fn screen(&self) -> Screen {
