@@ -28,7 +28,7 @@ pub fn keep_memory() {
 }
 
 /// Microseconds of the processor that this process has spent.
-fn spent() -> f64 {
+pub fn spent() -> f64 {
     let mut time = Timespec::default();
     assert_eq!(clock_gettime(CLOCK_PROCESS_CPUTIME_ID, &mut time), 0, "there is no clock of the process");
     time.seconds as f64 * 1e6 + time.nanoseconds as f64 / 1e3

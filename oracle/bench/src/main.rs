@@ -1,10 +1,15 @@
 //! Microseconds of the processor per call: the proved library and the crate's real source on the same inputs, in one
 //! process, side by side in each row. Prints the tables of docs/PERFORMANCE.md.
+mod asked;
 mod clock;
 mod inputs;
+mod question_tables;
+mod questions;
 mod refusals;
 mod rows;
+mod screens;
 mod sides;
+mod stack;
 mod tables;
 mod worst;
 
@@ -27,6 +32,18 @@ const SHAPES: [Shape; 5] = [
 
 fn main() {
     clock::keep_memory();
+    let words: Vec<String> = std::env::args().skip(1).collect();
+    match words.iter().map(String::as_str).collect::<Vec<_>>()[..] {
+        [] => calls(),
+        ["questions"] => question_tables::print(None),
+        ["questions", part @ ("48" | "256" | "worst")] => question_tables::print(Some(part)),
+        ["stack"] => stack::print(),
+        _ => panic!("`questions` (with `48`, `256` or `worst`), `stack`, or nothing for the calls"),
+    }
+}
+
+/// The tables of the calls.
+fn calls() {
     let mut rows: Vec<Row> = [16, 64].into_iter().flat_map(|nodes| starts(Shape { nodes, fan: 4 })).collect();
     rows.extend(SHAPES.into_iter().flat_map(batches));
     rows.extend(SHAPES.into_iter().map(host_focus));

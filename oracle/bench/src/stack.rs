@@ -1,0 +1,108 @@
+//! The deepest stack of each call and question on a chain of 256 nodes: the memory below a frame is painted, and what
+//! a call has written over is looked for.
+use crate::inputs::{Batch, Shape};
+use crate::questions::*;
+use crate::screens::{Screen, clipping_chain};
+use calls::plain::Id;
+use cartgravel::{CHANGES, STACK, sys};
+use std::hint::black_box;
+use std::ptr::with_exposed_provenance;
+
+const PAINTED: usize = 512 * 1024;
+const PAINT: u8 = 0xA5;
+
+/// Paints the memory below the caller's frame; answers where it begins.
+#[inline(never)]
+fn paint() -> usize {
+    let mut below = [PAINT; PAINTED];
+    black_box(&mut below).as_ptr().expose_provenance()
+}
+
+/// How much of the painted memory, from its end, was written over.
+#[inline(never)]
+fn written_over(start: usize) -> usize {
+    // SAFETY: these bytes are this thread's stack, mapped since they were painted; nothing else names them.
+    let painted = |at: &usize| unsafe { with_exposed_provenance::<u8>(start + at).read_volatile() } == PAINT;
+    PAINTED - (0..PAINTED).take_while(painted).count()
+}
+
+/// Bytes of stack that a call takes.
+#[inline(never)]
+fn stack_of(call: &mut dyn FnMut()) -> usize {
+    let start = paint();
+    call();
+    written_over(start)
+}
+
+/// An answer that nobody reads.
+fn done<T>(answer: T) {
+    black_box(&answer);
+}
+
+/// Prints the table.
+pub fn print() {
+    println!("\n| call | answer, bytes | stack, bytes |\n|---|---|---|");
+    calls();
+    let screen = clipping_chain(256);
+    let (root, last) = (screen.ids[0], screen.ids[255]);
+    for (words, size, question, id) in questions(root, last) {
+        line(words, size, question_stack(&screen, question, id));
+    }
+    let mut walk = sys::Walk { node: named(last), side: FOLLOWING, filter: COMMON, count: 0 };
+    line("`cartgravel_next`", size_of::<sys::FoundId>(), stack_of(&mut || done(walk.next(&screen.ours))));
+}
+
+/// The stack of a question.
+fn question_stack(screen: &Screen, question: Question, id: Id) -> usize {
+    let mut room = [0; _];
+    stack_of(&mut || done(ours(&screen.ours, question, id, &mut room)))
+}
+
+/// The three calls, with as many nodes listed as a record has.
+fn calls() {
+    let chain = Shape { nodes: 64, fan: 1 };
+    let (start, labels) = (chain.start().record(), Batch::of(chain.start().nodes).record());
+    let (mut state, mut changes) = (Box::new(sys::State::blank()), [0; CHANGES]);
+    let size = size_of::<sys::Reply>();
+    line("`cartgravel_start`", size, stack_of(&mut || done(state.start(&start, true))));
+    line("`cartgravel_update`", size, stack_of(&mut || done(state.update(&labels, &mut changes))));
+    line("`cartgravel_host_focus`", size, stack_of(&mut || done(state.host_focus(false))));
+}
+
+/// The questions, each of the node for which it goes furthest.
+fn questions(root: Id, last: Id) -> Vec<(&'static str, usize, Question, Id)> {
+    let (found, listed) = (size_of::<sys::FoundId>(), size_of::<sys::Listed>());
+    vec![
+        ("`cartgravel_counts`", size_of::<sys::PlainCounts>(), Question::Judged, root),
+        ("`cartgravel_parent`", found, Question::Parent, last),
+        ("`cartgravel_children`", listed, Question::Children, root),
+        ("`cartgravel_hidden`", size_of::<sys::Flag>(), Question::Hidden, last),
+        ("`cartgravel_transform`", size_of::<sys::PlainTransform>(), Question::Transform, last),
+        ("`cartgravel_bounding_box`", size_of::<sys::PlainBox>(), Question::BoundingBox, last),
+        ("`cartgravel_filter`, common", size_of::<sys::PlainResult>(), Question::Filter(COMMON), last),
+        (
+            "the same, root exception",
+            size_of::<sys::PlainResult>(),
+            Question::Filter(WITH_ROOT_EXCEPTION),
+            last,
+        ),
+        (
+            "the same, no parent checks",
+            size_of::<sys::PlainResult>(),
+            Question::Filter(WITHOUT_PARENT_CHECKS),
+            last,
+        ),
+        ("`cartgravel_filtered_parent`", found, Question::FilteredParent(COMMON), last),
+        ("`cartgravel_first_filtered_child`", found, Question::FirstChild(COMMON), (last.0, last.1 - 1)),
+        ("`cartgravel_last_filtered_child`", found, Question::LastChild(COMMON), (last.0, last.1 - 1)),
+        ("`cartgravel_deepest_first_filtered_child`", found, Question::DeepestFirst(COMMON), root),
+        ("`cartgravel_deepest_last_filtered_child`", found, Question::DeepestLast(COMMON), root),
+        ("`cartgravel_filtered_children`", listed, Question::FilteredChildren(COMMON), (last.0, last.1 - 1)),
+        ("`cartgravel_filtered_siblings`", listed, Question::FilteredSiblings(COMMON, FOLLOWING), last),
+    ]
+}
+
+fn line(words: &str, size: usize, stack: usize) {
+    assert!(stack <= STACK, "{words} takes {stack} bytes of stack");
+    println!("| {words} | {size} | {stack} |");
+}
