@@ -6,6 +6,7 @@ the proved one, the driver is linked to it, and a short run must find calls that
 without a change differ nowhere.
 """
 import argparse, os, re, shutil, subprocess, sys, tempfile
+from crates import needed
 
 HERE = os.path.dirname(os.path.abspath(__file__))
 REPOSITORY = os.path.dirname(HERE)
@@ -126,9 +127,8 @@ def write(path, text):
 
 def copy_sources(folder, change):
     """The crates without contracts, with the change; answers the compiler's words that name them."""
-    deps = dict(re.findall(r'^(\w+): *(.*)$', read(f'{REPOSITORY}/crates.txt'), re.M))
     words = []
-    for crate in deps['cartgravel'].split() + ['cartgravel']:
+    for crate in needed('cartgravel'):
         source = f'{REPOSITORY}/crates/{crate}/src'
         if os.path.getsize(f'{source}/lib.rt') < 3:
             continue  # definitions alone
