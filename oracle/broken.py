@@ -5,7 +5,8 @@ Each change below replaces one text of crates/*/src. The changed sources are bui
 the proved archive, the driver loads it, and a short run must find calls or answers that differ. Exit status 0: every change was noticed, and the
 sources without a change differ nowhere.
 """
-import argparse, os, re, subprocess, sys, tempfile
+import argparse, os, re, shutil, subprocess, sys, tempfile
+from crates import needed
 
 HERE = os.path.dirname(os.path.abspath(__file__))
 REPOSITORY = os.path.dirname(HERE)
@@ -198,11 +199,8 @@ def write(path, text):
 
 def copy_sources(folder, change):
     """The crates without contracts, with the change; answers the compiler's words that name them."""
-    deps = dict(re.findall(r'^(\w+): *(.*)$', read(f'{REPOSITORY}/crates.txt'), re.M))
-    needed, words = {'cartgravel'}, []
-    for crate in reversed(deps):
-        needed |= set(deps[crate].split()) if crate in needed else set()
-    for crate in [c for c in deps if c in needed]:
+    words = []
+    for crate in needed('cartgravel'):
         source = f'{REPOSITORY}/crates/{crate}/src'
         if os.path.getsize(f'{source}/lib.rt') < 3:
             continue  # definitions alone

@@ -5,6 +5,7 @@ The driver `calls` makes calls and their whole answers. Each becomes an equation
 proved by computation, in a crate of its own in a copy of the repository. Exit status 0: all were compared and are equal.
 """
 import argparse, collections, json, os, re, resource, shutil, subprocess, sys, tempfile, time
+from crates import needed
 
 HERE = os.path.dirname(os.path.abspath(__file__))
 REPOSITORY = os.path.dirname(HERE)
@@ -199,17 +200,11 @@ WORD_NAMES = re.findall(r'^abbrev pub (\S+)', WORDS, re.M)
 LIBRARY = {'lib.Ieee': ['ofBits', 'toBits', 'eq']}
 
 
-def layers(repository):
-    """The crates of the definitions: `update` and those that it leans on."""
-    listed = open(os.path.join(repository, 'crates.txt')).read()
-    return re.search(r'^update:(.*)$', listed, re.M).group(1).split() + ['update']
-
-
 def opened(repository):
     """The `use` lines and the names of everything that the equations must see through: each `unfoldable` of the definitions."""
     uses, names = [], []
     modules = dict(LIBRARY)
-    for layer in layers(repository):
+    for layer in needed('update'):
         specs = os.path.join(repository, 'crates', layer, 'specs')
         for name in re.findall(r'^pub mod (\S+)', open(os.path.join(specs, 'Lib.antt')).read(), re.M):
             text = open(os.path.join(specs, name + '.antt')).read()
@@ -348,7 +343,7 @@ def main():
     try:
         shutil.copytree(REPOSITORY, scratch, dirs_exist_ok=True, ignore=shutil.ignore_patterns('target', '.git', 'oracle'))
         with open(os.path.join(scratch, 'crates.txt'), 'a') as f:
-            f.write(f"\n{CRATE}: {' '.join(layers(scratch))}\n")
+            f.write(f"\n{CRATE}: {' '.join(needed('update'))}\n")
         if wrong_calls(scratch, [planted(calls)], 1, 1) == []:
             sys.exit('a planted wrong answer was not refused: the check says nothing')
         wrong, compared = [], 0

@@ -6,13 +6,13 @@ mod say;
 use batchcheck_calls::script;
 use batchcheck_calls::script::Call;
 use batchcheck_record::draft;
-use batchcheck_text::lines;
-use batchcheck_text::lines::Input;
-use batchcheck_text::print;
-use batchcheck_text::print::put;
-use batchcheck_text::roles;
 use libc::STDIN_FILENO;
 use perform::Show;
+use program_text::lines;
+use program_text::lines::Input;
+use program_text::print;
+use program_text::print::put;
+use program_text::roles;
 
 // What the arguments say so far. An option holds for the files after it.
 struct Options {

@@ -5,9 +5,9 @@ use batchcheck_calls::script;
 use batchcheck_calls::script::Call;
 use batchcheck_record::draft;
 use batchcheck_record::draft::Draft;
-use batchcheck_text::cursor;
-use batchcheck_text::faults;
-use batchcheck_text::lines;
+use program_text::cursor;
+use program_text::faults;
+use program_text::lines;
 use state_array::State;
 
 // What is printed beside the calls' answers, and how.

@@ -4,17 +4,20 @@ use batchcheck_nodes::draw;
 use batchcheck_nodes::print::heard;
 use batchcheck_nodes::print::node;
 use batchcheck_nodes::print::sizes;
-use batchcheck_nodes::print::tree_name;
 use batchcheck_reasons::why;
-use batchcheck_text::print::count;
-use batchcheck_text::print::number;
-use batchcheck_text::print::put;
 use calls::Lengths;
 use calls::OptionalId;
 use calls::Reply;
+use cartgravel::Report;
 use ids::FullNodeId;
 use ids::NodeId;
 use ids::TreeIndex;
+use program_text::print;
+use program_text::print::count;
+use program_text::print::number;
+use program_text::print::put;
+use program_text::print::put_line;
+use program_text::print::tree_name;
 use state_array::State;
 use state_focus::FoundNode;
 
@@ -38,19 +41,33 @@ pub(crate) fn tell<'a>(
     changes: &'a [u64],
     roles: &'a [u8; 4096],
 ) {
-    put(b"call ");
-    number(seen.call);
-    put(b", line ");
-    number(seen.line);
-    put(b": ");
-    if seen.quiet {
-        one_line(seen.kind, now, r, roles);
-    } else {
-        block(seen.kind, before, now, r, batch, changes, roles);
-    }
+    print::call(seen.call, seen.line);
+    answered(seen, before, now, r, batch, changes, roles);
     if seen.tree {
         draw::draw(now, roles);
     }
+}
+
+// What it answered, in one line or in a block of lines.
+fn answered<'a>(
+    seen: Seen,
+    before: &'a State,
+    now: &'a State,
+    r: Reply,
+    batch: &'a [u8],
+    changes: &'a [u64],
+    roles: &'a [u8; 4096],
+) {
+    if seen.quiet {
+        one_line(seen.kind, now, r, roles);
+        return;
+    }
+    heading(seen.kind, r.number, now, batch);
+    if r.number != 0 {
+        refused(seen.kind, before, now, row_of(r), batch, changes.len());
+        return;
+    }
+    taken(seen.kind, before, now, r, changes, roles);
 }
 
 // The number of document 01's table.
@@ -80,16 +97,25 @@ fn one_line<'a>(kind: u8, now: &'a State, r: Reply, roles: &'a [u8; 4096]) {
         return;
     }
     put(b"taken");
-    if kind == 0 {
-        put(b", ");
-        count(state_array::slots(now) as u64, b" node", b" nodes");
-    }
-    if kind == 1 {
-        lengths(r.lengths);
-    }
+    how_many(kind, now, r.lengths);
     put(b", heard ");
     heard(now, found(r.report.focus_after), roles);
     put(b"\n");
+}
+
+// How many nodes a start has, or the lists of a batch.
+fn how_many(kind: u8, now: &State, l: Lengths) {
+    match kind {
+        0 => start_size(state_array::slots(now) as u64),
+        1 => lengths(l),
+        _ => {}
+    }
+}
+
+// How many nodes a start has.
+fn start_size(n: u64) {
+    put(b", ");
+    count(n, b" node", b" nodes");
 }
 
 // How many nodes each list has.
@@ -108,8 +134,7 @@ fn length(n: usize, text: &[u8]) {
     if n < 1 {
         return;
     }
-    put(b", ");
-    number(n as u64);
+    print::of_number(b", #", n as u64);
     put(text);
 }
 
@@ -120,21 +145,15 @@ fn nothing_changed(l: Lengths) -> bool {
 
 // ## A block
 
-// The call in a block of lines.
-fn block<'a>(
+// A call that is taken.
+fn taken<'a>(
     kind: u8,
     before: &'a State,
     now: &'a State,
     r: Reply,
-    batch: &'a [u8],
     changes: &'a [u64],
     roles: &'a [u8; 4096],
 ) {
-    heading(kind, r.number, now, batch);
-    if r.number != 0 {
-        refused(kind, before, now, row_of(r), batch, changes.len());
-        return;
-    }
     put(b"  taken: ");
     why::row(0);
     put(b"\n");
@@ -143,21 +162,35 @@ fn block<'a>(
         1 => changed(before, now, r.lengths, changes, roles),
         _ => host(state_array::host(now)),
     }
-    put(b"  heard before: ");
-    heard(before, found(r.report.focus_before), roles);
-    put(b"\n  heard now:    ");
-    heard(now, found(r.report.focus_after), roles);
-    put(b"\n  now ");
+    report(before, now, r.report, roles);
+    put(b"  now ");
     sizes(now);
+}
+
+// The extra ids, and what is heard before and now.
+fn report<'a>(before: &'a State, now: &'a State, r: Report, roles: &'a [u8; 4096]) {
+    extra(now, found(r.extra_before), roles);
+    extra(now, found(r.extra_after), roles);
+    put(b"  heard before: ");
+    heard(before, found(r.focus_before), roles);
+    put(b"\n  heard now:    ");
+    heard(now, found(r.focus_after), roles);
+    put(b"\n");
+}
+
+// An extra id, unless there is none.
+fn extra<'a>(now: &'a State, x: FoundNode, roles: &'a [u8; 4096]) {
+    let FoundNode::At(y) = x else {
+        return;
+    };
+    put(b"  extra    ");
+    node(now, y, roles);
+    put(b"\n");
 }
 
 // What kind of call it is and, unless its bytes are no record, for which tree.
 fn heading<'a>(kind: u8, answered: u32, now: &'a State, batch: &'a [u8]) {
-    match kind {
-        0 => put(b"start"),
-        1 => put(b"batch"),
-        _ => put(b"host focus change"),
-    }
+    put_line(b"start\nbatch\nhost focus change\n", kind as u64);
     if (kind < 2) & (answered != 2) {
         for_tree(now, batch);
     }
@@ -190,17 +223,19 @@ fn refused<'a>(kind: u8, before: &'a State, now: &'a State, n: u8, batch: &'a [u
     put(b"  refused: ");
     why::row(n);
     put(b"\n  because  ");
+    because(kind, before, n, batch, room);
+    put(b"\n  the state is ");
+    put_line(b"blank: \nas it was: \nas it was: \n", kind as u64);
+    sizes(now);
+}
+
+// The reason.
+fn because<'a>(kind: u8, before: &'a State, n: u8, batch: &'a [u8], room: usize) {
     if n == 21 {
         too_short(before, batch, room);
-    } else {
-        why::because(kind, before, n, batch);
+        return;
     }
-    if kind == 0 {
-        put(b"\n  the state is blank: ");
-    } else {
-        put(b"\n  the state is as it was: ");
-    }
-    sizes(now);
+    why::because(kind, before, n, batch);
 }
 
 // 21: how many elements the lists take, found by running the batch again with the most that a program lends.
@@ -208,13 +243,16 @@ fn too_short<'a>(before: &'a State, batch: &'a [u8], room: usize) {
     let mut again = *before;
     let mut lists = [0u64; 2048];
     let r = cartgravel::cartgravel_update(&mut again, batch, &mut lists);
-    let l = r.lengths;
-    put(b"the lists take ");
-    number(
-        length_of(l.added) + length_of(l.updated) + length_of(l.removed) + length_of(l.relinked),
+    print::of_number(
+        b"the lists take # elements, two a node, and ",
+        taken_by(r.lengths),
     );
-    put(b" elements, two a node, and ");
     count(room as u64, b" was lent", b" were lent");
+}
+
+// How many elements four lists take.
+fn taken_by(l: Lengths) -> u64 {
+    length_of(l.added) + length_of(l.updated) + length_of(l.removed) + length_of(l.relinked)
 }
 
 // How many elements a list of n nodes takes; it has at most 320.

@@ -2,11 +2,11 @@
 // where it stopped.
 use batchcheck_record::draft;
 use batchcheck_record::draft::Draft;
-use batchcheck_text::cursor;
-use batchcheck_text::cursor::Cursor;
-use batchcheck_text::decimal;
-use batchcheck_text::faults;
-use batchcheck_text::roles;
+use program_text::cursor;
+use program_text::cursor::Cursor;
+use program_text::decimal;
+use program_text::faults;
+use program_text::roles;
 
 // What a call or one of its nodes says at most once, each a bit.
 pub(crate) const ROOT: u64 = 1;
@@ -101,50 +101,57 @@ fn property(draft: &mut Draft, line: &[u8], c: Cursor, roles: &[u8; 4096]) -> Cu
     if cursor::first_byte(line, c) == b'"' {
         return label(draft, line, c);
     }
-    if cursor::is(line, c, b"children") {
-        return children(draft, line, c);
+    let word = which_property(line, c);
+    match word {
+        0 => children(draft, line, c),
+        1 => active(draft, line, c),
+        2 => graft(draft, line, c),
+        3 => role(draft, line, c),
+        _ => flag_or_role(draft, line, c, word, roles),
     }
-    if cursor::is(line, c, b"active") {
-        return active(draft, line, c);
-    }
-    if cursor::is(line, c, b"graft") {
-        return graft(draft, line, c);
-    }
-    if cursor::is(line, c, b"role") {
-        return role(draft, line, c);
-    }
-    flag_or_role(draft, line, c, roles)
+}
+
+// Which of the words with a meaning in a node line a word is, 8 where it is none, so that it can name a role.
+fn which_property(line: &[u8], c: Cursor) -> u64 {
+    cursor::which(
+        line,
+        c,
+        b"children active graft role bounds transform hidden clips",
+    )
+}
+
+// Whether a word has a meaning in a node line.
+pub(crate) fn is_property(line: &[u8], c: Cursor) -> bool {
+    which_property(line, c) < 8
 }
 
 // A word that sets a flag, or a role's name.
-fn flag_or_role(draft: &mut Draft, line: &[u8], c: Cursor, roles: &[u8; 4096]) -> Cursor {
-    if cursor::is(line, c, b"bounds") {
-        let d = flagged(draft, line, c, BOUNDS, draft::BOUNDS);
-        return floats(draft, line, d, 0, 4);
+fn flag_or_role(
+    draft: &mut Draft,
+    line: &[u8],
+    c: Cursor,
+    word: u64,
+    roles: &[u8; 4096],
+) -> Cursor {
+    match word {
+        4 => bounds(draft, line, c),
+        5 => transform(draft, line, c),
+        6 => flagged(draft, line, c, HIDDEN, draft::HIDDEN),
+        7 => flagged(draft, line, c, CLIPS, draft::CLIPS),
+        _ => named_role(draft, line, c, roles),
     }
-    if cursor::is(line, c, b"transform") {
-        let d = flagged(draft, line, c, TRANSFORM, draft::TRANSFORM);
-        return floats(draft, line, d, 4, 10);
-    }
-    if cursor::is(line, c, b"hidden") {
-        return flagged(draft, line, c, HIDDEN, draft::HIDDEN);
-    }
-    if cursor::is(line, c, b"clips") {
-        return flagged(draft, line, c, CLIPS, draft::CLIPS);
-    }
-    named_role(draft, line, c, roles)
 }
 
-// Whether a word has a meaning in a node line, so that it names no role.
-pub(crate) fn is_property(line: &[u8], c: Cursor) -> bool {
-    cursor::is(line, c, b"children")
-        | cursor::is(line, c, b"active")
-        | cursor::is(line, c, b"graft")
-        | cursor::is(line, c, b"bounds")
-        | cursor::is(line, c, b"transform")
-        | cursor::is(line, c, b"hidden")
-        | cursor::is(line, c, b"clips")
-        | cursor::is(line, c, b"role")
+// Its bounds.
+fn bounds(draft: &mut Draft, line: &[u8], c: Cursor) -> Cursor {
+    let d = flagged(draft, line, c, BOUNDS, draft::BOUNDS);
+    floats(draft, line, d, 0, 4)
+}
+
+// Its transform.
+fn transform(draft: &mut Draft, line: &[u8], c: Cursor) -> Cursor {
+    let d = flagged(draft, line, c, TRANSFORM, draft::TRANSFORM);
+    floats(draft, line, d, 4, 10)
 }
 
 // A word that sets a flag.

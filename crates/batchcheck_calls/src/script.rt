@@ -2,13 +2,13 @@
 use crate::node;
 use batchcheck_record::draft;
 use batchcheck_record::draft::Draft;
-use batchcheck_text::cursor;
-use batchcheck_text::cursor::Cursor;
-use batchcheck_text::decimal;
-use batchcheck_text::faults;
-use batchcheck_text::print;
-use batchcheck_text::print::put;
-use batchcheck_text::roles;
+use program_text::cursor;
+use program_text::cursor::Cursor;
+use program_text::decimal;
+use program_text::faults;
+use program_text::print;
+use program_text::print::put;
+use program_text::roles;
 
 // Kinds of calls.
 pub const START: u8 = 0;
@@ -56,8 +56,9 @@ pub fn blank() -> Call {
     }
 }
 
-// A call of a kind that begins here.
-fn opened(before: Call, kind: u8, line: u64) -> Call {
+// A call of a kind that begins here, with nothing in its draft.
+fn opened(before: Call, draft: &mut Draft, kind: u8, line: u64) -> Call {
+    draft::clear(draft);
     let mut p = blank();
     p.kind = kind;
     p.stage = OPEN;
@@ -104,7 +105,7 @@ pub fn at_end(call: Call, number: u64) -> Call {
 
 // Whether a line begins a call.
 fn is_opening(line: &[u8], c: Cursor) -> bool {
-    cursor::is(line, c, b"start") | cursor::is(line, c, b"batch") | cursor::is(line, c, b"host")
+    cursor::which(line, c, b"start batch host") < 3
 }
 
 // ## Lines outside a call
@@ -119,20 +120,14 @@ fn outside(
     roles: &mut [u8; 4096],
 ) -> Call {
     let d = cursor::next(line, c);
-    if cursor::is(line, c, b"role") {
-        return reported(call, line, number, declared(line, d, roles));
+    let word = cursor::which(line, c, b"start batch host role");
+    match word {
+        0 => start(opened(call, draft, START, number), line, number, d),
+        1 => batch(opened(call, draft, BATCH, number), line, number, d),
+        2 => host(opened(call, draft, HOST, number), line, number, d),
+        3 => reported(call, line, number, declared(line, d, roles)),
+        _ => reported(call, line, number, cursor::failed(c, faults::OUTSIDE)),
     }
-    if !is_opening(line, c) {
-        return reported(call, line, number, cursor::failed(c, faults::OUTSIDE));
-    }
-    draft::clear(draft);
-    if cursor::is(line, c, b"start") {
-        return start(opened(call, START, number), line, number, d);
-    }
-    if cursor::is(line, c, b"batch") {
-        return batch(opened(call, BATCH, number), line, number, d);
-    }
-    host(opened(call, HOST, number), line, number, d)
 }
 
 // Names a role.
@@ -158,12 +153,8 @@ fn declared(line: &[u8], c: Cursor, roles: &mut [u8; 4096]) -> Cursor {
 
 // The rest of a line that begins a start.
 fn start(call: Call, line: &[u8], number: u64, c: Cursor) -> Call {
-    let mut p = call;
-    let mut d = c;
-    if cursor::is(line, c, b"raw") {
-        p = named(p, line, c);
-        d = cursor::next(line, p.name);
-    }
+    let mut p = named(call, line, c);
+    let mut d = after_name(p, line, c);
     if cursor::is(line, d, b"unfocused") {
         p.focused = false;
         d = cursor::next(line, d);
@@ -173,12 +164,8 @@ fn start(call: Call, line: &[u8], number: u64, c: Cursor) -> Call {
 
 // The rest of a line that begins a batch.
 fn batch(call: Call, line: &[u8], number: u64, c: Cursor) -> Call {
-    let mut p = call;
-    let mut d = c;
-    if cursor::is(line, c, b"raw") {
-        p = named(p, line, c);
-        d = cursor::next(line, p.name);
-    }
+    let mut p = named(call, line, c);
+    let mut d = after_name(p, line, c);
     if cursor::is(line, d, b"room") {
         d = decimal::whole(line, cursor::next(line, d), 1024, faults::ROOM);
         p.room = d.number as usize;
@@ -186,8 +173,11 @@ fn batch(call: Call, line: &[u8], number: u64, c: Cursor) -> Call {
     begun(p, line, number, d, faults::BATCH_WORD)
 }
 
-// With the name of a file of raw bytes.
+// With the name of a file of raw bytes, if the word is `raw`.
 fn named(call: Call, line: &[u8], c: Cursor) -> Call {
+    if !cursor::is(line, c, b"raw") {
+        return call;
+    }
     let mut name = cursor::next(line, c);
     if cursor::is_done(name) {
         name = cursor::failed(name, faults::FILE);
@@ -196,6 +186,14 @@ fn named(call: Call, line: &[u8], c: Cursor) -> Call {
     p.raw = true;
     p.name = name;
     p
+}
+
+// On the word after the name, if there is one.
+fn after_name(call: Call, line: &[u8], c: Cursor) -> Cursor {
+    if call.raw {
+        return cursor::next(line, call.name);
+    }
+    c
 }
 
 // Where nothing more may stand in a line that begins a call.
@@ -241,19 +239,14 @@ fn inside(
 
 // What a line says of the record, written into the draft; where the line was read to. So with the lines below.
 fn record_line(draft: &mut Draft, line: &[u8], c: Cursor, roles: &[u8; 4096]) -> Cursor {
-    if cursor::is(line, c, b"node") {
-        return node::all_listed(draft, line, cursor::next(line, c), roles);
+    let word = cursor::which(line, c, b"node root focus tree");
+    match word {
+        0 => node::all_listed(draft, line, cursor::next(line, c), roles),
+        1 => root(draft, line, c),
+        2 => focus(draft, line, c),
+        3 => tree(draft, line, c),
+        _ => cursor::failed(c, faults::INSIDE),
     }
-    if cursor::is(line, c, b"root") {
-        return root(draft, line, c);
-    }
-    if cursor::is(line, c, b"focus") {
-        return focus(draft, line, c);
-    }
-    if cursor::is(line, c, b"tree") {
-        return tree(draft, line, c);
-    }
-    cursor::failed(c, faults::INSIDE)
 }
 
 // The tree data.
@@ -317,11 +310,8 @@ fn closed(call: Call) -> Call {
 
 // A call that is not run.
 pub fn skipped(call: Call) -> Call {
-    put(b"call ");
-    print::number(call.number);
-    put(b", line ");
-    print::number(call.line);
-    put(b": skipped\n");
+    print::call(call.number, call.line);
+    put(b"skipped\n");
     finished(call)
 }
 

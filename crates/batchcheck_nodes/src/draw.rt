@@ -1,11 +1,11 @@
 // The tree, a node to a line, each two spaces to the right of the node above it. The way goes to the first child, else to the next sibling,
 // else to the next sibling of a node above, and keeps nothing but where it is.
 use crate::print::node;
-use crate::print::tree_name;
-use batchcheck_text::print::put;
 use ids::FullNodeId;
 use ids::NodeId;
 use ids::TreeId;
+use program_text::print::put;
+use program_text::print::tree_name;
 use state_array::State;
 use state_focus::FoundNode;
 use state_lookup::FoundTree;

@@ -1,35 +1,12 @@
-// Pieces of what is printed: ids, roles, labels, nodes, and how much a state has.
+// Pieces of what is printed: roles, labels, nodes, and how much a state has.
 ghost use Prim.Native.Nat.{_+_, _≤_, _<_};
-use batchcheck_text::print::count;
-use batchcheck_text::print::number;
-use batchcheck_text::print::put;
 use ids::FullNodeId;
-use ids::TreeId;
+use program_text::print::count;
+use program_text::print::id;
+use program_text::print::number;
+use program_text::print::put;
 use state_array::State;
 use state_focus::FoundNode;
-
-// An id: the tree's number and the node's.
-pub fn id(x: FullNodeId) {
-    put(b"(");
-    number(x.tree.0 as u64);
-    put(b", ");
-    number(x.node.0);
-    put(b")");
-}
-
-// A tree id as a text of calls has it: ROOT, a number that is the low half, or both halves.
-pub fn tree_name(t: TreeId) {
-    if ids::same_tree(t, TreeId { high: 0, low: 0 }) {
-        put(b"ROOT");
-        return;
-    }
-    put(b"tree ");
-    if t.high != 0 {
-        number(t.high);
-        put(b":");
-    }
-    number(t.low);
-}
 
 // How many nodes a state has, and how many trees that exist.
 pub fn sizes(state: &State) {

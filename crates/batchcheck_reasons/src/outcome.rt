@@ -6,19 +6,20 @@ ghost use Rattle.update.specs.Calls.{seed};
 ghost use Rattle.update_rows.specs.Rows.{startRows};
 use crate::why::both_graft;
 use crate::why::is_absent;
-use crate::why::own;
+use crate::why::listed;
 use crate::why::turn_of;
 use batchcheck_nodes::draw;
 use batchcheck_nodes::draw::child;
 use batchcheck_nodes::draw::child_count;
-use batchcheck_nodes::print::id;
-use batchcheck_nodes::print::tree_name;
-use batchcheck_text::print::over;
-use batchcheck_text::print::put;
 use ids::FullNodeId;
 use ids::NodeId;
 use ids::TreeId;
 use ids::TreeIndex;
+use program_text::print::id;
+use program_text::print::of_node;
+use program_text::print::of_number;
+use program_text::print::put;
+use program_text::print::tell;
 use state_array::State;
 use state_array::id_at;
 use state_array::link_at;
@@ -56,7 +57,7 @@ fn of_update<'a>(state: &'a State, n: u8, batch: &'a [u8]) {
     let mut notes = [0u64; 4096];
     let mut next = [0u64; state_array::WORDS];
     update_apply::apply(state, batch, scope, &mut notes, &mut next);
-    tell(state, batch, scope, &notes, &next, n);
+    explain_row(state, batch, scope, &notes, &next, n);
 }
 
 // The same of a start, whose batch is applied to a state that has ROOT's root and focus, and no node.
@@ -70,7 +71,7 @@ fn of_start(n: u8, batch: &[u8]) {
     let mut notes = [0u64; 4096];
     let mut next = [0u64; state_array::WORDS];
     update_apply::apply(&state, batch, scope, &mut notes, &mut next);
-    tell(&state, batch, scope, &notes, &next, n);
+    explain_row(&state, batch, scope, &notes, &next, n);
 }
 
 // The state that a start's batch is applied to.
@@ -89,7 +90,7 @@ fn seeded(batch: &[u8]) -> State
 }
 
 // What makes a row hold, in the outcome or in the notes.
-fn tell<'a>(
+fn explain_row<'a>(
     state: &'a State,
     batch: &'a [u8],
     scope: Scope,
@@ -134,12 +135,15 @@ fn first_regraft(next: &State) -> usize {
 // 15: the graft on the focus's way whose tree does not exist.
 fn dead_end(next: &State) {
     let i = dead_graft(next);
+    let x = id_at(next, i);
     let d = shape_at(next, i);
-    put(b"the focus comes to node ");
-    id(id_at(next, i));
-    put(b", which grafts ");
-    tree_name(d.graft);
-    put(b", and that tree does not exist");
+    tell(
+        b"the focus comes to node @, which grafts $, and that tree does not exist",
+        x,
+        x,
+        d.graft,
+        0,
+    );
 }
 
 // The slot of the first graft on the focus's way whose tree does not exist; the number of nodes where there is none.
@@ -164,9 +168,10 @@ fn dead_graft(next: &State) -> usize {
 
 // 16: ROOT's root.
 fn no_root(next: &State) {
-    put(b"ROOT's root would be node ");
-    id(root_of(next, 0));
-    put(b", which would be absent");
+    of_node(
+        b"ROOT's root would be node @, which would be absent",
+        root_of(next, 0),
+    );
 }
 
 // The root of the tree with a number.
@@ -185,27 +190,24 @@ fn no_focus(next: &State) {
         put(b"there would be no focus");
         return;
     };
-    put(b"the focus would be node ");
-    id(x);
-    put(b", which would be absent");
+    of_node(b"the focus would be node @, which would be absent", x);
 }
 
 // 18: the listed node that has other data than before and goes, and its old parent, if that is listed.
 fn changed_and_removed<'a>(state: &'a State, batch: &'a [u8], scope: Scope, notes: &'a Notes) {
     let k = scope.listed;
     let i = first_clash(notes, k);
-    put(b"node ");
-    id(own(scope, record_reader::node_id(batch, i)));
-    put(b" is listed with other data than before, but ");
+    of_node(
+        b"node @ is listed with other data than before, but ",
+        listed(batch, scope, i),
+    );
     let l = link_at(state, slot_of(notes, i));
     let p = l.parent;
     if k <= turn_of(batch, k, p.node) {
         put(b"goes with a node above it");
         return;
     }
-    put(b"node ");
-    id(p);
-    put(b", listed after it, names it no more");
+    of_node(b"node @, listed after it, names it no more", p);
 }
 
 // The first of k listed nodes that differs and goes, or k.
@@ -240,8 +242,7 @@ fn note_at(notes: &Notes, column: usize, i: usize) -> u64 {
 
 // 20: how many nodes there would be.
 fn too_many(n: usize) {
-    put(b"the outcome would have ");
-    over(n as u64, b" nodes", 256);
+    of_number(b"the outcome would have # nodes, at most 256", n as u64);
 }
 
 // ## 19: an outcome that is not sound
@@ -256,10 +257,11 @@ fn unsound(next: &State) {
     let r = draw::top(next);
     let l = link_at(next, r.slot);
     if l.linked != 0 {
-        put(b"ROOT's root ");
-        id(id_at(next, r.slot));
-        put(b" would have the parent ");
-        id(l.parent);
+        of_two(
+            b"ROOT's root @ would have the parent &",
+            id_at(next, r.slot),
+            l.parent,
+        );
         return;
     }
     let i = misnamer(next);
@@ -270,13 +272,22 @@ fn unsound(next: &State) {
     unreached(next);
 }
 
+// A text that names two nodes.
+fn of_two(text: &[u8], x: FullNodeId, y: FullNodeId) {
+    tell(text, x, y, TreeId { high: 0, low: 0 }, 0);
+}
+
 // The tree with a number, whose root is absent.
 fn no_pane_root(next: &State, k: usize) {
     let t = state_array::tree_at(next, k);
-    tree_name(t.id);
-    put(b" would exist, but its root ");
-    id(root_of(next, k));
-    put(b" would be absent");
+    let x = root_of(next, k);
+    tell(
+        b"$ would exist, but its root @ would be absent",
+        x,
+        x,
+        t.id,
+        0,
+    );
 }
 
 // A node that cannot be reached from the root.
@@ -286,9 +297,10 @@ fn unreached(next: &State) {
         put(b"the outcome would break a rule of a sound state");
         return;
     }
-    put(b"node ");
-    id(id_at(next, i));
-    put(b" would stay, but could not be reached from the root");
+    of_node(
+        b"node @ would stay, but could not be reached from the root",
+        id_at(next, i),
+    );
 }
 
 // The first tree that exists and whose root is absent, or how many there are.
@@ -341,20 +353,19 @@ fn is_linked(next: &State, i: usize, j: usize) -> bool {
 
 // A child that a node names and that is absent, records no parent, or records another one.
 fn misnamed(next: &State, i: usize) {
+    let x = id_at(next, i);
     let y = child(next, i, wrong_child(next, i));
     let c = find_in(next, y);
     let l = link_at(next, c);
-    put(b"node ");
-    id(id_at(next, i));
     if (slots(next) <= c) | (l.linked == 0) {
-        put(b" would name the child ");
-        id(y);
-        put(b", which would be absent or have no parent");
+        of_two(
+            b"node @ would name the child &, which would be absent or have no parent",
+            x,
+            y,
+        );
         return;
     }
-    put(b" and node ");
-    id(l.parent);
-    put(b" would both name the child ");
+    of_two(b"node @ and node & would both name the child ", x, l.parent);
     id(y);
 }
 

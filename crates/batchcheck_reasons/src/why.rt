@@ -1,52 +1,48 @@
 // Why a call is refused: the number's row in plain words, and what in this call makes the row hold, by the first node or child in the order of
 // the batch.
 use crate::outcome;
-use batchcheck_nodes::print::id;
-use batchcheck_nodes::print::tree_name;
 use batchcheck_record::malformed;
-use batchcheck_text::print::count;
-use batchcheck_text::print::number;
-use batchcheck_text::print::put;
 use ids::FullNodeId;
 use ids::NodeId;
 use ids::TreeId;
+use ids::TreeIndex;
+use program_text::print::count;
+use program_text::print::of_node;
+use program_text::print::of_number;
+use program_text::print::put;
+use program_text::print::put_line;
+use program_text::print::tell;
 use state_array::State;
 use update_notes::Scope;
 
 // A number of document 01's table and its row.
 pub fn row(n: u8) {
-    number(n as u64);
-    match n {
-        0 => put(b", accepted"),
-        1 => put(b", the state handed in is not sound"),
-        2 => put(b", the record breaks the layout or a limit"),
-        3 => put(b", a start without tree data"),
-        4 => put(b", a start for a tree other than ROOT"),
-        5 => put(b", a node listed twice"),
-        6 => put(b", tree data for a tree that no graft holds, not ROOT"),
-        7 => put(b", no tree data for a tree that does not exist, not ROOT"),
-        8 => put(b", a new tree id while 32 numbers are taken"),
-        9 => put(b", a child named twice in the batch"),
-        10 => put(b", a graft node with children"),
-        _ => later_row(n),
-    }
-}
-
-// The rows from 11 on.
-fn later_row(n: u8) {
-    match n {
-        11 => put(b", a graft of ROOT"),
-        12 => put(b", a second graft of one tree"),
-        13 => put(b", listed nodes left without a place"),
-        14 => put(b", named children neither present nor listed"),
-        15 => put(b", the focus chain meets a graft whose tree does not exist"),
-        16 => put(b", the root is absent"),
-        17 => put(b", the effective focus is absent"),
-        18 => put(b", a node both added or updated, and removed"),
-        19 => put(b", the links or trees of the outcome are not sound"),
-        20 => put(b", more than 256 nodes in the outcome"),
-        _ => put(b", a lent list too short for what it should hold"),
-    }
+    of_number(b"#, ", n as u64);
+    put_line(
+        b"accepted\n\
+        the state handed in is not sound\n\
+        the record breaks the layout or a limit\n\
+        a start without tree data\n\
+        a start for a tree other than ROOT\n\
+        a node listed twice\n\
+        tree data for a tree that no graft holds, not ROOT\n\
+        no tree data for a tree that does not exist, not ROOT\n\
+        a new tree id while 32 numbers are taken\n\
+        a child named twice in the batch\n\
+        a graft node with children\n\
+        a graft of ROOT\n\
+        a second graft of one tree\n\
+        listed nodes left without a place\n\
+        named children neither present nor listed\n\
+        the focus chain meets a graft whose tree does not exist\n\
+        the root is absent\n\
+        the effective focus is absent\n\
+        a node both added or updated, and removed\n\
+        the links or trees of the outcome are not sound\n\
+        more than 256 nodes in the outcome\n\
+        a lent list too short for what it should hold\n",
+        n as u64,
+    );
 }
 
 // The reason for a number but 21. `kind` is 0 for a start; `before` is the state before the call.
@@ -71,17 +67,21 @@ fn unsound(before: &State) {
 
 // 4, 6, 7 and 8: the tree that the batch is for.
 fn of_tree(n: u8, t: TreeId) {
-    if n == 4 {
-        put(b"the start is for ");
-        tree_name(t);
-        return;
-    }
-    tree_name(t);
     match n {
-        6 => put(b" is given a root, but no node grafts it"),
-        7 => put(b" does not exist, and the batch gives it no root"),
-        _ => put(b" is new, and the 32 tree numbers are all taken"),
+        4 => of_tree_alone(b"the start is for $", t),
+        6 => of_tree_alone(b"$ is given a root, but no node grafts it", t),
+        7 => of_tree_alone(b"$ does not exist, and the batch gives it no root", t),
+        _ => of_tree_alone(b"$ is new, and the 32 tree numbers are all taken", t),
     }
+}
+
+// A text that names one tree.
+fn of_tree_alone(text: &[u8], t: TreeId) {
+    let x = FullNodeId {
+        tree: TreeIndex(0),
+        node: NodeId(0),
+    };
+    tell(text, x, x, t, 0);
 }
 
 // 5 and 9 to 20: the nodes of a batch on the state before it, or of a start, whose batch is applied to a state without nodes.
@@ -116,12 +116,15 @@ pub(crate) fn own(scope: Scope, node: NodeId) -> FullNodeId {
     FullNodeId { tree, node }
 }
 
+// Listed node i.
+pub(crate) fn listed(batch: &[u8], scope: Scope, i: usize) -> FullNodeId {
+    own(scope, record_reader::node_id(batch, i))
+}
+
 // 5: the node that is listed a second time.
 fn listed_twice(batch: &[u8], scope: Scope) {
     let i = first_relisted(batch, scope.listed);
-    put(b"node ");
-    id(own(scope, record_reader::node_id(batch, i)));
-    put(b" is listed twice");
+    of_node(b"node @ is listed twice", listed(batch, scope, i));
 }
 
 // The first of k listed nodes that is listed before, or k.
@@ -168,18 +171,18 @@ fn named_twice(batch: &[u8], scope: Scope) {
     let child = record_reader::child_entry(batch, j);
     let first = namer(batch, entry_of(batch, j, child));
     let second = namer(batch, j);
-    put(b"node ");
-    id(own(scope, record_reader::node_id(batch, first)));
+    let x = listed(batch, scope, first);
     if first == second {
-        put(b" names the child ");
-        number(child.0);
-        put(b" twice");
+        of_child(b"node @ names the child # twice", x, x, child);
         return;
     }
-    put(b" and node ");
-    id(own(scope, record_reader::node_id(batch, second)));
-    put(b" both name the child ");
-    number(child.0);
+    let y = listed(batch, scope, second);
+    of_child(b"node @ and node & both name the child #", x, y, child);
+}
+
+// A text that names two nodes and a child.
+fn of_child(text: &[u8], x: FullNodeId, y: FullNodeId, child: NodeId) {
+    tell(text, x, y, TreeId { high: 0, low: 0 }, child.0);
 }
 
 // The first of n child entries that is named before, or n.
@@ -218,10 +221,9 @@ fn end_of(batch: &[u8], i: usize) -> usize {
 // 10 and 11: the graft node that has children, or that grafts ROOT.
 fn bad_graft(batch: &[u8], scope: Scope, n: u8) {
     let i = first_bad_graft(batch, scope.listed, n);
-    put(b"node ");
-    id(own(scope, record_reader::node_id(batch, i)));
-    put(b" grafts ");
-    tree_name(record_reader::graft(batch, i));
+    let x = listed(batch, scope, i);
+    let t = record_reader::graft(batch, i);
+    tell(b"node @ grafts $", x, x, t, 0);
     if n == 11 {
         put(b", which no node may graft");
         return;
@@ -229,10 +231,9 @@ fn bad_graft(batch: &[u8], scope: Scope, n: u8) {
     put(b" and has ");
     count(
         record_reader::child_count(batch, i) as u64,
-        b" child",
-        b" children",
+        b" child of its own",
+        b" children of its own",
     );
-    put(b" of its own");
 }
 
 // The first of k listed nodes that makes row 10 or 11 hold, or k.
@@ -263,18 +264,13 @@ fn second_graft<'a>(kind: u8, state: &'a State, batch: &'a [u8], scope: Scope) {
         return;
     }
     let t = record_reader::graft(batch, j);
-    let x = own(scope, record_reader::node_id(batch, grafter(batch, j, t)));
-    both_graft(x, own(scope, record_reader::node_id(batch, j)), t);
+    let x = listed(batch, scope, grafter(batch, j, t));
+    both_graft(x, listed(batch, scope, j), t);
 }
 
 // Two nodes that graft one tree.
 pub(crate) fn both_graft(x: FullNodeId, y: FullNodeId, t: TreeId) {
-    put(b"node ");
-    id(x);
-    put(b" and node ");
-    id(y);
-    put(b" both graft ");
-    tree_name(t);
+    tell(b"node @ and node & both graft $", x, y, t, 0);
 }
 
 // The first of k listed nodes that grafts a tree that a listed node before it grafts, or k.
@@ -305,9 +301,10 @@ fn grafter(batch: &[u8], k: usize, t: TreeId) -> usize {
 // 13: the listed node that is new, not the root, and named by none.
 fn placeless<'a>(state: &'a State, batch: &'a [u8], scope: Scope) {
     let i = first_placeless(state, batch, scope);
-    put(b"node ");
-    id(own(scope, record_reader::node_id(batch, i)));
-    put(b" is new, and no listed node names it as a child");
+    of_node(
+        b"node @ is new, and no listed node names it as a child",
+        listed(batch, scope, i),
+    );
 }
 
 // The first such node, or how many are listed.
@@ -335,12 +332,13 @@ pub(crate) fn is_absent(state: &State, x: FullNodeId) -> bool {
 // 14: the child that is neither present nor listed, and the node that names it.
 fn nowhere<'a>(state: &'a State, batch: &'a [u8], scope: Scope) {
     let j = first_nowhere(state, batch, scope);
-    let child = record_reader::child_entry(batch, j);
-    put(b"node ");
-    id(own(scope, record_reader::node_id(batch, namer(batch, j))));
-    put(b" names the child ");
-    number(child.0);
-    put(b", which is neither present nor listed");
+    let x = listed(batch, scope, namer(batch, j));
+    of_child(
+        b"node @ names the child #, which is neither present nor listed",
+        x,
+        x,
+        record_reader::child_entry(batch, j),
+    );
 }
 
 // The first such child entry, or how many there are.

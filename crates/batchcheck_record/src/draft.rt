@@ -25,16 +25,17 @@ pub const TRANSFORM: u64 = 32;
 // A batch in the making: its head, then its nodes, children and label bytes. What finds no room is left out, and what is never said is zero.
 pub type Draft = [u64; 3355];
 
-// The words of the head: the tree, the tree data, the focus, how many nodes, children and label bytes there are, and what was said already.
+// The words of the head: the tree, the root and the focus, as a record has them; whether there is tree data, how many nodes, children and label
+// bytes there are, and what was said already.
 const HIGH: usize = 0;
 
 const LOW: usize = 1;
 
-const TREE_DATA: usize = 2;
+const ROOT: usize = 2;
 
-const ROOT: usize = 3;
+const FOCUS: usize = 3;
 
-const FOCUS: usize = 4;
+const TREE_DATA: usize = 4;
 
 const NODE_COUNT: usize = 5;
 
@@ -253,10 +254,7 @@ fn put_header(
     put_word(bytes, 0, quarters(n, c, k, least(draft[TREE_DATA], 1)));
     put_word(bytes, 8, quarters(64, 0, children_at, 0));
     put_word(bytes, 16, quarters(labels_at, 0, total, 0));
-    put_word(bytes, 24, draft[HIGH]);
-    put_word(bytes, 32, draft[LOW]);
-    put_word(bytes, 40, draft[ROOT]);
-    put_word(bytes, 48, draft[FOCUS]);
+    put_words(bytes, 24, draft, HIGH, TREE_DATA);
     total
 }
 

@@ -1,8 +1,8 @@
 // Why bytes are no batch record, number 2: the first rule of document 01's layout that they break, as `record_layout::layout` goes through them.
 ghost use Prim.Native.Nat.{_^_, _≤_, _<_};
-use batchcheck_text::print::number;
-use batchcheck_text::print::over;
-use batchcheck_text::print::put;
+use program_text::print::of_number;
+use program_text::print::put;
+use program_text::print::put_line;
 use record_wire::u8_at;
 use record_wire::u16_at;
 use record_wire::u32_at;
@@ -10,24 +10,31 @@ use record_wire::u64_at;
 
 // The first rule that the bytes break.
 pub fn reason(bytes: &[u8]) {
-    if bytes.len() < 64 {
-        number(bytes.len() as u64);
-        put(b" bytes are too few for the header, which has 64");
-        return;
-    }
     let nodes = u16_at(bytes, 0) as u64;
     let entries = u16_at(bytes, 2) as u64;
     let labels = u16_at(bytes, 4) as u64;
+    if bytes.len() < 64 {
+        of_number(
+            b"# bytes are too few for the header, which has 64",
+            bytes.len() as u64,
+        );
+        return;
+    }
     if 64 < nodes {
-        over(nodes, b" nodes", 64);
+        of_number(b"# nodes, at most 64", nodes);
         return;
     }
     if 256 < entries {
-        over(entries, b" children", 256);
+        of_number(b"# children, at most 256", entries);
         return;
     }
     if 2048 < labels {
-        over(labels, b" label bytes", 2048);
+        of_number(b"# label bytes, at most 2048", labels);
+        return;
+    }
+    if bytes.len() as u64 != u32_at(bytes, 20) as u64 {
+        of_number(b"the record's length is #", bytes.len() as u64);
+        of_number(b", its header says #", u32_at(bytes, 20) as u64);
         return;
     }
     header(bytes, nodes, entries, labels);
@@ -37,32 +44,36 @@ pub fn reason(bytes: &[u8]) {
 fn header(bytes: &[u8], nodes: u64, entries: u64, labels: u64)
     requires { ⌜ (nodes ≤ 64) × (entries ≤ 256) × (labels ≤ 2048) ⌝ }
 {
-    let total = u32_at(bytes, 20) as u64;
-    if bytes.len() as u64 != total {
-        put(b"the record's length is ");
-        number(bytes.len() as u64);
-        put(b", its header says ");
-        number(total);
-        return;
-    }
-    if !parts_follow(bytes, nodes, entries, labels) {
-        put(b"the header's offsets and total do not fit its counts");
-        return;
-    }
-    let flags = u16_at(bytes, 6);
-    if 1 < flags {
-        put(b"the header has an unused flag bit set");
-        return;
-    }
-    if (flags == 0) & (u64_at(bytes, 40) != 0) {
-        put(b"the header has a root without tree data");
-        return;
-    }
-    if u64_at(bytes, 56) != 0 {
-        put(b"the header's last 8 bytes are not zero");
+    let rule = header_rule(bytes, parts_follow(bytes, nodes, entries, labels));
+    if rule < 4 {
+        put_line(
+            b"the header's offsets and total do not fit its counts\n\
+            the header has an unused flag bit set\n\
+            the header has a root without tree data\n\
+            the header's last 8 bytes are not zero\n",
+            rule,
+        );
         return;
     }
     all_nodes(bytes, nodes as usize);
+}
+
+// Which of these four rules the header breaks, 4 where it breaks none.
+fn header_rule(bytes: &[u8], follow: bool) -> u64 {
+    let flags = u16_at(bytes, 6);
+    if !follow {
+        return 0;
+    }
+    if 1 < flags {
+        return 1;
+    }
+    if (flags == 0) & (u64_at(bytes, 40) != 0) {
+        return 2;
+    }
+    if u64_at(bytes, 56) != 0 {
+        return 3;
+    }
+    4
 }
 
 // Whether the offsets and the total are those of parts that follow each other.
@@ -98,53 +109,62 @@ fn breaks_rule(bytes: &[u8], at: usize) -> bool
     let x = u64_at(bytes, at);
     let length = u16_at(bytes, at + 38);
     if 32 < length {
-        put(b"the label of node ");
-        number(x);
-        put(b" has ");
-        over(length as u64, b" bytes", 32);
+        of_number(b"the label of node #", x);
+        of_number(b" has # bytes, at most 32", length as u64);
         return true;
     }
+    let rule = node_rule(bytes, at);
+    if 6 < rule {
+        return false;
+    }
+    of_number(b"node # has ", x);
+    put_line(
+        b"an unused flag bit set\n\
+        a byte set that must be zero\n\
+        an active descendant without its flag\n\
+        a graft without its flag\n\
+        bounds without their flag\n\
+        a transform without its flag\n\
+        bounds or a transform with a number that is not finite\n",
+        rule,
+    );
+    true
+}
+
+// Which of these seven rules the node at an offset breaks, 7 where it breaks none.
+fn node_rule(bytes: &[u8], at: usize) -> u64
+    requires { ⌜ at < 2 ^ 32 ⌝ }
+{
     let flags = u8_at(bytes, at + 41);
     if 63 < flags {
-        return of_node(x, b" has an unused flag bit set");
+        return 0;
     }
     if (u16_at(bytes, at + 42) != 0) | (u32_at(bytes, at + 44) != 0) {
-        return of_node(x, b" has a byte set that must be zero");
+        return 1;
     }
-    breaks_field_rule(bytes, at, x, flags)
+    field_rule(bytes, at, flags)
 }
 
 // The same of the fields that have a flag: zero bytes while it is clear, and finite numbers.
-fn breaks_field_rule(bytes: &[u8], at: usize, x: u64, flags: u8) -> bool
+fn field_rule(bytes: &[u8], at: usize, flags: u8) -> u64
     requires { ⌜ at < 2 ^ 32 ⌝ }
 {
     if (flags / 4 % 2 == 0) & !words_pass(bytes, at + 8, 1, true) {
-        return of_node(x, b" has an active descendant without its flag");
+        return 2;
     }
     if (flags / 8 % 2 == 0) & !words_pass(bytes, at + 16, 2, true) {
-        return of_node(x, b" has a graft without its flag");
+        return 3;
     }
     if (flags / 16 % 2 == 0) & !words_pass(bytes, at + 48, 4, true) {
-        return of_node(x, b" has bounds without their flag");
+        return 4;
     }
     if (flags / 32 % 2 == 0) & !words_pass(bytes, at + 80, 6, true) {
-        return of_node(x, b" has a transform without its flag");
+        return 5;
     }
     if !words_pass(bytes, at + 48, 10, false) {
-        return of_node(
-            x,
-            b" has bounds or a transform with a number that is not finite",
-        );
+        return 6;
     }
-    false
-}
-
-// What is wrong with a node.
-fn of_node(x: u64, text: &[u8]) -> bool {
-    put(b"node ");
-    number(x);
-    put(text);
-    true
+    7
 }
 
 // Whether each of n words from an offset on is zero, or else the bits of a finite number.

@@ -1,302 +1,135 @@
-// Asks whether good states and damaged copies of them are sound: 1 where the definition says so, 0 where not. Nothing of it is proved but
-// that it is safe; `stdout` has what the definition says.
-ghost use Prim.Native.Nat.{_<_};
-use state_array::ACTIVE;
-use state_array::CHILD_COUNT;
-use state_array::CHILDREN;
-use state_array::COUNT;
-use state_array::FIRST_CHILD;
-use state_array::FLAGS;
-use state_array::FLOATS;
-use state_array::GRAFT_HIGH;
-use state_array::GRAFT_LOW;
-use state_array::HOST;
-use state_array::INDEX;
-use state_array::LABEL;
-use state_array::LABEL_LENGTH;
-use state_array::LINKED;
-use state_array::NODE;
-use state_array::NODES;
-use state_array::PARENT_NODE;
-use state_array::PARENT_TREE;
-use state_array::ROLE;
-use state_array::SLOTS;
+// Asks whether good states and damaged copies of them are sound: 1 where the definition says so, 0 where not. Standard input has a state to a
+// line. Nothing of this program is proved but that it is safe and ends; `stdout` has what the definition says.
+use libc::STDIN_FILENO;
+use program_text::cursor;
+use program_text::cursor::Cursor;
+use program_text::decimal;
+use program_text::faults;
+use program_text::lines;
+use program_text::print::put;
 use state_array::State;
-use state_array::TABLE;
-use state_array::TREE;
-use state_array::TREE_COUNT;
-use state_array::TREE_EXISTS;
-use state_array::TREE_FOCUS;
-use state_array::TREE_LOW;
-use state_array::TREE_ROOT;
-use state_array::TREES;
 
-// Field f of the node in slot i.
-fn node(s: &mut State, f: usize, i: usize, v: u64)
-    requires { ⌜ (f < 28) × (i < 320) ⌝ }
-{
-    s[NODES + SLOTS * f + i] = v;
-}
-
-// Field j of tree k.
-fn tree(s: &mut State, j: usize, k: usize, v: u64)
-    requires { ⌜ (j < 5) × (k < 32) ⌝ }
-{
-    s[TABLE + TREES * j + k] = v;
-}
-
-// Document 01's S: root 1 with the children 2 and 3, the focus on 2, host focused.
-fn start() -> State {
-    let mut s = state_array::blank();
-    node(&mut s, NODE, 0, 1);
-    node(&mut s, NODE, 1, 2);
-    node(&mut s, NODE, 2, 3);
-    node(&mut s, CHILD_COUNT, 0, 2);
-    node(&mut s, PARENT_NODE, 1, 1);
-    node(&mut s, LINKED, 1, 1);
-    node(&mut s, PARENT_NODE, 2, 1);
-    node(&mut s, INDEX, 2, 1);
-    node(&mut s, LINKED, 2, 1);
-    s[CHILDREN] = 2;
-    s[CHILDREN + 1] = 3;
-    tree(&mut s, TREE_ROOT, 0, 1);
-    tree(&mut s, TREE_FOCUS, 0, 2);
-    tree(&mut s, TREE_EXISTS, 0, 1);
-    s[COUNT] = 3;
-    s[TREE_COUNT] = 1;
-    s[HOST] = 1;
-    s
-}
-
-// S with 3 as a graft of tree 7, which does not exist.
-fn waiting() -> State {
-    let mut s = start();
-    node(&mut s, GRAFT_LOW, 2, 7);
-    node(&mut s, FLAGS, 2, 8);
-    s
-}
-
-// The same with the tree: its root 1, its focus 1.
-fn grafted() -> State {
-    let mut s = waiting();
-    node(&mut s, TREE, 3, 1);
-    node(&mut s, NODE, 3, 1);
-    node(&mut s, PARENT_NODE, 3, 3);
-    node(&mut s, LINKED, 3, 1);
-    tree(&mut s, TREE_LOW, 1, 7);
-    tree(&mut s, TREE_ROOT, 1, 1);
-    tree(&mut s, TREE_FOCUS, 1, 1);
-    tree(&mut s, TREE_EXISTS, 1, 1);
-    s[COUNT] = 4;
-    s[TREE_COUNT] = 2;
-    s
-}
-
-// What `sound` says of a state, with its words.
-fn say<'a>(words: &'a [u8], s: &'a State) {
-    io::write_all(1, words);
-    if state_sound::sound(s) {
-        io::write_all(1, b": 1\n");
-    } else {
-        io::write_all(1, b": 0\n");
+// Every line.
+fn main() {
+    let mut chunk = io::large_buffer();
+    let mut text = [0u8; 8192];
+    let mut input = lines::of(STDIN_FILENO);
+    let mut turns = u64::MAX;
+    while 0 < turns {
+        input = lines::next(input, &mut chunk, &mut text);
+        if input.ended {
+            return;
+        }
+        judge(lines::line(&text, input));
+        turns -= 1;
     }
 }
 
-// Links and places.
-fn links() {
-    let mut s = start();
-    node(&mut s, INDEX, 2, 0);
-    say(b"a stale place", &s);
-    s = start();
-    node(&mut s, CHILD_COUNT, 0, 1);
-    say(b"a node never met", &s);
-    s = start();
-    s[CHILDREN + 1] = 2;
-    say(b"a node met twice", &s);
-    s = start();
-    s[CHILDREN + 1] = 9;
-    say(b"an absent child", &s);
-    s = start();
-    node(&mut s, LINKED, 0, 1);
-    say(b"a root with a parent", &s);
-    s = start();
-    node(&mut s, CHILD_COUNT, 2, 1);
-    s[CHILDREN] = 3;
-    say(b"a cycle", &s);
+// What `sound` says of a line's state, with its name.
+fn judge(line: &[u8]) {
+    let name = cursor::first(line);
+    if cursor::is_done(name) {
+        return;
+    }
+    let mut state = state_array::blank();
+    let c = cursor::next(line, name);
+    put_good(
+        &mut state,
+        cursor::which(line, c, b"blank S waiting grafted"),
+    );
+    change(&mut state, line, cursor::next(line, c));
+    put(cursor::quoted(line, name));
+    say(state_sound::sound(&state));
 }
 
-// Ranges of child entries.
-fn ranges() {
-    let mut s = start();
-    node(&mut s, FIRST_CHILD, 0, 511);
-    say(b"a range that leaves the pool", &s);
-    s = start();
-    node(&mut s, FIRST_CHILD, 0, 65535);
-    node(&mut s, CHILD_COUNT, 0, 65535);
-    say(b"a range far past the pool", &s);
-    s = start();
-    node(&mut s, FIRST_CHILD, 0, 512);
-    say(b"a child range outside the entries", &s);
-    s = start();
-    node(&mut s, FIRST_CHILD, 0, 18446744073709551615);
-    node(&mut s, CHILD_COUNT, 0, 18446744073709551615);
-    say(b"a child range of the largest numbers", &s);
+// A verdict.
+fn say(sound: bool) {
+    if sound {
+        put(b": 1\n");
+        return;
+    }
+    put(b": 0\n");
 }
 
-// Counts, ids and the table of trees.
-fn tables() {
-    let mut s = start();
-    node(&mut s, NODE, 2, 2);
-    say(b"an id twice", &s);
-    s = start();
-    s[COUNT] = 65535;
-    say(b"a count past the table", &s);
-    s = start();
-    s[TREE_COUNT] = 33;
-    say(b"33 tree numbers", &s);
-    s = start();
-    s[TREE_COUNT] = 0;
-    say(b"no tree number", &s);
-    s = start();
-    s[TREE_COUNT] = 2;
-    say(b"ROOT twice", &s);
-    s = start();
-    tree(&mut s, TREE_EXISTS, 0, 0);
-    say(b"no ROOT", &s);
-    s = start();
-    s[COUNT] = 321;
-    say(b"a node count of 321", &s);
-    s = grafted();
-    s[TREE_COUNT] = 33;
-    say(b"a tree count of 33", &s);
-    s = start();
-    s[COUNT] = 18446744073709551615;
-    say(b"the largest node count", &s);
-    s = start();
-    s[TREE_COUNT] = 18446744073709551615;
-    say(b"the largest tree count", &s);
-    s = grafted();
-    node(&mut s, TREE, 3, 4294967297);
-    say(b"a tree number of 33 bits", &s);
-    s = grafted();
-    node(&mut s, PARENT_TREE, 3, 4294967296);
-    say(b"a parent's tree number of 33 bits", &s);
-    s = start();
-    s[HOST] = 18446744073709551615;
-    say(b"a host flag of all ones", &s);
-    s = start();
-    s[HOST + 1] = 7;
-    node(&mut s, NODE, 300, 7);
-    tree(&mut s, TREE_FOCUS, 9, 7);
-    s[CHILDREN + 99] = 7;
-    say(b"words that are not used", &s);
+// One of the good states, over blank words: 1 is S, root 1 with the children 2 and 3, the focus on 2, host focused; in 2 its node 3 grafts the
+// tree 7, which does not exist; in 3 that tree has the root 1 and the focus 1.
+fn put_good(state: &mut State, which: u64) {
+    if 0 < which {
+        change_all(
+            state,
+            b"head 0 3 head 1 1 head 2 1 tree_root 0 1 tree_focus 0 2 tree_exists 0 1 node 0 1 node 1 2 node 2 3 child_count 0 2 child 0 2 \
+            child 1 3 parent_node 1 1 linked 1 1 parent_node 2 1 index 2 1 linked 2 1",
+        );
+    }
+    if 1 < which {
+        change_all(state, b"graft_low 2 7 flags 2 8");
+    }
+    if 2 < which {
+        change_all(
+            state,
+            b"head 0 4 head 1 2 tree_low 1 7 tree_root 1 1 tree_focus 1 1 tree_exists 1 1 tree 3 1 node 3 1 parent_node 3 3 linked 3 1",
+        );
+    }
 }
 
-// Grafts and their trees.
-fn grafts() {
-    let mut s = grafted();
-    node(&mut s, GRAFT_LOW, 1, 7);
-    node(&mut s, FLAGS, 1, 8);
-    say(b"two grafts of one tree", &s);
-    s = grafted();
-    node(&mut s, GRAFT_HIGH, 2, 1);
-    say(b"a tree without its graft", &s);
-    s = waiting();
-    node(&mut s, CHILD_COUNT, 2, 1);
-    say(b"a graft with a child", &s);
-    s = grafted();
-    tree(&mut s, TREE_EXISTS, 1, 0);
-    say(b"a tree without its root", &s);
-    s = grafted();
-    node(&mut s, GRAFT_HIGH, 1, 1);
-    node(&mut s, GRAFT_LOW, 1, 7);
-    node(&mut s, FLAGS, 1, 8);
-    tree(&mut s, TREE_FOCUS, 0, 1);
-    say(b"two grafts with one low half", &s);
+// Changes the words that a text names.
+fn change_all(state: &mut State, text: &[u8]) {
+    change(state, text, cursor::first(text));
 }
 
-// A node's fields.
-fn fields() {
-    let mut s = start();
-    node(&mut s, FLAGS, 1, 64);
-    say(b"an unused flag bit", &s);
-    s = start();
-    node(&mut s, LABEL_LENGTH, 1, 33);
-    say(b"a label of 33 bytes", &s);
-    s = start();
-    node(&mut s, ACTIVE, 1, 1);
-    say(b"an active descendant without its flag", &s);
-    s = start();
-    node(&mut s, FLOATS + 2, 1, 4607182418800017408);
-    say(b"bounds without their flag", &s);
-    s = start();
-    node(&mut s, FLOATS + 9, 1, 9223372036854775808);
-    say(b"a sign without its flag", &s);
-    s = start();
-    node(&mut s, FLAGS, 1, 16);
-    node(&mut s, FLOATS + 2, 1, 9218868437227405312);
-    say(b"an infinite bound", &s);
+// Changes the words that a line names from a place on.
+fn change(state: &mut State, line: &[u8], from: Cursor) {
+    let mut c = from;
+    let mut turns = line.len();
+    while 0 < turns {
+        if cursor::is_done(c) {
+            return;
+        }
+        c = with_word(state, line, c);
+        turns -= 1;
+    }
 }
 
-// Bytes and words that no field has, and those that any has.
-fn garbage() {
-    let mut s = start();
-    node(&mut s, FLAGS, 1, 18446744073709551552);
-    say(b"every unused flag bit", &s);
-    s = start();
-    node(&mut s, LABEL_LENGTH, 1, 255);
-    say(b"a label length of 255", &s);
-    s = start();
-    node(&mut s, LABEL_LENGTH, 1, 32);
-    node(&mut s, LABEL + 3, 1, 18374686479671623680);
-    say(b"a label of 32 bytes", &s);
-    s = start();
-    node(&mut s, ROLE, 1, 255);
-    say(b"a role of 255", &s);
-    s = start();
-    node(&mut s, ROLE, 1, 256);
-    say(b"a role of 256", &s);
-    s = start();
-    node(&mut s, LABEL_LENGTH, 1, 18446744073709551615);
-    say(b"a label of the largest length", &s);
-    s = start();
-    node(&mut s, LABEL, 1, 18446744073709551615);
-    say(b"bytes past a label", &s);
-    s = start();
-    node(&mut s, FLAGS, 1, 16);
-    node(&mut s, FLOATS + 3, 1, 9221120237041090561);
-    say(b"a bound that is no number", &s);
+// Changes a word; where the line goes on.
+fn with_word(state: &mut State, line: &[u8], c: Cursor) -> Cursor {
+    let field = which_field(line, c);
+    let i = decimal::whole(line, cursor::next(line, c), 511, faults::PROPERTY);
+    let word = decimal::whole(line, i, u64::MAX, faults::PROPERTY);
+    set(state, place(field, i.number), word.number);
+    word
 }
 
-// The effective focus.
-fn focus() {
-    let mut s = start();
-    tree(&mut s, TREE_FOCUS, 0, 9);
-    say(b"an absent focus", &s);
-    s = waiting();
-    tree(&mut s, TREE_FOCUS, 0, 3);
-    say(b"a focus on a graft whose tree does not exist", &s);
-    s = grafted();
-    tree(&mut s, TREE_FOCUS, 0, 3);
-    say(b"a focus through a graft", &s);
-    tree(&mut s, TREE_FOCUS, 1, 9);
-    say(b"an absent focus behind a graft", &s);
+// Which field a word names: the 28 of the nodes, the 5 of the trees, the child entries, the head.
+fn which_field(line: &[u8], c: Cursor) -> u64 {
+    cursor::which(
+        line,
+        c,
+        b"tree node parent_tree parent_node index linked graft_high graft_low flags first_child child_count active role label_length \
+        label0 label1 label2 label3 float0 float1 float2 float3 float4 float5 float6 float7 float8 float9 \
+        tree_high tree_low tree_root tree_focus tree_exists child head",
+    )
 }
 
-fn main() {
-    let mut s = state_array::blank();
-    say(b"blank", &s);
-    s = start();
-    say(b"S", &s);
-    s = waiting();
-    say(b"a graft that waits", &s);
-    s = grafted();
-    say(b"a grafted tree", &s);
-    links();
-    ranges();
-    tables();
-    grafts();
-    fields();
-    garbage();
-    focus();
+// Where word i of a field stands, past the last word where there is no such field.
+fn place(field: u64, i: u64) -> usize {
+    let f = (field % 64) as usize;
+    let at = (i % 512) as usize;
+    if f < 28 {
+        return state_array::NODES + state_array::SLOTS * f + at;
+    }
+    if f < 33 {
+        return state_array::TABLE + state_array::TREES * (f - 28) + at;
+    }
+    match f {
+        33 => state_array::CHILDREN + at,
+        34 => at,
+        _ => state_array::WORDS,
+    }
+}
+
+// Writes a word.
+fn set(state: &mut State, at: usize, word: u64) {
+    if at < state_array::WORDS {
+        state[at] = word;
+    }
 }

@@ -1,137 +1,89 @@
 // Runs `layout` on the records that standard input lists, a line each, and writes for each that it passes, or the number 2. A line is
-//   NAME: NODES ENTRIES LABEL LENGTH AT BYTE AT BYTE ..
+//   "NAME" NODES ENTRIES LABEL LENGTH AT BYTE AT BYTE ..
 // for the first LENGTH bytes of a record with as many nodes, all ENTRIES child entries at the first node and a label of LABEL bytes at each, with
 // the byte at each AT replaced. The file stdout has what document 01, "The batch record", says of each.
-ghost use Prim.Native.Nat.{_+_, _*_, _<_, _≤_};
-ghost use lib.ListN.{length};
+ghost use Prim.Native.Nat.{_<_, _≤_};
 use libc::STDIN_FILENO;
-use libc::STDOUT_FILENO;
+use program_text::cursor;
+use program_text::cursor::Cursor;
+use program_text::decimal;
+use program_text::faults;
+use program_text::lines;
+use program_text::print::put;
 
-// A number of the text, and where it ends.
-struct Word {
-    value: usize,
-    next: usize,
-}
-
+// Every line.
 fn main() {
-    let mut text = io::large_buffer();
-    let n = io::read_full(STDIN_FILENO, &mut text);
-    run(&text[..n]);
-}
-
-fn run(text: &[u8]) {
-    let mut at: usize = 0;
-    while at < text.len() {
-        at = line(text, at);
+    let mut chunk = io::large_buffer();
+    let mut text = [0u8; 8192];
+    let mut input = lines::of(STDIN_FILENO);
+    let mut turns = u64::MAX;
+    while 0 < turns {
+        input = lines::next(input, &mut chunk, &mut text);
+        if input.ended {
+            return;
+        }
+        judge(lines::line(&text, input));
+        turns -= 1;
     }
 }
 
-// The line from `from`; where the next one starts.
-fn line(text: &[u8], from: usize) -> usize
-    requires { ⌜ from < length (now text) ⌝ }
-    ensures { λ r. ⌜ (from < r) × (r ≤ length (now (text .entry))) ⌝ }
-{
-    let colon = find(text, from, b':');
-    let nodes = number(text, find(text, colon, b' '));
-    let entries = number(text, nodes.next);
-    let label = number(text, entries.next);
-    let size = number(text, label.next);
+// What `layout` says of a line's record, with its name.
+fn judge(line: &[u8]) {
+    let name = cursor::first(line);
+    let nodes = number(line, cursor::next(line, name));
+    let entries = number(line, nodes);
+    let label = number(line, entries);
+    let size = number(line, label);
     let mut bytes = [0u8; 12800];
-    make(&mut bytes, nodes.value, entries.value, label.value);
-    let end = change(&mut bytes, text, size.next);
-    io::write_all(STDOUT_FILENO, &text[from..colon]);
-    judge(&bytes, size.value);
-    if end < text.len() {
-        end + 1
-    } else {
-        text.len()
-    }
-}
-
-// The first place from `from` on where a byte stands, or the end.
-fn find(text: &[u8], from: usize, byte: u8) -> usize
-    requires { ⌜ from ≤ length (now text) ⌝ }
-    ensures { λ r. ⌜ (from ≤ r) × (r ≤ length (now (text .entry))) ⌝ }
-{
-    let mut at = from;
-    while at < text.len() {
-        if text[at] == byte {
-            return at;
-        }
-        at += 1;
-    }
-    at
-}
-
-// The number from `from`, before which one space may stand.
-fn number(text: &[u8], from: usize) -> Word
-    requires { ⌜ from ≤ length (now text) ⌝ }
-    ensures { λ r. ⌜ (from ≤ r .next) × (r .next ≤ length (now (text .entry))) ⌝ }
-{
-    let mut value: usize = 0;
-    let mut at = from;
-    while at < text.len() {
-        if from < at {
-            if !is_digit(text[at]) {
-                return Word { value, next: at };
-            }
-        }
-        value = with_digit(value, text[at]);
-        at += 1;
-    }
-    Word { value, next: at }
-}
-
-fn is_digit(byte: u8) -> bool {
-    (48 <= byte) & (byte <= 57)
-}
-
-// A number with one digit more; a byte that is none leaves it.
-fn with_digit(value: usize, byte: u8) -> usize {
-    if byte < 48 {
-        return value;
-    }
-    if 57 < byte {
-        return value;
-    }
-    10 * (value % 65536) + (byte - 48) as usize
-}
-
-// Replaces the bytes that the rest of the line names; where it ends.
-fn change(bytes: &mut [u8; 12800], text: &[u8], from: usize) -> usize
-    requires { ⌜ from ≤ length (now text) ⌝ }
-    ensures { λ r. ⌜ (from ≤ r) × (r ≤ length (now (text .entry))) ⌝ }
-{
-    let mut at = from;
-    while at < text.len() {
-        if text[at] != b' ' {
-            return at;
-        }
-        let place = number(text, at + 1);
-        let byte = number(text, place.next);
-        set(bytes, place.value, (byte.value % 256) as u8);
-        at = byte.next;
-    }
-    at
+    make(
+        &mut bytes,
+        nodes.number as usize,
+        entries.number as usize,
+        label.number as usize,
+    );
+    change(&mut bytes, line, size);
+    put(cursor::quoted(line, name));
+    say(passes(&bytes, size.number as usize));
 }
 
 // What `layout` says of the first n bytes.
-fn judge(bytes: &[u8; 12800], n: usize) {
-    first(bytes, n);
+fn passes(bytes: &[u8; 12800], n: usize) -> bool {
+    record_layout::layout(lines::part(bytes, n))
 }
 
-fn first(bytes: &[u8], n: usize) {
-    if n <= bytes.len() {
-        say(record_layout::layout(&bytes[..n]));
+// A number of a line.
+fn number(line: &[u8], c: Cursor) -> Cursor {
+    decimal::whole(line, c, 65535, faults::NODE)
+}
+
+// Replaces the bytes that a line names from a place on.
+fn change(bytes: &mut [u8; 12800], line: &[u8], from: Cursor) {
+    let mut c = from;
+    let mut turns = line.len();
+    while 0 < turns {
+        if cursor::is_done(c) {
+            return;
+        }
+        c = with_byte(bytes, line, c);
+        turns -= 1;
     }
 }
 
-fn say(passes: bool) {
-    if passes {
-        io::write_all(STDOUT_FILENO, b": passes\n");
-    } else {
-        io::write_all(STDOUT_FILENO, b": 2\n");
+// Replaces a byte; where the line goes on.
+fn with_byte(bytes: &mut [u8; 12800], line: &[u8], c: Cursor) -> Cursor {
+    let at = number(line, c);
+    let byte = number(line, at);
+    set(bytes, at.number as usize, (byte.number % 256) as u8);
+    byte
+}
+
+// A verdict.
+fn say(good: bool) {
+    if good {
+        put(b": passes\n");
+        return;
     }
+    put(b": 2\n");
 }
 
 // A record for ROOT with tree data, tree root 1 and focus 2. Node i has the number i + 1 and role 4.

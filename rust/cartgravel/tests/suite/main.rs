@@ -1,4 +1,4 @@
-//! The crate's tests. Expected answers are document 01's; crates/cases/stdout has the same reports.
+//! The crate's tests. Expected answers are document 01's; the answers to demo/cases.calls in crates/batchcheck/stdout are the same.
 mod batch;
 mod cases;
 mod decode;

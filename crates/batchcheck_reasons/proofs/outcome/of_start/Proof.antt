@@ -25,8 +25,8 @@ apply-requires c κs =
     let z = sym (ap (λ (r : Refusal). r .number) (a .before .before .start-rows .ensures)) ∙ a .if1 .left in
     (told-start _ _ _ _ z (d .seeded .ensures) (d .before .start-scope .ensures z) refl, refl)
 
-tell-requires : tie.Need-tell-requires
-tell-requires c κs = search needs
+explain-row-requires : tie.Need-explain-row-requires
+explain-row-requires c κs = search needs
 
 returns-2 : tie.Need-returns-2
 returns-2 c = search needs
@@ -40,5 +40,5 @@ of-start-spec =
     start-scope-requires
     seeded-requires
     apply-requires
-    tell-requires
+    explain-row-requires
     returns-2)

@@ -22,8 +22,8 @@ apply-requires c κs =
     let z = sym (ap (λ (r : Refusal). r .number) (a .before .before .first-rows .ensures)) ∙ a .if1 .left in
     (told-update _ _ _ _ z (c .before .before .scope-of .ensures (first-passed _ _ z .formed)) refl, refl)
 
-tell-requires : tie.Need-tell-requires
-tell-requires c κs = search needs
+explain-row-requires : tie.Need-explain-row-requires
+explain-row-requires c κs = search needs
 
 returns-2 : tie.Need-returns-2
 returns-2 c = search needs
@@ -31,4 +31,4 @@ returns-2 c = search needs
 pub of-update-spec : {M : Type 1} → statement M
 of-update-spec =
     tie.close
-    (tie.spec first-rows-requires returns scope-of-requires apply-requires tell-requires returns-2)
+    (tie.spec first-rows-requires returns scope-of-requires apply-requires explain-row-requires returns-2)

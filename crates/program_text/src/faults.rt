@@ -1,0 +1,144 @@
+// What can be wrong with a line, and how it is said: what was found, and what was expected.
+use crate::cursor;
+use crate::cursor::Cursor;
+use crate::print;
+use crate::print::put;
+use libc::STDOUT_FILENO;
+
+// The faults, named by what was expected: the lines of `expected`, from 1 on.
+pub const OUTSIDE: u8 = 1;
+
+pub const INSIDE: u8 = 2;
+
+pub const NODE: u8 = 3;
+
+pub const ROW: u8 = 4;
+
+pub const TREE: u8 = 5;
+
+pub const ROLE_NUMBER: u8 = 6;
+
+pub const ROLE_NAME: u8 = 7;
+
+pub const NAME_TAKEN: u8 = 8;
+
+pub const PROPERTY: u8 = 9;
+
+pub const ONCE: u8 = 10;
+
+pub const FLOAT: u8 = 11;
+
+pub const QUOTE: u8 = 12;
+
+pub const ESCAPE: u8 = 13;
+
+pub const LINE_END: u8 = 14;
+
+pub const START_WORD: u8 = 15;
+
+pub const BATCH_WORD: u8 = 16;
+
+pub const ROOM: u8 = 17;
+
+pub const SWITCH: u8 = 18;
+
+pub const FILE: u8 = 19;
+
+pub const NODE_ROOM: u8 = 20;
+
+pub const CHILD_ROOM: u8 = 21;
+
+pub const LABEL_ROOM: u8 = 22;
+
+pub const FOCUS: u8 = 23;
+
+pub const END: u8 = 24;
+
+pub const FILE_END: u8 = 25;
+
+pub const SHORTER: u8 = 26;
+
+// Says what is wrong with a line.
+pub fn tell(number: u64, line: &[u8], c: Cursor) {
+    print::of_number(b"line #: ", number);
+    found(line, c);
+    put(b"; expected ");
+    expected(c.fault);
+    put(b"\n");
+}
+
+// Says what was found.
+fn found(line: &[u8], c: Cursor) {
+    if c.fault == SHORTER {
+        put(b"more than 8192 bytes");
+        return;
+    }
+    if c.fault == FILE_END {
+        put(b"the file ends");
+        return;
+    }
+    if c.end <= c.from {
+        put(b"the line ends");
+        return;
+    }
+    put(b"found `");
+    printable(cursor::word(line, c));
+    put(b"`");
+}
+
+// Writes a word of any bytes, at most 60 of them.
+fn printable(word: &[u8]) {
+    let mut i: usize = 0;
+    while i < word.len() {
+        if 59 < i {
+            put(b"..");
+            return;
+        }
+        letter(word[i]);
+        i += 1;
+    }
+}
+
+// Writes a byte, as \xHH where it does not print.
+fn letter(byte: u8) {
+    if (byte < b' ') | (byte == 127) {
+        put(b"\\x");
+        io::print_hex(STDOUT_FILENO, byte as u64, 2);
+        return;
+    }
+    put(&[byte]);
+}
+
+// Says what was expected, a line for each fault.
+fn expected(fault: u8) {
+    print::put_line(
+        b"\n\
+        role, start, batch or host, since no call is open\n\
+        node, root, focus, tree or end\n\
+        a node number, 0 to 18446744073709551615\n\
+        a node number, 0 to 18446744073709551615, or FIRST..LAST\n\
+        a tree id: ROOT, a number or HIGH:LOW\n\
+        a role number, 0 to 255\n\
+        a name of at most 16 letters that is no word of a node line\n\
+        a name that no other role has\n\
+        a named role, a label, children, active, graft, bounds, transform, hidden or clips\n\
+        no second one\n\
+        a decimal of at most 15 digits, its power of ten from -22 to 22\n\
+        a closing quote\n\
+        only the escapes \\\", \\\\ and \\xHH\n\
+        the end of the line\n\
+        raw, unfocused or the end of the line\n\
+        raw, room or the end of the line\n\
+        a number of elements, 0 to 1024\n\
+        on or off\n\
+        a file that can be read\n\
+        at most 65 nodes in a call\n\
+        at most 257 children in a call\n\
+        at most 2049 label bytes in a call\n\
+        a focus line before it\n\
+        end, since a call is open\n\
+        end, since a call is open\n\
+        a shorter line\n",
+        fault as u64,
+    );
+}

@@ -1,0 +1,63 @@
+#!/usr/bin/env python3
+"""check_times.py [PROGRAM]: the table of docs/CHECK-TIMES.md, from the seconds that the last run of `rt ci` or `rt check` left in target/log.
+
+Then what proving takes by itself, without the edits: rt proves the crates level by level, two at a time, and waits for both. With PROGRAM, only
+what that crate needs. The order of the lines in crates.txt says which crates of one level are proved together.
+"""
+import pathlib
+import re
+import sys
+
+ROOT = pathlib.Path(__file__).resolve().parent.parent
+
+
+def listed():
+    """The dependencies of each crate in the repository, in the order of crates.txt."""
+    found = re.findall(r"^(\w+):(.*)$", (ROOT / "crates.txt").read_text(), re.M)
+    names = {name for name, _ in found}
+    return {name: [d for d in deps.split() if d in names] for name, deps in found}
+
+
+def seconds(name):
+    log = ROOT / "target" / "log" / f"{name}.out"
+    took = re.search(r"proved \((\d+) s\)", log.read_text()) if log.exists() else None
+    return int(took[1]) if took else 0
+
+
+def edits(name):
+    return len(list((ROOT / "crates" / name / "must-fail").glob("*.edit")))
+
+
+def levels(deps, wanted):
+    """The crates that are wanted and what they need, by level: a crate's is one more than the highest of its dependencies'."""
+    level = {}
+
+    def visit(name):
+        if name not in level:
+            for other in deps[name]:
+                visit(other)
+            level[name] = 1 + max((level[other] for other in deps[name]), default=-1)
+
+    for name in wanted:
+        visit(name)
+    return [[n for n in level if level[n] == k] for k in range(max(level.values()) + 1)]
+
+
+def main():
+    deps = listed()
+    rows = levels(deps, sys.argv[1:] or deps)
+    names = [n for n in deps if any(n in row for row in rows)]
+    half = (len(names) + 1) // 2
+    cells = [f"{n} | {seconds(n)} | {edits(n)} | {seconds(n) * (1 + edits(n))}" for n in names] + [" | | | "]
+    print("| crate | s | edits | s × (1 + edits) | crate | s | edits | s × (1 + edits) |\n|---|---|---|---|---|---|---|---|")
+    for k in range(half):
+        print(f"| {cells[k]} | {cells[half + k]} |")
+    pairs = [row[k:k + 2] for row in rows for k in range(0, len(row), 2)]
+    print(f"\n{len(names)} crates, {sum(map(seconds, names))} s; {sum(map(edits, names))} edits; with the edits {sum(seconds(n) * (1 + edits(n)) for n in names)} s")
+    print(f"two at a time, level by level: {sum(max(map(seconds, pair)) for pair in pairs)} s")
+    for pair in pairs:
+        print("  " + ", ".join(f"{n} {seconds(n)}" for n in pair))
+
+
+if __name__ == "__main__":
+    main()
