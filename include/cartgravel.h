@@ -1,11 +1,12 @@
 // Cartgravel: the accessibility tree of a payment terminal, for C11 and C++17 or later.
 //
-// A program keeps a `cartgravel_state`, starts it once and hands it batches. Each call answers a number; CARTGRAVEL_ACCEPTED is 0. After any
-// other number the lent slice is as it was, the rest of the reply is zeros, and the state is as it was; only a refused start leaves the blank state,
-// which no other call takes. Any bytes may stand in a state, a batch or a slice.
+// A program keeps a `cartgravel_state`, starts it once and hands it batches; then it asks what has the focus, what a node is called and what a
+// cardholder can reach from there. Each call and each question answers a number; CARTGRAVEL_ACCEPTED is 0. After any other number the lent slice is
+// as it was, the rest of the answer is zeros, and the state is as it was; only a refused start leaves the blank state, which no other call takes. Any
+// bytes may stand in a state, a batch, a walk or a slice.
 //
-// The calls keep no pointer, allocate nothing and have no state of their own, so threads may call them at once, each on its own memory. A
-// call needs CARTGRAVEL_STACK bytes of stack. A state lives where its owner puts it.
+// The calls keep no pointer, allocate nothing and have no state of their own, so threads may call them at once, each on its own memory; questions may
+// share a state. A call needs CARTGRAVEL_STACK bytes of stack. A state lives where its owner puts it.
 //
 // Link libcartgravel.a, which `rt staticlib cartgravel` proves and writes to target/staticlib. examples/c has a program.
 #ifndef CARTGRAVEL_H
@@ -19,8 +20,14 @@
 extern "C" {
 #endif
 
-// The numbers that a call can answer.
-enum {
+// The version of this header.
+#define CARTGRAVEL_VERSION_MAJOR 0
+#define CARTGRAVEL_VERSION_MINOR 1
+#define CARTGRAVEL_VERSION_PATCH 0
+#define CARTGRAVEL_VERSION "0.1.0"
+
+// The numbers that a call or a question can answer.
+enum cartgravel_number {
     CARTGRAVEL_ACCEPTED = 0,              // accepted
     CARTGRAVEL_STATE_NOT_SOUND = 1,       // the state handed in is not sound
     CARTGRAVEL_NOT_A_RECORD = 2,          // the record breaks the layout or a limit
@@ -42,11 +49,49 @@ enum {
     CARTGRAVEL_CHANGED_AND_REMOVED = 18,  // a node both added or updated, and removed
     CARTGRAVEL_OUTCOME_NOT_SOUND = 19,    // the links or trees of the outcome are not sound
     CARTGRAVEL_TOO_MANY_NODES = 20,       // more than 256 nodes in the outcome
-    CARTGRAVEL_LIST_TOO_SHORT = 21        // a lent list too short for what it should hold
+    CARTGRAVEL_LIST_TOO_SHORT = 21,       // a lent list too short for what it should hold
+    CARTGRAVEL_NODE_ABSENT = 22           // the node asked about is not in the state
 };
 
-// Sizes. The four lists of any batch fit in CARTGRAVEL_CHANGES elements. CARTGRAVEL_STACK is what the deepest call was measured to need,
-// rounded up to the next 64 KiB.
+// The filters, for questions; a walk takes CARTGRAVEL_UNFILTERED too. Any other number is refused with 2.
+enum cartgravel_filter_number {
+    CARTGRAVEL_UNFILTERED = 0,           // no filter
+    CARTGRAVEL_COMMON = 1,               // what a cardholder can reach
+    CARTGRAVEL_WITH_ROOT_EXCEPTION = 2,  // the same, with ROOT's root included whatever it is
+    CARTGRAVEL_WITHOUT_PARENT_CHECKS = 3 // what the first says before it looks at a node's parents
+};
+
+// What a filter says of a node.
+enum cartgravel_filter_result {
+    CARTGRAVEL_INCLUDE = 0,        // the node is shown
+    CARTGRAVEL_EXCLUDE_NODE = 1,   // the node is not shown; its children stand in its place
+    CARTGRAVEL_EXCLUDE_SUBTREE = 2 // neither the node nor anything below it is shown
+};
+
+// The sides of a node among its siblings. Any other number is refused with 2.
+enum cartgravel_side {
+    CARTGRAVEL_FOLLOWING = 0, // those after it, in order
+    CARTGRAVEL_PRECEDING = 1  // those before it, the nearest first
+};
+
+// The kinds of a node's box. A kind may join them.
+enum cartgravel_box_kind {
+    CARTGRAVEL_NO_BOX = 0, // no bounds, or a number on the way is not finite
+    CARTGRAVEL_A_BOX = 1   // a box
+};
+
+// The flags of a node.
+enum cartgravel_node_flag {
+    CARTGRAVEL_HIDDEN = 1,                // hidden, and all below it
+    CARTGRAVEL_CLIPS_CHILDREN = 2,        // clips its children
+    CARTGRAVEL_HAS_ACTIVE_DESCENDANT = 4, // passes the focus on
+    CARTGRAVEL_IS_GRAFT = 8,              // holds another tree in its place
+    CARTGRAVEL_HAS_BOUNDS = 16,           // has bounds
+    CARTGRAVEL_HAS_TRANSFORM = 32         // has a transform
+};
+
+// Sizes. The four lists of any batch fit in CARTGRAVEL_CHANGES elements, a list of any other call in CARTGRAVEL_IDS. CARTGRAVEL_STACK is what the
+// deepest call was measured to need, rounded up to the next 64 KiB.
 enum {
     CARTGRAVEL_NODES = 256,          // nodes of a state
     CARTGRAVEL_TREES = 32,           // tree numbers of a state
@@ -54,7 +99,8 @@ enum {
     CARTGRAVEL_CHILD_ENTRIES = 256,  // child entries of a batch
     CARTGRAVEL_LABEL_BYTES = 32,     // bytes of a node's label
     CARTGRAVEL_RECORD_BYTES = 12352, // bytes of a batch
-    CARTGRAVEL_CHANGES = 1024,       // elements of the lists
+    CARTGRAVEL_CHANGES = 1024,       // elements of the lists of a batch
+    CARTGRAVEL_IDS = 512,            // elements of a list of nodes
     CARTGRAVEL_STATE_WORDS = 9640,   // words of a state
     CARTGRAVEL_STATE_BYTES = 77120,  // bytes of a state
     CARTGRAVEL_STACK = 196608        // bytes of stack for a call
@@ -118,9 +164,145 @@ typedef struct {
     uint32_t number;
 } cartgravel_reply;
 
-// The calls: the proved functions themselves, with no code between. No pointer may be null, not even to a batch or slice of no elements, which may
-// point to any byte; each must point to the state or to as many elements as are said, and none may overlap another. A flag is set where it is
-// not 0.
+// A node's id: its tree's number, then its own number there.
+typedef struct {
+    uint32_t tree;
+    uint64_t node;
+} cartgravel_node_id;
+
+// A tree id: the two halves of a UUID. ROOT's are 0.
+typedef struct {
+    uint64_t high;
+    uint64_t low;
+} cartgravel_uuid;
+
+// A rectangle from (x0, y0) to (x1, y1).
+typedef struct {
+    double x0;
+    double y0;
+    double x1;
+    double y1;
+} cartgravel_rect;
+
+// A transform: x goes to a*x + c*y + e, and y to b*x + d*y + f.
+typedef struct {
+    double a;
+    double b;
+    double c;
+    double d;
+    double e;
+    double f;
+} cartgravel_affine;
+
+// The answer of a question for a node: its id, or none.
+typedef struct {
+    cartgravel_id id;
+    uint32_t number;
+} cartgravel_found;
+
+// The answer of a question for a list: how many ids (two elements each) or label bytes stand in the slice.
+typedef struct {
+    size_t length;
+    uint32_t number;
+} cartgravel_listed;
+
+// The answer of a question for a flag: 0 or 1.
+typedef struct {
+    uint32_t value;
+    uint32_t number;
+} cartgravel_flag;
+
+// The answer of cartgravel_transform.
+typedef struct {
+    cartgravel_affine transform;
+    uint32_t number;
+} cartgravel_transform_answer;
+
+// The answer of cartgravel_bounding_box: `kind` is a cartgravel_box_kind.
+typedef struct {
+    cartgravel_rect rect;
+    uint32_t kind;
+    uint32_t number;
+} cartgravel_box_answer;
+
+// The answer of cartgravel_filter: `result` is a cartgravel_filter_result.
+typedef struct {
+    uint32_t result;
+    uint32_t number;
+} cartgravel_filter_answer;
+
+// The answer of cartgravel_node. `flags` has bits of cartgravel_node_flag; a field whose flag is clear is 0.
+typedef struct {
+    cartgravel_rect bounds;
+    cartgravel_affine transform;
+    cartgravel_uuid graft;
+    uint64_t active_descendant;
+    size_t label_length;
+    size_t child_count;
+    uint32_t role;
+    uint32_t flags;
+    uint32_t number;
+} cartgravel_node_answer;
+
+// The answer of cartgravel_tree_id: a tree id, or none.
+typedef struct {
+    cartgravel_uuid id;
+    uint32_t present;
+    uint32_t number;
+} cartgravel_tree_answer;
+
+// The answer of cartgravel_tree_index: a tree number, or none.
+typedef struct {
+    uint32_t index;
+    uint32_t present;
+    uint32_t number;
+} cartgravel_index_answer;
+
+// The answer of cartgravel_tree_ends: a tree's root and focus, or none of a tree that does not exist.
+typedef struct {
+    cartgravel_id root;
+    cartgravel_id focus;
+    uint32_t number;
+} cartgravel_ends_answer;
+
+// The answer of cartgravel_counts: how many nodes and tree numbers there are, and the host flag.
+typedef struct {
+    size_t nodes;
+    size_t trees;
+    uint32_t host_focused;
+    uint32_t number;
+} cartgravel_counts_answer;
+
+// A walk over the siblings of a node on one side, nearest first, kept by the caller: the node, a cartgravel_side, a cartgravel_filter_number and how
+// many siblings were handed out, at first 0. Any values are a walk.
+typedef struct {
+    cartgravel_node_id node;
+    uint32_t side;
+    uint32_t filter;
+    uint64_t count;
+} cartgravel_walk;
+
+// The sizes that the library was built with.
+static_assert(sizeof(cartgravel_id) == 16, "an id or none");
+static_assert(sizeof(cartgravel_reply) == 104, "a reply");
+static_assert(sizeof(cartgravel_node_id) == 16, "a node's id");
+static_assert(sizeof(cartgravel_uuid) == 16, "a tree id");
+static_assert(sizeof(cartgravel_found) == 24, "a node found");
+static_assert(sizeof(cartgravel_listed) == 16, "a list's length");
+static_assert(sizeof(cartgravel_flag) == 8, "a flag");
+static_assert(sizeof(cartgravel_transform_answer) == 56, "a transform");
+static_assert(sizeof(cartgravel_box_answer) == 40, "a box");
+static_assert(sizeof(cartgravel_filter_answer) == 8, "what a filter says");
+static_assert(sizeof(cartgravel_node_answer) == 136, "a node");
+static_assert(sizeof(cartgravel_tree_answer) == 24, "a tree id or none");
+static_assert(sizeof(cartgravel_index_answer) == 12, "a tree number or none");
+static_assert(sizeof(cartgravel_ends_answer) == 40, "a tree's ends");
+static_assert(sizeof(cartgravel_counts_answer) == 24, "the counts");
+static_assert(sizeof(cartgravel_walk) == 32, "a walk");
+
+// The calls and the questions: the proved functions themselves, with no code between. No pointer may be null, not even to a batch or slice of no
+// elements, which may point to any byte; each must point to the state, the walk or to as many elements as are said, and none may overlap another.
+// A flag is set where it is not 0.
 
 // A start: a state begins with a batch for ROOT with tree data. It never reads the state's memory, which need not be initialised. After a refusal
 // the state is the blank one, all zeros.
@@ -132,6 +314,79 @@ cartgravel_reply cartgravel_update(cartgravel_state *state, const uint8_t *batch
 
 // A host focus change: whether the terminal itself has the focus.
 cartgravel_reply cartgravel_host_focus(cartgravel_state *state, uint32_t host_focused);
+
+// The questions about a state. They change nothing but the lent slice, or the walk. A question about a node that is not there answers
+// CARTGRAVEL_NODE_ABSENT, one whose slice of `room` elements is too short CARTGRAVEL_LIST_TOO_SHORT; elements beyond a list keep what they held.
+
+// The node that has the focus: none while the host is not focused.
+cartgravel_found cartgravel_focus(const cartgravel_state *state);
+
+// The root of the tree ROOT.
+cartgravel_found cartgravel_root(const cartgravel_state *state);
+
+// The tree id that has this number, if it is taken.
+cartgravel_tree_answer cartgravel_tree_id(const cartgravel_state *state, uint32_t index);
+
+// The number of a tree id, if it has one.
+cartgravel_index_answer cartgravel_tree_index(const cartgravel_state *state, cartgravel_uuid id);
+
+// The root and the focus of a tree, if it exists.
+cartgravel_ends_answer cartgravel_tree_ends(const cartgravel_state *state, uint32_t index);
+
+// How many nodes and tree numbers there are, and the host flag.
+cartgravel_counts_answer cartgravel_counts(const cartgravel_state *state);
+
+// What a node says of itself.
+cartgravel_node_answer cartgravel_node(const cartgravel_state *state, cartgravel_node_id id);
+
+// Its label: any bytes, at most CARTGRAVEL_LABEL_BYTES, without a zero at the end.
+cartgravel_listed cartgravel_label(const cartgravel_state *state, cartgravel_node_id id, uint8_t *out, size_t room);
+
+// Its parent: of a pane's root the graft that holds it, of ROOT's root none.
+cartgravel_found cartgravel_parent(const cartgravel_state *state, cartgravel_node_id id);
+
+// Its children, in order; of a graft the root of its tree, if that exists.
+cartgravel_listed cartgravel_children(const cartgravel_state *state, cartgravel_node_id id, uint64_t *out, size_t room);
+
+// Whether it or a node above it is hidden.
+cartgravel_flag cartgravel_hidden(const cartgravel_state *state, cartgravel_node_id id);
+
+// Its transform, with those of the nodes above it.
+cartgravel_transform_answer cartgravel_transform(const cartgravel_state *state, cartgravel_node_id id);
+
+// Its bounds under that transform.
+cartgravel_box_answer cartgravel_bounding_box(const cartgravel_state *state, cartgravel_node_id id);
+
+// What a filter says of it.
+cartgravel_filter_answer cartgravel_filter(const cartgravel_state *state, cartgravel_node_id id, uint32_t filter);
+
+// The nearest node above it that the filter includes.
+cartgravel_found cartgravel_filtered_parent(const cartgravel_state *state, cartgravel_node_id id, uint32_t filter);
+
+// The first of its filtered children.
+cartgravel_found cartgravel_first_filtered_child(const cartgravel_state *state, cartgravel_node_id id, uint32_t filter);
+
+// The last of its filtered children.
+cartgravel_found cartgravel_last_filtered_child(const cartgravel_state *state, cartgravel_node_id id, uint32_t filter);
+
+// The first filtered child, the first of that one and so on: the last on this way.
+cartgravel_found cartgravel_deepest_first_filtered_child(const cartgravel_state *state, cartgravel_node_id id, uint32_t filter);
+
+// The last filtered child, the last of that one and so on: the last on this way.
+cartgravel_found cartgravel_deepest_last_filtered_child(const cartgravel_state *state, cartgravel_node_id id, uint32_t filter);
+
+// Its siblings on one side, nearest first.
+cartgravel_listed cartgravel_siblings(const cartgravel_state *state, cartgravel_node_id id, uint32_t side, uint64_t *out, size_t room);
+
+// Its children, in order, with an excluded node's own in its place and without excluded subtrees.
+cartgravel_listed cartgravel_filtered_children(const cartgravel_state *state, cartgravel_node_id id, uint32_t filter, uint64_t *out, size_t room);
+
+// Its siblings on one side under a filter, nearest first, those of excluded parents included.
+cartgravel_listed cartgravel_filtered_siblings(const cartgravel_state *state, cartgravel_node_id id, uint32_t filter, uint32_t side, uint64_t *out,
+                                               size_t room);
+
+// The next sibling of a walk in this state, or none at the end. Only with a sibling the count goes up, by one; otherwise the walk is as it was.
+cartgravel_found cartgravel_next(cartgravel_walk *walk, const cartgravel_state *state);
 
 // A number in plain words, or "no such number".
 static inline const char *cartgravel_words(uint32_t number) {
@@ -158,6 +413,7 @@ static inline const char *cartgravel_words(uint32_t number) {
         "the links or trees of the outcome are not sound",
         "more than 256 nodes in the outcome",
         "a lent list too short for what it should hold",
+        "the node asked about is not in the state",
     };
     return number < sizeof words / sizeof words[0] ? words[number] : "no such number";
 }

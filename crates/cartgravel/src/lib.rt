@@ -1,5 +1,7 @@
-// The library that terminals link: the three calls. Numbers, slices, plain structs and the state's words alone cross the boundary: a slice
+// The library that terminals link: the three calls, and in asking.rt the questions. Numbers, slices, plain structs and the state's words alone cross the boundary: a slice
 // passes as a pointer and a length, the state as a pointer. include/cartgravel.h declares the functions for C.
+mod asking;
+
 ghost use Rattle.calls.specs.Replies.{Starts, Updates, HostFocuses};
 use calls::Reply;
 use state_array::State;

@@ -1,9 +1,20 @@
 -- The answers of the questions as plain numbers and structs, for C: what is missing is 0. Assumes nothing.
-use mathlib.Core.Option.{none, some}
+use mathlib.Core.Bool.{true, not}
+use mathlib.Core.List.{[], _∷_}
+use mathlib.Core.Option.{Option, none, some}
 use Prim.Native.Nat.{ℕ, _+_}
 use lib.Ieee.{Float, ofBits, binary64}
 use Rattle.base.specs.Tests.{if_then_else_}
+use Rattle.base.specs.Tables.{row, first}
 use Rattle.ids.specs.Ids.{ROOT}
+use Rattle.state.specs.State.{Forest}
+use Rattle.state.specs.Sound.{sound}
+use Rattle.questions.specs.declared.Filter.{Filter}
+use Rattle.questions.specs.declared.Side.{Side}
+use Rattle.questions.specs.Kept.{sideOf, filterChoice}
+use Rattle.filters.specs.declared.FilterAnswer.{FilterAnswer}
+use Rattle.filters.specs.declared.FilterAnswer.the-variants as answer
+use Rattle.filters.specs.Answer.{resultNumber}
 use Rattle.state_lookup.specs.declared.FoundTree.{FoundTree}
 use Rattle.state_lookup.specs.declared.FoundTree.the-variants as ends
 use Rattle.state_focus.specs.Focus.{foundOf}
@@ -32,6 +43,11 @@ use Rattle.node.specs.declared.CountsAnswer.{CountsAnswer}
 use Rattle.node.specs.declared.NodeReading.{NodeReading}
 use Rattle.cartgravel_plain.specs.declared.FoundId.{FoundId}
 use Rattle.cartgravel_plain.specs.declared.Listed.{Listed}
+use Rattle.cartgravel_plain.specs.declared.FilterNumber.{FilterNumber}
+use Rattle.cartgravel_plain.specs.declared.FilterNumber.the-variants as filter
+use Rattle.cartgravel_plain.specs.declared.SideNumber.{SideNumber}
+use Rattle.cartgravel_plain.specs.declared.SideNumber.the-variants as side
+use Rattle.cartgravel_plain.specs.declared.PlainResult.{PlainResult}
 use Rattle.cartgravel_plain.specs.declared.Flag.{Flag}
 use Rattle.cartgravel_plain.specs.declared.PlainTransform.{PlainTransform}
 use Rattle.cartgravel_plain.specs.declared.PlainBox.{PlainBox}
@@ -70,6 +86,33 @@ boxIs k box.None = record { rect = record { x0 = nought; y0 = nought; x1 = nough
 
 abbrev pub plainBox : BoxAnswer → PlainBox
 plainBox a = boxIs (a .number) (a .«bounding_box»)
+
+-- ## Filters and sides by their numbers
+
+-- a filter's number: 1, 2 or 3 (0 says that a walk has none)
+abbrev pub asFilter : Option (Option Filter) → FilterNumber
+asFilter none = filter.Unknown
+asFilter (some none) = filter.Unknown
+asFilter (some (some f)) = filter.Known f
+
+unfoldable pub filterNumbered : ℕ → FilterNumber
+filterNumbered k = asFilter (filterChoice k)
+
+abbrev pub asSide : Option Side → SideNumber
+asSide none = side.Unknown
+asSide (some d) = side.Known d
+
+unfoldable pub sideNumbered : ℕ → SideNumber
+sideNumbered k = asSide (sideOf k)
+
+-- a number that is none of ours: 1 where the state is not sound, else 2
+unfoldable pub unknownNumber : Forest → ℕ
+unknownNumber s = first (row 1 (not (sound s)) ∷ row 2 true ∷ [])
+
+-- what a filter says, 0 after any number but 0
+abbrev pub plainResult : FilterAnswer → PlainResult
+plainResult (answer.Refused n) = record { result = 0; number = n }
+plainResult (answer.Result r) = record { result = resultNumber r; number = 0 }
 
 -- ## Trees and counts
 

@@ -1,8 +1,11 @@
 // The answers of the questions as plain numbers and structs, for C: enums become a number and fields that are 0 where there is nothing.
 ghost use mathlib.Core.Path.{_≡_};
 ghost use Rattle.base.specs.Tests.{if_then_else_};
-ghost use Rattle.cartgravel_plain.specs.Plain.{plainFound, plainList, plainFlag, plainTransform, boxIs, plainBox, plainTreeId, plainIndex, plainEnds, plainCounts, rectField, affineField, treeField, numberField, plainNode};
+ghost use Rattle.state_array.specs.View.{view};
+ghost use Rattle.filters.specs.Answer.{resultNumber};
+ghost use Rattle.cartgravel_plain.specs.Plain.{filterNumbered, sideNumbered, unknownNumber, plainResult, plainFound, plainList, plainFlag, plainTransform, plainBox, plainTreeId, plainIndex, plainEnds, plainCounts, rectField, affineField, treeField, numberField, plainNode};
 use calls::OptionalId;
+use filters::FilterAnswer;
 use geometry::Affine;
 use geometry::Rect;
 use geometry_box::BoundingBox;
@@ -22,6 +25,10 @@ use node::TransformAnswer;
 use node::TreeEndsAnswer;
 use node::TreeIdAnswer;
 use node::TreeIndexAnswer;
+use questions::Filter;
+use questions::FilterResult;
+use questions::Side;
+use state_array::State;
 use state_focus::FoundNode;
 use state_lookup::FoundTree;
 
@@ -59,6 +66,25 @@ pub struct PlainBox {
     pub rect: Rect,
     pub kind: u32,
     pub number: u32,
+}
+
+// What a filter says: 0 Include, 1 ExcludeNode, 2 ExcludeSubtree.
+#[repr(C)]
+pub struct PlainResult {
+    pub result: u32,
+    pub number: u32,
+}
+
+// A filter by its number, if it is one of ours.
+pub enum FilterNumber {
+    Known(Filter),
+    Unknown,
+}
+
+// A side by its number, if it is one of ours.
+pub enum SideNumber {
+    Known(Side),
+    Unknown,
 }
 
 // What a node says of itself. A field whose flag (the record's) is clear is 0.
@@ -118,7 +144,7 @@ pub fn found(a: NodeAnswer) -> FoundId
     }
 }
 
-pub fn listed(a: ListAnswer) -> Listed
+pub fn list(a: ListAnswer) -> Listed
     ensures { λ r. ⌜ r ≡ plainList a ⌝ }
 {
     Listed {
@@ -131,7 +157,7 @@ pub fn hidden(a: HiddenAnswer) -> Flag
     ensures { λ r. ⌜ r ≡ plainFlag a ⌝ }
 {
     Flag {
-        value: flag(1, a.hidden) as u32,
+        value: weighed(1, a.hidden) as u32,
         number: a.number as u32,
     }
 }
@@ -167,6 +193,61 @@ pub fn bounding_box(a: BoxAnswer) -> PlainBox
             kind: 0,
             number,
         },
+    }
+}
+
+// 1, 2 and 3 are filters.
+pub fn filter_of(number: u32) -> FilterNumber
+    ensures { λ r. ⌜ r ≡ filterNumbered number ⌝ }
+{
+    match number {
+        1 => FilterNumber::Known(Filter::Common),
+        2 => FilterNumber::Known(Filter::WithRootException),
+        3 => FilterNumber::Known(Filter::WithoutParentChecks),
+        _ => FilterNumber::Unknown,
+    }
+}
+
+// 0 and 1 are sides.
+pub fn side_of(number: u32) -> SideNumber
+    ensures { λ r. ⌜ r ≡ sideNumbered number ⌝ }
+{
+    match number {
+        0 => SideNumber::Known(Side::Following),
+        1 => SideNumber::Known(Side::Preceding),
+        _ => SideNumber::Unknown,
+    }
+}
+
+// What a question with a number that is none of ours answers: 1 where the state is not sound, else 2.
+pub fn unknown(state: &State) -> u8
+    ensures { λ r. ⌜ r ≡ unknownNumber (view (now (state .entry)) .forest) ⌝ }
+{
+    if state_sound::sound(state) { 2 } else { 1 }
+}
+
+pub fn filter_result(a: FilterAnswer) -> PlainResult
+    ensures { λ r. ⌜ r ≡ plainResult a ⌝ }
+{
+    match a {
+        FilterAnswer::Refused(n) => PlainResult {
+            result: 0,
+            number: n as u32,
+        },
+        FilterAnswer::Result(r) => PlainResult {
+            result: result_number(r),
+            number: 0,
+        },
+    }
+}
+
+fn result_number(r: FilterResult) -> u32
+    ensures { λ n. ⌜ n ≡ resultNumber r ⌝ }
+{
+    match r {
+        FilterResult::Include => 0,
+        FilterResult::ExcludeNode => 1,
+        FilterResult::ExcludeSubtree => 2,
     }
 }
 
@@ -237,7 +318,7 @@ pub fn counts(a: CountsAnswer) -> PlainCounts
     PlainCounts {
         nodes: a.nodes,
         trees: a.trees,
-        host_focused: flag(1, a.host_focused) as u32,
+        host_focused: weighed(1, a.host_focused) as u32,
         number: a.number as u32,
     }
 }
@@ -253,8 +334,8 @@ pub fn node(a: NodeReading) -> PlainNode
     let transform = plain_affine(own_transform);
     let graft = plain_tree(own_graft);
     let active = plain_number(descendant);
-    let hidden = flag(1, a.hidden);
-    let clips = flag(2, a.clips_children);
+    let hidden = weighed(1, a.hidden);
+    let clips = weighed(2, a.clips_children);
     let rect = bounds.value;
     let affine = transform.value;
     let tree = graft.value;
@@ -358,7 +439,7 @@ fn plain_number(o: OptionalNode) -> NumberField
 }
 
 // The weight of a flag that is set, else 0.
-fn flag(weight: u8, set: bool) -> u8
+fn weighed(weight: u8, set: bool) -> u8
     ensures { λ r. ⌜ r ≡ (if set then weight else 0) ⌝ }
 {
     if set { weight } else { 0 }

@@ -1,10 +1,9 @@
 // Module 7: the three filters of src/filters.rs over the state in memory, in its order, and the question. A node that a function here is asked
 // about is named by its slot.
 ghost use mathlib.Core.Bool.{false};
-ghost use mathlib.Core.Path.{_≡_};
-ghost use Prim.Native.Nat.{_<_};
-ghost use Rattle.base.specs.Tests.{sameOption};
 ghost use mathlib.Core.Option.{some};
+ghost use mathlib.Core.Path.{_≡_};
+ghost use Rattle.base.specs.Tests.{sameOption};
 ghost use Rattle.ids.specs.Ids.{sameId};
 ghost use Rattle.state.specs.Down.{rootOf};
 ghost use Rattle.state_array.specs.View.{idIn, view};
@@ -127,7 +126,7 @@ fn common_filter_up(state: &State, focused: usize, i: usize) -> FilterResult
     requires { ⌜ Unhidden (now state) focused i ⌝ }
     ensures { λ r. ⌜ r ≡ commonFilter (view (now (state .entry))) (idIn (now (state .entry)) i) ⌝ }
 {
-    if i == focused {
+    if focused == i {
         return FilterResult::Include;
     }
     if filters_plain::is_transparent(state, i) {

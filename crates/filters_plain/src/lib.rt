@@ -1,14 +1,11 @@
 // Module 7 over the state in memory, a node by its slot: what `common_filter` asks of a node, of its ancestors and of its neighbours. The slot
 // of the focused node is worked out once for a question and handed on.
 ghost use mathlib.Core.Bool.{false};
-ghost use mathlib.Core.List.{head?, flatMap};
+ghost use mathlib.Core.List.{head?};
 ghost use mathlib.Core.Path.{_≡_};
-ghost use Prim.Native.Nat.{_<_};
-ghost use Rattle.state_array.specs.View.{slotsOf, idIn, view};
-ghost use Rattle.questions.specs.Ahead.{ahead};
+ghost use Rattle.state_array.specs.View.{view};
 ghost use Rattle.questions.specs.Filters.{activeDescendantAt, isTransparent, withoutParentChecks};
 ghost use Rattle.questions.specs.Links.{isHidden};
-ghost use Rattle.questions.specs.Walks.{shown};
 ghost use Rattle.node_links.specs.Slots.{Sound, slotId, OfSlot};
 ghost use Rattle.iterators_steps.specs.Places.{metFrom};
 ghost use Rattle.filters_plain.specs.Plain.{Focused, ownFilter, Above, Lists, unlisted, shownAhead, isInclude};

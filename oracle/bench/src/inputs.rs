@@ -43,11 +43,11 @@ impl Node {
     }
 
     /// As the proved library's builder has it.
-    fn listed(&self) -> cartgravel::Node {
+    fn listed(&self) -> cartgravel::Node<'_> {
         let node = cartgravel::Node::new(self.id)
             .role(ROLE)
             .label(self.label)
-            .children(self.children.iter().copied())
+            .children(&self.children[..])
             .bounds(BOUNDS)
             .transform(TRANSFORM);
         match self.graft {
@@ -90,10 +90,11 @@ impl Batch {
     /// The record.
     pub fn record(&self) -> Vec<u8> {
         let (high, low) = self.tree;
-        let batch = cartgravel::Batch::new(cartgravel::TreeId { high, low }, self.focus);
-        let batch = batch.nodes(self.nodes.iter().map(Node::listed));
+        let nodes: Vec<_> = self.nodes.iter().map(Node::listed).collect();
+        let batch = cartgravel::Batch::new(cartgravel::TreeId { high, low }, self.focus).nodes(&nodes);
         let batch = self.root.iter().fold(batch, |batch, root| batch.root(*root));
-        batch.encode().expect("a record holds every batch here")
+        let mut buffer = [0; cartgravel::RECORD_BYTES];
+        batch.encode(&mut buffer).expect("a record holds every batch here").to_vec()
     }
 
     /// The structs.

@@ -1,137 +1,88 @@
-//! Makes batches: document 01, "The batch record".
-use crate::ids::{NodeId, TreeId};
-use crate::{CHILD_ENTRIES, LABEL_BYTES, LISTED_NODES};
-use std::error::Error;
-use std::fmt;
+//! Batches: what a tree's owner sends. src/record.rs turns one into bytes, and bytes into one.
+use crate::record::Parts;
+use crate::{Affine, CHILD_ENTRIES, LABEL_BYTES, LISTED_NODES, NodeData, NodeId, Rect, Role, TreeId};
+use core::error::Error;
+use core::iter::FusedIterator;
+use core::{fmt, slice};
 
-/// The bytes of a record's header, and of a node in it.
-const HEADER: usize = 64;
-const NODE_RECORD: usize = 128;
-
-/// A node's role. The filters know those that are named here; any other is an ordinary one.
-#[derive(Clone, Copy, Debug, PartialEq, Eq, Hash)]
-pub struct Role(pub u8);
-
-impl Role {
-    /// A container that stands for nothing.
-    pub const GENERIC_CONTAINER: Self = Self(0);
-    /// A part of a text.
-    pub const TEXT_RUN: Self = Self(1);
-    /// A dialog.
-    pub const DIALOG: Self = Self(2);
-    /// A dialog that calls for attention.
-    pub const ALERT_DIALOG: Self = Self(3);
-}
-
-impl From<u8> for Role {
-    fn from(number: u8) -> Self {
-        Self(number)
-    }
-}
-
-/// A node that a batch lists.
-#[derive(Clone, Debug, PartialEq)]
+/// A node that a batch lists. It borrows its label and its children.
+#[derive(Clone, Debug, Default, PartialEq)]
 #[must_use]
-pub struct Node {
-    id: NodeId,
-    role: Role,
-    label: Vec<u8>,
-    children: Vec<NodeId>,
-    hidden: bool,
-    clips_children: bool,
-    active_descendant: Option<NodeId>,
-    graft: Option<TreeId>,
-    bounds: Option<[f64; 4]>,
-    transform: Option<[f64; 6]>,
+pub struct Node<'a> {
+    /// Its number.
+    pub id: NodeId,
+    /// What it says of itself.
+    pub data: NodeData,
+    /// Its label: any bytes, at most [`LABEL_BYTES`].
+    pub label: &'a [u8],
+    /// Its children, in order.
+    pub children: Children<'a>,
 }
 
-impl Node {
+impl<'a> Node<'a> {
     /// A node with this number: a generic container without anything else.
     pub fn new(id: impl Into<NodeId>) -> Self {
-        Self {
-            id: id.into(),
-            role: Role::GENERIC_CONTAINER,
-            label: Vec::new(),
-            children: Vec::new(),
-            hidden: false,
-            clips_children: false,
-            active_descendant: None,
-            graft: None,
-            bounds: None,
-            transform: None,
-        }
+        Self { id: id.into(), ..Self::default() }
+    }
+
+    /// With all of this instead of what it said of itself.
+    pub fn data(mut self, data: NodeData) -> Self {
+        self.data = data;
+        self
     }
 
     /// With this role.
     pub fn role(mut self, role: impl Into<Role>) -> Self {
-        self.role = role.into();
+        self.data.role = role.into();
         self
     }
 
     /// With this label: any bytes, at most [`LABEL_BYTES`].
-    pub fn label(mut self, label: impl AsRef<[u8]>) -> Self {
-        self.label = label.as_ref().to_vec();
+    pub fn label<L: AsRef<[u8]> + ?Sized>(mut self, label: &'a L) -> Self {
+        self.label = label.as_ref();
         self
     }
 
     /// With these children, in order.
-    pub fn children<C: Into<NodeId>>(mut self, children: impl IntoIterator<Item = C>) -> Self {
-        self.children = children.into_iter().map(C::into).collect();
+    pub fn children(mut self, children: impl Into<Children<'a>>) -> Self {
+        self.children = children.into();
         self
     }
 
-    /// Hidden.
-    pub fn hidden(mut self) -> Self {
-        self.hidden = true;
+    /// Hidden, and all below it; or not.
+    pub fn hidden(mut self, hidden: bool) -> Self {
+        self.data.hidden = hidden;
         self
     }
 
-    /// Clips its children.
-    pub fn clips_children(mut self) -> Self {
-        self.clips_children = true;
+    /// Clipping its children, or not.
+    pub fn clips_children(mut self, clips_children: bool) -> Self {
+        self.data.clips_children = clips_children;
         self
     }
 
-    /// Passes the focus on to this node of its tree.
+    /// Passing the focus on to this node of its tree.
     pub fn active_descendant(mut self, id: impl Into<NodeId>) -> Self {
-        self.active_descendant = Some(id.into());
+        self.data.active_descendant = Some(id.into());
         self
     }
 
-    /// Holds another tree in its place.
+    /// Holding another tree in its place.
     pub fn graft(mut self, tree: impl Into<TreeId>) -> Self {
-        self.graft = Some(tree.into());
+        self.data.graft = Some(tree.into());
         self
     }
 
-    /// With these bounds: the corner with the least coordinates, then the one with the greatest.
-    pub fn bounds(mut self, bounds: [f64; 4]) -> Self {
-        self.bounds = Some(bounds);
+    /// With these bounds.
+    pub fn bounds(mut self, bounds: impl Into<Rect>) -> Self {
+        self.data.bounds = Some(bounds.into());
         self
     }
 
-    /// With this transform: (a b c d e f) sends x to a·x + c·y + e and y to b·x + d·y + f.
-    pub fn transform(mut self, transform: [f64; 6]) -> Self {
-        self.transform = Some(transform);
+    /// With this transform.
+    pub fn transform(mut self, transform: impl Into<Affine>) -> Self {
+        self.data.transform = Some(transform.into());
         self
-    }
-
-    /// The flags byte of its record.
-    fn flags(&self) -> u8 {
-        let flags = [
-            self.hidden,
-            self.clips_children,
-            self.active_descendant.is_some(),
-            self.graft.is_some(),
-            self.bounds.is_some(),
-            self.transform.is_some(),
-        ];
-        flags.iter().rev().fold(0, |bits, flag| 2 * bits + u8::from(*flag))
-    }
-
-    /// Its floats, where it has none zeros.
-    fn floats(&self) -> impl Iterator<Item = f64> {
-        self.bounds.unwrap_or_default().into_iter().chain(self.transform.unwrap_or_default())
     }
 
     /// Whether a record can hold it.
@@ -139,53 +90,133 @@ impl Node {
         if self.label.len() > LABEL_BYTES {
             return Err(EncodeError::LabelTooLong { node: self.id, bytes: self.label.len() });
         }
-        if !self.floats().all(f64::is_finite) {
+        if !self.data.floats().all(f64::is_finite) {
             return Err(EncodeError::NotFinite { node: self.id });
         }
         Ok(())
     }
+}
 
-    /// Writes its record; its children and its label start at these places of their parts.
-    fn write(&self, record: &mut Vec<u8>, first_child: usize, label_start: usize) {
-        put(record, self.id.0);
-        put(record, self.active_descendant.map_or(0, |id| id.0));
-        put_tree(record, self.graft.unwrap_or(TreeId::ROOT));
-        for place in [first_child, self.children.len(), label_start, self.label.len()] {
-            put_short(record, place);
+/// The children that a [`Node`] names, as an iterator: `&[2, 3]`, `&[NodeId(2), NodeId(3)]`, or those of a record.
+#[derive(Clone)]
+pub struct Children<'a>(Entries<'a>);
+
+/// Where the numbers stand.
+#[derive(Clone)]
+enum Entries<'a> {
+    Numbers(slice::Iter<'a, u64>),
+    Ids(slice::Iter<'a, NodeId>),
+    Record(slice::Iter<'a, [u8; 8]>),
+}
+
+impl<'a> Children<'a> {
+    /// The child entries of a record.
+    pub(crate) fn of_record(entries: &'a [[u8; 8]]) -> Self {
+        Self(Entries::Record(entries.iter()))
+    }
+}
+
+impl Iterator for Children<'_> {
+    type Item = NodeId;
+
+    fn next(&mut self) -> Option<NodeId> {
+        match &mut self.0 {
+            Entries::Numbers(numbers) => numbers.next().copied().map(NodeId),
+            Entries::Ids(ids) => ids.next().copied(),
+            Entries::Record(entries) => entries.next().copied().map(u64::from_le_bytes).map(NodeId),
         }
-        record.extend([self.role.0, self.flags(), 0, 0, 0, 0, 0, 0]);
-        for float in self.floats() {
-            put(record, float.to_bits());
+    }
+
+    fn size_hint(&self) -> (usize, Option<usize>) {
+        match &self.0 {
+            Entries::Numbers(numbers) => numbers.size_hint(),
+            Entries::Ids(ids) => ids.size_hint(),
+            Entries::Record(entries) => entries.size_hint(),
         }
     }
 }
 
-/// A batch in the making.
-///
-/// ```
-/// use cartgravel::{Batch, Node, TreeId};
-///
-/// let record = Batch::new(TreeId::ROOT, 2)
-///     .root(1)
-///     .node(Node::new(1).role(4).children([2]))
-///     .node(Node::new(2).role(4).label("Pay").bounds([0.0, 0.0, 80.0, 24.0]))
-///     .encode()?;
-/// assert_eq!(record.len(), 64 + 2 * 128 + 8 + 3);
-/// # Ok::<(), cartgravel::EncodeError>(())
-/// ```
-#[derive(Clone, Debug, PartialEq)]
-#[must_use]
-pub struct Batch {
-    tree: TreeId,
-    focus: NodeId,
-    root: Option<NodeId>,
-    nodes: Vec<Node>,
+impl ExactSizeIterator for Children<'_> {}
+
+impl FusedIterator for Children<'_> {}
+
+impl Default for Children<'_> {
+    fn default() -> Self {
+        Self(Entries::Ids([].iter()))
+    }
 }
 
-impl Batch {
+impl<'a> From<&'a [u64]> for Children<'a> {
+    fn from(numbers: &'a [u64]) -> Self {
+        Self(Entries::Numbers(numbers.iter()))
+    }
+}
+
+impl<'a, const N: usize> From<&'a [u64; N]> for Children<'a> {
+    fn from(numbers: &'a [u64; N]) -> Self {
+        Self(Entries::Numbers(numbers.iter()))
+    }
+}
+
+impl<'a> From<&'a [NodeId]> for Children<'a> {
+    fn from(ids: &'a [NodeId]) -> Self {
+        Self(Entries::Ids(ids.iter()))
+    }
+}
+
+impl<'a, const N: usize> From<&'a [NodeId; N]> for Children<'a> {
+    fn from(ids: &'a [NodeId; N]) -> Self {
+        Self(Entries::Ids(ids.iter()))
+    }
+}
+
+impl PartialEq for Children<'_> {
+    fn eq(&self, other: &Self) -> bool {
+        self.clone().eq(other.clone())
+    }
+}
+
+impl fmt::Debug for Children<'_> {
+    fn fmt(&self, f: &mut fmt::Formatter<'_>) -> fmt::Result {
+        f.debug_list().entries(self.clone()).finish()
+    }
+}
+
+/// A batch: to be made and encoded, or decoded from a record. It borrows its nodes.
+///
+/// ```
+/// use cartgravel::{Batch, Node, RECORD_BYTES, TreeId};
+///
+/// let nodes = [
+///     Node::new(1).role(4).children(&[2]),
+///     Node::new(2).role(4).label("Pay").bounds([0.0, 0.0, 80.0, 24.0]),
+/// ];
+/// let batch = Batch::new(TreeId::ROOT, 2).root(1).nodes(&nodes);
+/// let mut buffer = [0; RECORD_BYTES];
+/// let record = batch.encode(&mut buffer)?;
+/// assert_eq!(record.len(), 64 + 2 * 128 + 8 + 3);
+///
+/// let again = Batch::decode(record)?;
+/// assert_eq!(again, batch);
+/// assert!(again.listed().map(|node| node.label).eq([&b""[..], b"Pay"]));
+/// # Ok::<(), Box<dyn std::error::Error>>(())
+/// ```
+#[derive(Clone, Debug, Default, PartialEq)]
+#[must_use]
+pub struct Batch<'a> {
+    /// The tree that it is for.
+    pub tree: TreeId,
+    /// The tree's focus.
+    pub focus: NodeId,
+    /// The tree's root, where the batch has tree data.
+    pub root: Option<NodeId>,
+    pub(crate) nodes: ListedNodes<'a>,
+}
+
+impl<'a> Batch<'a> {
     /// A batch for this tree with this focus. It lists nothing and has no tree data.
     pub fn new(tree: impl Into<TreeId>, focus: impl Into<NodeId>) -> Self {
-        Self { tree: tree.into(), focus: focus.into(), root: None, nodes: Vec::new() }
+        Self { tree: tree.into(), focus: focus.into(), ..Self::default() }
     }
 
     /// With tree data: the tree's root.
@@ -194,87 +225,99 @@ impl Batch {
         self
     }
 
-    /// With a node more.
-    pub fn node(mut self, node: Node) -> Self {
-        self.nodes.push(node);
+    /// With these nodes, at most [`LISTED_NODES`].
+    pub fn nodes(mut self, nodes: &'a [Node<'a>]) -> Self {
+        self.nodes = ListedNodes(Source::Given(nodes.iter()));
         self
     }
 
-    /// With these nodes more.
-    pub fn nodes(mut self, nodes: impl IntoIterator<Item = Node>) -> Self {
-        self.nodes.extend(nodes);
-        self
+    /// The nodes that it lists, in order.
+    pub fn listed(&self) -> ListedNodes<'a> {
+        self.nodes.clone()
     }
 
-    /// The batch's record.
-    ///
-    /// # Errors
-    ///
-    /// The limit of a record that the batch breaks. Whether a state accepts the record is for the call to say.
-    pub fn encode(&self) -> Result<Vec<u8>, EncodeError> {
-        let entries = self.nodes.iter().map(|node| node.children.len()).sum();
-        self.check(entries)?;
-        let labels = self.nodes.iter().map(|node| node.label.len()).sum();
-        let mut record = self.header(entries, labels);
-        let (mut first_child, mut label_start) = (0, 0);
-        for node in &self.nodes {
-            node.write(&mut record, first_child, label_start);
-            first_child += node.children.len();
-            label_start += node.label.len();
-        }
-        self.nodes.iter().flat_map(|node| &node.children).for_each(|child| put(&mut record, child.0));
-        self.nodes.iter().for_each(|node| record.extend(&node.label));
-        Ok(record)
+    /// How many children its nodes name.
+    pub(crate) fn entries(&self) -> usize {
+        self.listed().fold(0, |sum, node| sum.saturating_add(node.children.len()))
     }
 
-    /// Whether a record can hold it, with that many child entries.
-    fn check(&self, entries: usize) -> Result<(), EncodeError> {
-        if self.nodes.len() > LISTED_NODES {
-            return Err(EncodeError::TooManyNodes { nodes: self.nodes.len() });
+    /// How many bytes its labels have.
+    pub(crate) fn label_bytes(&self) -> usize {
+        self.listed().fold(0, |sum, node| sum.saturating_add(node.label.len()))
+    }
+
+    /// Whether a record can hold it.
+    pub(crate) fn check(&self) -> Result<(), EncodeError> {
+        let (nodes, entries) = (self.nodes.len(), self.entries());
+        if nodes > LISTED_NODES {
+            return Err(EncodeError::TooManyNodes { nodes });
         }
         if entries > CHILD_ENTRIES {
             return Err(EncodeError::TooManyChildren { entries });
         }
-        self.nodes.iter().try_for_each(Node::check)
-    }
-
-    /// The record's header, with room for the parts.
-    fn header(&self, entries: usize, labels: usize) -> Vec<u8> {
-        let children_at = HEADER + NODE_RECORD * self.nodes.len();
-        let labels_at = children_at + 8 * entries;
-        let total = labels_at + labels;
-        let mut record = Vec::with_capacity(total);
-        for count in [self.nodes.len(), entries, labels, usize::from(self.root.is_some())] {
-            put_short(&mut record, count);
-        }
-        for offset in [HEADER, children_at, labels_at, total] {
-            record.extend((offset as u32).to_le_bytes());
-        }
-        put_tree(&mut record, self.tree);
-        put(&mut record, self.root.map_or(0, |id| id.0));
-        put(&mut record, self.focus.0);
-        put(&mut record, 0);
-        record
+        self.listed().try_for_each(|node| node.check())
     }
 }
 
-/// A number of eight bytes.
-fn put(record: &mut Vec<u8>, word: u64) {
-    record.extend(word.to_le_bytes());
+/// The nodes that a [`Batch`] lists, as an iterator.
+#[derive(Clone)]
+pub struct ListedNodes<'a>(Source<'a>);
+
+/// Where the nodes stand.
+#[derive(Clone)]
+enum Source<'a> {
+    Given(slice::Iter<'a, Node<'a>>),
+    Record(Parts<'a>),
 }
 
-/// A tree id, high then low.
-fn put_tree(record: &mut Vec<u8>, tree: TreeId) {
-    put(record, tree.high);
-    put(record, tree.low);
+impl<'a> ListedNodes<'a> {
+    /// The nodes of a record.
+    pub(crate) fn of_record(parts: Parts<'a>) -> Self {
+        Self(Source::Record(parts))
+    }
 }
 
-/// A number of two bytes. The limits keep each below 2,049.
-fn put_short(record: &mut Vec<u8>, number: usize) {
-    record.extend((number as u16).to_le_bytes());
+impl<'a> Iterator for ListedNodes<'a> {
+    type Item = Node<'a>;
+
+    fn next(&mut self) -> Option<Node<'a>> {
+        match &mut self.0 {
+            Source::Given(nodes) => nodes.next().cloned(),
+            Source::Record(parts) => parts.next_node(),
+        }
+    }
+
+    fn size_hint(&self) -> (usize, Option<usize>) {
+        match &self.0 {
+            Source::Given(nodes) => nodes.size_hint(),
+            Source::Record(parts) => parts.nodes.size_hint(),
+        }
+    }
 }
 
-/// Why a batch has no record. The limit of 2,048 label bytes has no case of its own: 64 nodes with 32 bytes each
+impl ExactSizeIterator for ListedNodes<'_> {}
+
+impl FusedIterator for ListedNodes<'_> {}
+
+impl Default for ListedNodes<'_> {
+    fn default() -> Self {
+        Self(Source::Given([].iter()))
+    }
+}
+
+impl PartialEq for ListedNodes<'_> {
+    fn eq(&self, other: &Self) -> bool {
+        self.clone().eq(other.clone())
+    }
+}
+
+impl fmt::Debug for ListedNodes<'_> {
+    fn fmt(&self, f: &mut fmt::Formatter<'_>) -> fmt::Result {
+        f.debug_list().entries(self.clone()).finish()
+    }
+}
+
+/// Why a batch was not encoded. The limit of 2,048 label bytes has no case of its own: 64 nodes with 32 bytes each
 /// keep it.
 #[derive(Clone, Copy, Debug, PartialEq, Eq)]
 #[non_exhaustive]
@@ -301,6 +344,11 @@ pub enum EncodeError {
         /// The node that has it.
         node: NodeId,
     },
+    /// The lent buffer is too short; one of [`RECORD_BYTES`](crate::RECORD_BYTES) never is.
+    BufferTooShort {
+        /// How many bytes the record has.
+        bytes: usize,
+    },
 }
 
 impl fmt::Display for EncodeError {
@@ -311,9 +359,10 @@ impl fmt::Display for EncodeError {
                 write!(f, "{entries} children named, of at most {CHILD_ENTRIES}")
             }
             Self::LabelTooLong { node, bytes } => {
-                write!(f, "node {} has a label of {bytes} bytes, of at most {LABEL_BYTES}", node.0)
+                write!(f, "node {node} has a label of {bytes} bytes, of at most {LABEL_BYTES}")
             }
-            Self::NotFinite { node } => write!(f, "node {} has a float that is not finite", node.0),
+            Self::NotFinite { node } => write!(f, "node {node} has a float that is not finite"),
+            Self::BufferTooShort { bytes } => write!(f, "a record of {bytes} bytes in a shorter buffer"),
         }
     }
 }

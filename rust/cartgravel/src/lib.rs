@@ -1,63 +1,90 @@
 //! The accessibility tree of a payment terminal: safe types over Cartgravel's proved library.
 //!
 //! A shop draws a screen, a bank draws a payment pane inside it, and both send batches of nodes. A [`State`] is
-//! what they add up to. Each call answers what changed, a [`Report`], or why it refused, a [`Number`]. Nothing
-//! here panics, whatever the bytes: the library is proved to answer every batch on every state.
+//! what they add up to. Each call answers what changed, a [`Report`], or why it refused, a [`Number`]. Then the state
+//! is asked: what has the focus, what it is called, what a cardholder can reach from there, each a [`NodeRef`].
+//! Nothing here panics, whatever the bytes: the library is proved to answer every batch and every question on every
+//! state. Nothing allocates, and the crate needs no `std`.
 //!
 //! ```
-//! use cartgravel::{Batch, CHANGES, FullNodeId, Node, State, TreeId};
+//! use cartgravel::{Batch, CHANGES, Filter, Node, RECORD_BYTES, Role, Side, State, TreeId};
 //!
-//! // A screen with two buttons. The second makes room for the bank's pane.
+//! const BUTTON: Role = Role(4);
+//! let mut buffer = [0; RECORD_BYTES];
+//!
+//! // A screen with a button and with room for the bank's pane.
 //! let screen = Batch::new(TreeId::ROOT, 2)
 //!     .root(1)
-//!     .node(Node::new(1).role(4).children([2, 3]))
-//!     .node(Node::new(2).role(4).label("Pay"))
-//!     .node(Node::new(3).role(4))
-//!     .encode()?;
-//! let (mut state, report) = State::start(&screen, true)?;
-//! assert_eq!(report.focus_after(), Some(FullNodeId::new(0, 2)));
+//!     .nodes(&[
+//!         Node::new(1).role(Role::DIALOG).children(&[2, 3]),
+//!         Node::new(2).role(BUTTON).label("Cancel"),
+//!         Node::new(3).graft(7),
+//!     ])
+//!     .encode(&mut buffer)?;
+//! let (mut state, _) = State::start(screen, true)?;
+//! assert_eq!(state.focus()?.unwrap().label(), "Cancel");
 //!
-//! let bank = TreeId { high: 0, low: 7 };
+//! // The pane, whose button follows the shop's.
+//! let pane = Batch::new(7, 1).root(1).nodes(&[Node::new(1).role(BUTTON).label("Pay")]).encode(&mut buffer)?;
 //! let mut changes = [0; CHANGES];
-//! let graft = Batch::new(TreeId::ROOT, 2).node(Node::new(3).role(4).graft(bank)).encode()?;
-//! let report = state.update(&graft, &mut changes)?;
-//! assert!(report.updated().eq([FullNodeId::new(0, 3)]));
+//! let report = state.update(pane, &mut changes)?;
+//! assert_eq!(report.added().len(), 1);
 //!
-//! let pane = Batch::new(bank, 1).root(1).node(Node::new(1).role(4)).encode()?;
-//! let report = state.update(&pane, &mut changes)?;
-//! assert!(report.added().eq([FullNodeId::new(1, 1)]));
+//! // What a cardholder can reach, and the way there from the focus.
+//! let items = state.root()?.filtered_children(Filter::Common);
+//! assert!(items.map(|item| item.label().to_string()).eq(["Cancel", "Pay"]));
+//! let mut walk = state.focus()?.unwrap().walk(Side::Following, Some(Filter::Common));
+//! let next = walk.next(&state)?.unwrap();
+//! assert_eq!(state.node(next)?.label(), "Pay");
+//! assert_eq!(walk.next(&state)?, None);
 //! # Ok::<(), Box<dyn std::error::Error>>(())
 //! ```
 //!
 //! A batch that breaks a rule is refused, and the state is as it was:
 //!
 //! ```
-//! use cartgravel::{Batch, Node, Number, State, TreeId};
+//! use cartgravel::{Batch, Node, Number, RECORD_BYTES, State, TreeId};
 //!
-//! let screen = Batch::new(TreeId::ROOT, 1).root(1).node(Node::new(1)).encode()?;
-//! let (mut state, _) = State::start(&screen, true)?;
+//! let mut buffer = [0; RECORD_BYTES];
+//! let screen = Batch::new(TreeId::ROOT, 1).root(1).nodes(&[Node::new(1)]).encode(&mut buffer)?;
+//! let (mut state, _) = State::start(screen, true)?;
 //! let before = state.clone();
 //!
-//! let twice = Batch::new(TreeId::ROOT, 1).node(Node::new(1).children([2, 2])).encode()?;
-//! assert_eq!(state.update(&twice, &mut []).unwrap_err(), Number::ChildNamedTwice);
+//! let twice = Batch::new(TreeId::ROOT, 1).nodes(&[Node::new(1).children(&[2, 2])]).encode(&mut buffer)?;
+//! assert_eq!(state.update(twice, &mut []).unwrap_err(), Number::ChildNamedTwice);
 //! assert_eq!(state, before);
 //! # Ok::<(), Box<dyn std::error::Error>>(())
 //! ```
+#![no_std]
 #![deny(unsafe_code)]
+#![deny(clippy::indexing_slicing, clippy::unwrap_used, clippy::expect_used, clippy::panic)]
 #![warn(missing_docs)]
 
 mod batch;
+mod data;
+mod filters;
+mod geometry;
 mod ids;
+mod iterators;
+mod label;
+mod node;
 mod number;
+mod record;
 mod report;
 mod state;
 pub mod sys;
 
-pub use batch::{Batch, EncodeError, Node, Role};
-pub use ids::{FullNodeId, NodeId, TreeId, TreeIndex};
+pub use batch::{Batch, Children, EncodeError, ListedNodes, Node};
+pub use data::{NodeData, Role};
+pub use filters::{Filter, FilterResult};
+pub use geometry::{Affine, BoundingBox, Rect};
+pub use ids::{FullNodeId, NoSuchId, NodeId, TreeId, TreeIndex};
+pub use iterators::{NodeIds, NodeRefs, Side, Walk};
+pub use label::Label;
+pub use node::NodeRef;
 pub use number::{NoSuchNumber, Number};
 pub use report::{Ids, Report};
-pub use state::State;
+pub use state::{Counts, State, TreeEnds, WrongLength};
 
 /// The most nodes that a state holds.
 pub const NODES: usize = 256;

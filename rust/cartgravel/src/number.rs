@@ -1,6 +1,6 @@
 //! The numbers with which a call refuses: document 01, "Numbers a call can return".
-use std::error::Error;
-use std::fmt;
+use core::error::Error;
+use core::fmt;
 
 /// Declares the numbers once: a name, the number, and its row's words.
 macro_rules! numbers {
@@ -47,15 +47,16 @@ numbers! {
     OutcomeNotSound = 19, "the links or trees of the outcome are not sound";
     TooManyNodes = 20, "more than 256 nodes in the outcome";
     ListTooShort = 21, "a lent list too short for what it should hold";
+    NodeAbsent = 22, "the node asked about is not in the state";
 }
 
-/// Whether the library accepted: 0, or why not. It is proved to answer 0 to 21; any other number, of a library that is
+/// Whether the library accepted: 0, or why not. It is proved to answer 0 to 22; any other number, of a library that is
 /// not the proved one, is taken for a state that cannot be trusted.
 pub(crate) fn accepted(number: u32) -> Result<(), Number> {
     if number == 0 {
         return Ok(());
     }
-    Err(Number::ALL.iter().copied().find(|n| *n as u32 == number).unwrap_or(Number::StateNotSound))
+    Err(Number::try_from(number).unwrap_or(Number::StateNotSound))
 }
 
 impl fmt::Display for Number {
@@ -72,18 +73,24 @@ impl From<Number> for u8 {
     }
 }
 
-impl TryFrom<u8> for Number {
+impl From<Number> for u32 {
+    fn from(number: Number) -> Self {
+        number as u32
+    }
+}
+
+impl TryFrom<u32> for Number {
     type Error = NoSuchNumber;
 
     /// The number of that value. 0, which accepts, is none.
-    fn try_from(value: u8) -> Result<Self, NoSuchNumber> {
-        Number::ALL.iter().copied().find(|n| *n as u8 == value).ok_or(NoSuchNumber(value))
+    fn try_from(value: u32) -> Result<Self, NoSuchNumber> {
+        Number::ALL.iter().copied().find(|n| *n as u32 == value).ok_or(NoSuchNumber(value))
     }
 }
 
 /// A value with which no call refuses.
 #[derive(Clone, Copy, Debug, PartialEq, Eq)]
-pub struct NoSuchNumber(pub u8);
+pub struct NoSuchNumber(pub u32);
 
 impl fmt::Display for NoSuchNumber {
     fn fmt(&self, f: &mut fmt::Formatter<'_>) -> fmt::Result {

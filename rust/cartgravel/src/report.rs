@@ -1,8 +1,7 @@
 //! What a call answers beside its number: document 01, "Change lists".
-use crate::ids::FullNodeId;
-use crate::sys;
-use std::fmt;
-use std::iter::FusedIterator;
+use crate::{FullNodeId, NodeId, TreeIndex, sys};
+use core::fmt;
+use core::iter::FusedIterator;
 
 /// What an accepted call changed. A start and a host focus change list nothing.
 ///
@@ -85,13 +84,13 @@ impl<'a> Report<'a> {
 
 /// The first n ids, and the rest. The library is proved to answer lengths that fit in the lent slice.
 fn split(ids: &[[u64; 2]], n: usize) -> (Ids<'_>, &[[u64; 2]]) {
-    let (list, rest) = ids.split_at(n.min(ids.len()));
+    let (list, rest) = ids.split_at_checked(n).unwrap_or((ids, &[]));
     (Ids(list), rest)
 }
 
 /// The library's id, if it is one.
-fn present(id: sys::OptionalId) -> Option<FullNodeId> {
-    (id.present != 0).then(|| FullNodeId::new(id.tree, id.node))
+pub(crate) fn present(id: sys::OptionalId) -> Option<FullNodeId> {
+    (id.present != 0).then_some(FullNodeId::new(TreeIndex(id.tree), NodeId(id.node)))
 }
 
 /// One of the lists of a [`Report`], as an iterator whose length is known.
@@ -99,8 +98,8 @@ fn present(id: sys::OptionalId) -> Option<FullNodeId> {
 pub struct Ids<'a>(&'a [[u64; 2]]);
 
 /// The id that two elements say. A tree number is below 32.
-fn id(pair: &[u64; 2]) -> FullNodeId {
-    FullNodeId::new(pair[0] as u32, pair[1])
+pub(crate) fn full_id(&[tree, node]: &[u64; 2]) -> FullNodeId {
+    FullNodeId::new(TreeIndex(tree as u32), NodeId(node))
 }
 
 impl Iterator for Ids<'_> {
@@ -109,7 +108,7 @@ impl Iterator for Ids<'_> {
     fn next(&mut self) -> Option<FullNodeId> {
         let (first, rest) = self.0.split_first()?;
         self.0 = rest;
-        Some(id(first))
+        Some(full_id(first))
     }
 
     fn size_hint(&self) -> (usize, Option<usize>) {
@@ -121,7 +120,7 @@ impl DoubleEndedIterator for Ids<'_> {
     fn next_back(&mut self) -> Option<FullNodeId> {
         let (last, rest) = self.0.split_last()?;
         self.0 = rest;
-        Some(id(last))
+        Some(full_id(last))
     }
 }
 

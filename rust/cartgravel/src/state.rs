@@ -1,8 +1,10 @@
-//! The state and its calls: document 01, "The update".
+//! The state, its calls and the questions about it as a whole: document 01, "The update".
+use crate::node::NodeRef;
 use crate::number::{Number, accepted};
-use crate::report::Report;
-use crate::{STATE_BYTES, sys};
-use std::fmt;
+use crate::report::{Report, present};
+use crate::{FullNodeId, STATE_BYTES, TreeId, TreeIndex, sys};
+use core::error::Error;
+use core::fmt;
 
 /// The trees of a terminal's screen, at most [`NODES`](crate::NODES) nodes.
 ///
@@ -66,24 +68,24 @@ impl State {
         Ok(Report::new(&reply, &[]))
     }
 
-    /// How many nodes there are.
+    /// How many nodes its words count, sound or not; [`counts`](State::counts) asks the library.
     pub fn node_count(&self) -> usize {
-        self.count(0)
+        count(self.0.words[0])
     }
 
-    /// How many tree numbers are taken. They are kept for good.
+    /// How many tree numbers its words count as taken, sound or not. They are kept for good.
     pub fn tree_count(&self) -> usize {
-        self.count(1)
+        count(self.0.words[1])
     }
 
-    /// Whether the terminal itself has the focus.
+    /// Whether its words say that the terminal itself has the focus, sound or not.
     pub fn is_host_focused(&self) -> bool {
         self.0.words[2] != 0
     }
 
-    /// One of the counts that the words begin with.
-    fn count(&self, at: usize) -> usize {
-        usize::try_from(self.0.words[at]).unwrap_or(usize::MAX)
+    /// The library's own state.
+    pub(crate) fn raw(&self) -> &sys::State {
+        &self.0
     }
 
     /// The state of these bytes, as [`to_bytes`](State::to_bytes) gives them. Any bytes are a state; the calls
@@ -107,6 +109,128 @@ impl State {
         bytes
     }
 }
+
+/// A count that a word holds.
+fn count(word: u64) -> usize {
+    usize::try_from(word).unwrap_or(usize::MAX)
+}
+
+/// The root and the focus of a tree. The focus of a tree that is not now focused may be absent.
+#[derive(Clone, Copy, Debug, PartialEq, Eq, Hash)]
+pub struct TreeEnds {
+    /// Its root.
+    pub root: FullNodeId,
+    /// Its focus.
+    pub focus: FullNodeId,
+}
+
+/// How many nodes and trees a state has, and whether the terminal itself has the focus.
+#[derive(Clone, Copy, Debug, Default, PartialEq, Eq, Hash)]
+#[non_exhaustive]
+pub struct Counts {
+    /// How many nodes there are.
+    pub nodes: usize,
+    /// How many tree numbers are taken.
+    pub trees: usize,
+    /// Whether the terminal itself has the focus.
+    pub host_focused: bool,
+}
+
+/// The questions about the state as a whole. Each is refused with [`Number::StateNotSound`] alone.
+#[allow(clippy::missing_errors_doc)]
+impl State {
+    /// The node that has the focus: none while the host is not focused.
+    pub fn focus(&self) -> Result<Option<NodeRef<'_>>, Number> {
+        self.focus_id()?.map(|id| self.node(id)).transpose()
+    }
+
+    /// The id of the node that has the focus.
+    pub fn focus_id(&self) -> Result<Option<FullNodeId>, Number> {
+        let found = self.0.focus();
+        accepted(found.number)?;
+        Ok(present(found.id))
+    }
+
+    /// The root of [`TreeId::ROOT`].
+    pub fn root(&self) -> Result<NodeRef<'_>, Number> {
+        self.node(self.root_id()?)
+    }
+
+    /// The id of that root, which every sound state has.
+    pub fn root_id(&self) -> Result<FullNodeId, Number> {
+        let found = self.0.root();
+        accepted(found.number)?;
+        present(found.id).ok_or(Number::StateNotSound)
+    }
+
+    /// The tree id that has this number, if it is taken.
+    pub fn tree_id(&self, index: TreeIndex) -> Result<Option<TreeId>, Number> {
+        let found = self.0.tree_id(index.0);
+        accepted(found.number)?;
+        Ok((found.present != 0).then_some(found.id))
+    }
+
+    /// The number of a tree id, if it has one.
+    pub fn tree_index(&self, id: TreeId) -> Result<Option<TreeIndex>, Number> {
+        let found = self.0.tree_index(id);
+        accepted(found.number)?;
+        Ok((found.present != 0).then_some(TreeIndex(found.index)))
+    }
+
+    /// The root and the focus of a tree, if it exists.
+    pub fn tree_ends(&self, index: TreeIndex) -> Result<Option<TreeEnds>, Number> {
+        let found = self.0.tree_ends(index.0);
+        accepted(found.number)?;
+        Ok(present(found.root).zip(present(found.focus)).map(|(root, focus)| TreeEnds { root, focus }))
+    }
+
+    /// How many nodes and trees there are, and whether the terminal itself has the focus.
+    pub fn counts(&self) -> Result<Counts, Number> {
+        let found = self.0.counts();
+        accepted(found.number)?;
+        Ok(Counts { nodes: found.nodes, trees: found.trees, host_focused: found.host_focused != 0 })
+    }
+}
+
+/// The blank state.
+impl Default for State {
+    fn default() -> Self {
+        Self::blank()
+    }
+}
+
+impl From<&[u8; STATE_BYTES]> for State {
+    fn from(bytes: &[u8; STATE_BYTES]) -> Self {
+        Self::from_bytes(bytes)
+    }
+}
+
+impl From<&State> for [u8; STATE_BYTES] {
+    fn from(state: &State) -> Self {
+        state.to_bytes()
+    }
+}
+
+impl TryFrom<&[u8]> for State {
+    type Error = WrongLength;
+
+    /// As [`from_bytes`](State::from_bytes), of as many bytes as a state has.
+    fn try_from(bytes: &[u8]) -> Result<Self, WrongLength> {
+        bytes.try_into().map(Self::from_bytes).map_err(|_| WrongLength(bytes.len()))
+    }
+}
+
+/// Bytes that are more or fewer than a state's: how many there are.
+#[derive(Clone, Copy, Debug, PartialEq, Eq)]
+pub struct WrongLength(pub usize);
+
+impl fmt::Display for WrongLength {
+    fn fmt(&self, f: &mut fmt::Formatter<'_>) -> fmt::Result {
+        write!(f, "{} bytes, of a state's {STATE_BYTES}", self.0)
+    }
+}
+
+impl Error for WrongLength {}
 
 impl fmt::Debug for State {
     fn fmt(&self, f: &mut fmt::Formatter<'_>) -> fmt::Result {

@@ -2,8 +2,8 @@ use borrow.Author.Needs.{needs}
 use Rattle.cartgravel_plain.proofs.counts.Statement.{statement}
 use Rattle.cartgravel_plain.proofs.counts.Tie as tie
 
-flag-requires : tie.Need-flag-requires
-flag-requires c κs = search needs
+weighed-requires : tie.Need-weighed-requires
+weighed-requires c κs = search needs
 
 cast-t3 : tie.Need-cast-t3
 cast-t3 c = search needs
@@ -15,4 +15,4 @@ returns : tie.Need-returns
 returns c = cc
 
 pub counts-spec : {M : Type 1} → statement M
-counts-spec = tie.close (tie.spec flag-requires cast-t3 cast-t4 returns)
+counts-spec = tie.close (tie.spec weighed-requires cast-t3 cast-t4 returns)

@@ -14,11 +14,11 @@ plain-tree-requires c κs = search needs
 plain-number-requires : tie.Need-plain-number-requires
 plain-number-requires c κs = search needs
 
-flag-requires : tie.Need-flag-requires
-flag-requires c κs = search needs
+weighed-requires : tie.Need-weighed-requires
+weighed-requires c κs = search needs
 
-flag-requires-2 : tie.Need-flag-requires-2
-flag-requires-2 c κs = search needs
+weighed-requires-2 : tie.Need-weighed-requires-2
+weighed-requires-2 c κs = search needs
 
 cast-t15 : tie.Need-cast-t15
 cast-t15 c = search needs
@@ -70,8 +70,8 @@ node-spec =
     plain-affine-requires
     plain-tree-requires
     plain-number-requires
-    flag-requires
-    flag-requires-2
+    weighed-requires
+    weighed-requires-2
     cast-t15
     cast-t16
     cast-t17

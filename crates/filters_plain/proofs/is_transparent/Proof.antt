@@ -1,3 +1,4 @@
+-- `filters_plain::is_transparent` meets its contract: a bit of the flags, or one of two roles. Assumes nothing.
 use borrow.Author.Needs.{needs}
 use Rattle.filters_plain.proofs.Rows.{transparent-at}
 use Rattle.filters_plain.proofs.is_transparent.Statement.{statement}

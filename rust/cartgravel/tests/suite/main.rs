@@ -1,12 +1,21 @@
 //! The crate's tests. Expected answers are document 01's; crates/cases/stdout has the same reports.
 mod batch;
 mod cases;
+mod decode;
+mod filters;
 mod header;
+mod ids;
+mod links;
 mod misuse;
 mod number;
+mod refusals;
+mod speak;
 mod state;
+mod walks;
 
-use cartgravel::{Batch, CHANGES, FullNodeId, Ids, Node, Number, Report, State, TreeId};
+use cartgravel::{
+    Batch, CHANGES, FullNodeId, Ids, Node, NodeId, Number, RECORD_BYTES, Report, State, TreeId, TreeIndex,
+};
 
 /// A tree other than ROOT.
 const T: TreeId = TreeId { high: 84, low: 0 };
@@ -14,31 +23,47 @@ const T: TreeId = TreeId { high: 84, low: 0 };
 /// What a lent element holds before a call.
 const LENT: u64 = 99;
 
+/// A node's id.
+fn id(tree: u32, node: u64) -> FullNodeId {
+    FullNodeId::new(TreeIndex(tree), NodeId(node))
+}
+
 /// A node of role 4.
-fn plain(id: u64) -> Node {
+fn plain<'a>(id: u64) -> Node<'a> {
     Node::new(id).role(4)
 }
 
 /// A batch for ROOT without tree data, with focus 2.
-fn batch() -> Batch {
+fn batch<'a>() -> Batch<'a> {
     Batch::new(TreeId::ROOT, 2)
 }
 
-/// The batch of document 01's S.
-fn screen() -> Batch {
-    batch().root(1).node(plain(1).children([2, 3])).nodes([plain(2), plain(3)])
+/// A batch's record.
+fn record(batch: &Batch) -> Vec<u8> {
+    let mut buffer = [0; RECORD_BYTES];
+    batch.encode(&mut buffer).unwrap().to_vec()
+}
+
+/// The record of document 01's S.
+fn screen() -> Vec<u8> {
+    record(&batch().root(1).nodes(&[plain(1).children(&[2, 3]), plain(2), plain(3)]))
+}
+
+/// The state that a batch starts, host focused.
+fn started(batch: &Batch) -> State {
+    State::start(&record(batch), true).unwrap().0
 }
 
 /// Document 01's S.
 fn s() -> State {
-    State::start(&screen().encode().unwrap(), true).unwrap().0
+    State::start(&screen(), true).unwrap().0
 }
 
 /// S with T in 3: case 9.
 fn s_with_t() -> State {
     let mut state = s();
-    told(&mut state, &batch().node(plain(3).graft(T)));
-    told(&mut state, &Batch::new(T, 1).root(1).node(plain(1)));
+    told(&mut state, &batch().nodes(&[plain(3).graft(T)]));
+    told(&mut state, &Batch::new(T, 1).root(1).nodes(&[plain(1)]));
     state
 }
 
@@ -46,7 +71,7 @@ fn s_with_t() -> State {
 /// and after and, if there is one, the extra ids. The lent elements past the lists keep what they held.
 fn told(state: &mut State, batch: &Batch) -> String {
     let mut changes = [LENT; CHANGES];
-    let report = state.update(&batch.encode().unwrap(), &mut changes).unwrap();
+    let report = state.update(&record(batch), &mut changes).unwrap();
     let ids =
         report.added().len() + report.updated().len() + report.removed().len() + report.relinked().len();
     let words = words(&report);
@@ -95,5 +120,5 @@ fn refused(state: &State, record: &[u8], room: usize, number: Number) {
 /// The same of a batch.
 #[track_caller]
 fn refused_batch(state: &State, batch: &Batch, number: Number) {
-    refused(state, &batch.encode().unwrap(), CHANGES, number);
+    refused(state, &record(batch), CHANGES, number);
 }

@@ -1,26 +1,26 @@
 //! Calls that no careful program makes: each has an answer, and a refusal changes nothing.
-use crate::{LENT, batch, plain, refused, s, s_with_t, screen};
+use crate::{LENT, batch, plain, record, refused, s, s_with_t};
 use cartgravel::{Batch, CHANGES, Number, STATE_BYTES, State, TreeId};
 
 /// Numbers from a fixed seed (splitmix64).
-struct Random(u64);
+pub struct Random(pub u64);
 
 impl Random {
-    fn next(&mut self) -> u64 {
+    pub fn next(&mut self) -> u64 {
         self.0 = self.0.wrapping_add(0x9e37_79b9_7f4a_7c15);
         let z = (self.0 ^ (self.0 >> 30)).wrapping_mul(0xbf58_476d_1ce4_e5b9);
         let z = (z ^ (z >> 27)).wrapping_mul(0x94d0_49bb_1331_11eb);
         z ^ (z >> 31)
     }
 
-    fn below(&mut self, n: usize) -> usize {
+    pub fn below(&mut self, n: usize) -> usize {
         (self.next() % n as u64) as usize
     }
 }
 
 /// Case 3, whose two ids take four elements.
 fn case_3() -> Vec<u8> {
-    batch().node(plain(1).children([2])).encode().unwrap()
+    record(&batch().nodes(&[plain(1).children(&[2])]))
 }
 
 #[test]
@@ -46,20 +46,20 @@ fn a_slice_of_odd_length() {
 #[test]
 fn a_batch_that_changes_nothing_needs_no_slice() {
     let mut state = s();
-    state.update(&batch().encode().unwrap(), &mut []).unwrap();
+    state.update(&record(&batch()), &mut []).unwrap();
     assert_eq!(state, s());
 }
 
 /// A record that uses every part.
-fn record() -> Vec<u8> {
+pub fn whole() -> Vec<u8> {
     let named = plain(2).label("Pay").bounds([0.0, 0.0, 9.0, 9.0]);
-    batch().root(1).nodes([plain(1).children([2, 3]), named, plain(3).transform([1.0; 6])]).encode().unwrap()
+    record(&batch().root(1).nodes(&[plain(1).children(&[2, 3]), named, plain(3).transform([1.0; 6])]))
 }
 
 /// Every prefix of a record, the empty one too, breaks the layout; the whole is accepted.
 #[test]
 fn every_prefix_of_a_record() {
-    let (record, state) = (record(), s());
+    let (record, state) = (whole(), s());
     for length in 0..record.len() {
         assert_eq!(State::start(&record[..length], true).unwrap_err(), Number::NotARecord, "{length} bytes");
         refused(&state, &record[..length], CHANGES, Number::NotARecord);
@@ -69,7 +69,7 @@ fn every_prefix_of_a_record() {
 
 #[test]
 fn a_byte_past_a_record() {
-    let mut longer = record();
+    let mut longer = whole();
     longer.push(0);
     assert_eq!(State::start(&longer, true).unwrap_err(), Number::NotARecord);
     refused(&s(), &longer, CHANGES, Number::NotARecord);
@@ -101,9 +101,9 @@ fn outcome(state: &State, record: &[u8]) -> u8 {
 /// Each byte of a record changed, one at a time. Some are refused by the layout, some later, some are accepted.
 #[test]
 fn damaged_records() {
-    let (record, state) = (record(), s());
+    let (record, state) = (whole(), s());
     let mut random = Random(1);
-    let mut counts = [0; 22];
+    let mut counts = [0; 23];
     for at in 0..record.len() {
         let mut damaged = record.clone();
         damaged[at] ^= 1 << random.below(8);
@@ -153,12 +153,10 @@ fn damaged_states() {
 /// A refused start has no state, whatever it was refused for.
 #[test]
 fn refused_starts() {
-    let refused = |batch: &Batch| State::start(&batch.encode().unwrap(), true).unwrap_err();
-    assert_eq!(refused(&batch().node(plain(2))), Number::StartWithoutData);
-    assert_eq!(
-        refused(&Batch::new(TreeId { high: 0, low: 1 }, 2).root(2).node(plain(2))),
-        Number::StartNotRoot
-    );
-    assert_eq!(refused(&screen().node(plain(3))), Number::ListedTwice);
-    assert_eq!(refused(&batch().root(1)), Number::RootAbsent);
+    let refused = |batch: Batch| State::start(&record(&batch), true).unwrap_err();
+    let other = TreeId { high: 0, low: 1 };
+    assert_eq!(refused(batch().nodes(&[plain(2)])), Number::StartWithoutData);
+    assert_eq!(refused(Batch::new(other, 2).root(2).nodes(&[plain(2)])), Number::StartNotRoot);
+    assert_eq!(refused(batch().root(2).nodes(&[plain(2), plain(2)])), Number::ListedTwice);
+    assert_eq!(refused(batch().root(1)), Number::RootAbsent);
 }
