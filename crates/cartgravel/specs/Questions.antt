@@ -16,6 +16,9 @@ use Rattle.questions.specs.Links.{siblings}
 use Rattle.questions.specs.Walks.{filteredChildren, filteredSiblings}
 use Rattle.questions.specs.Filters.{filterOf}
 use Rattle.filters.specs.Answer.{filterAnswer}
+use Rattle.questions.specs.Kept.{WalkStep}
+use Rattle.iterators_walk.specs.Steps.{steppedOf}
+use Rattle.cartgravel.specs.declared.PlainStep.{PlainStep}
 use Rattle.cartgravel_plain.specs.declared.Listed.{Listed}
 use Rattle.cartgravel_plain.specs.declared.FilterNumber.{FilterNumber}
 use Rattle.cartgravel_plain.specs.declared.FilterNumber.the-variants as number
@@ -79,3 +82,9 @@ FilteredOn s x f lent r slice on.Unknown = NoList (s .forest) lent r slice
 abbrev pub FilteredSiblings : State → FullNodeId → List ℕ → Listed → List ℕ → SideNumber → FilterNumber → Type 0
 FilteredSiblings s x lent r slice side (number.Known f) = FilteredOn s x f lent r slice side
 FilteredSiblings s x lent r slice side number.Unknown = NoList (s .forest) lent r slice
+
+-- ## A kept walk
+
+-- a step of it: the node or none, and the walk after it
+unfoldable pub plainStep : WalkStep → PlainStep
+plainStep w = let a = steppedOf w in record { walk = a .walk; answer = plainFound (a .answer) }

@@ -1,5 +1,5 @@
-// Module 8, the sibling walk that the caller keeps and lends to each call. `next` is thin: it hands the walk by value to `step` and stores what comes
-// back. No list is made: the sibling at the walk's count is found by its place, or by as many steps of the walking engine.
+// Module 8, the sibling walk that the caller keeps, by value; `cartgravel_next` is lent it by `&mut`. No list is made: the sibling at the walk's
+// count is found by its place, or by as many steps of the walking engine.
 ghost use mathlib.Core.Option.{some};
 ghost use mathlib.Core.Path.{_≡_};
 ghost use Prim.Native.Nat.{_+_, _<_};
@@ -26,15 +26,6 @@ pub struct Stepped {
 }
 
 // The next sibling in the state given, or nothing at the end. The walk moves on with an answer alone.
-pub fn next(walk: &mut Walk, state: &State) -> NodeAnswer
-    ensures { λ r. ⌜ steppedOf (nextOf (view (now (state .entry))) (now (walk .entry))) ≡ record { walk = now (walk .exit); answer = r } ⌝ }
-{
-    let s = step(state, *walk);
-    *walk = s.walk;
-    s.answer
-}
-
-// The same by value.
 pub fn step(state: &State, walk: Walk) -> Stepped
     ensures { λ r. ⌜ r ≡ steppedOf (nextOf (view (now (state .entry))) walk) ⌝ }
 {

@@ -1,7 +1,7 @@
--- `iterators_walk::next` meets its contract: a walk of its MIR, by hand. The borrow is opened and the whole walk is copied out; `step` is called with the
+-- `cartgravel::cartgravel_next` meets its contract: a walk of its MIR, by hand. The borrow is opened and the whole walk is copied out; `moved_on` is called with the
 -- lent state and that copy; the walk that comes back is stored whole, the borrow is closed at it, and the answer is returned.
--- The state's reference is Copy: what it owns is had twice, one copy goes to `step` with its lifetime's token, and one is kept for the exit.
--- No field of the walk is named. All that the proof knows of `step` is that it meets its contract. Assumes nothing.
+-- The state's reference is Copy: what it owns is had twice, one copy goes to `moved_on` with its lifetime's token, and one is kept for the exit.
+-- No field of the walk is named. All that the proof knows of `moved_on` is that it meets its contract. Assumes nothing.
 use mathlib.Core.Path.{_≡_, refl, sym, ap, subst}
 use Prim.Native.Nat.{ℕ}
 use mathlib.Core.List.{[], _∷_, List}
@@ -44,22 +44,22 @@ use denote.Exit.{yes}
 use Rattle.state_array.specs.View.{view}
 use Rattle.questions.specs.declared.Walk.{Walk}
 use Rattle.questions.specs.Kept.{nextOf}
-use Rattle.iterators_walk.specs.declared.Stepped.{Stepped}
-use Rattle.iterators_walk.specs.Steps.{steppedOf}
+use Rattle.cartgravel.specs.declared.PlainStep.{PlainStep}
+use Rattle.cartgravel.specs.Questions.{plainStep}
 use Rattle.questions.proofs.Walk as T
 use Rattle.questions.proofs.Walk.Laws as T′
-use Rattle.iterators_walk.proofs.Stepped as R
-use Rattle.iterators_walk.proofs.Stepped.Laws as R′
-use Rattle.node.proofs.NodeAnswer as F
-use Rattle.node.proofs.NodeAnswer.Laws as F′
-use Rattle.iterators_walk.proofs.step as step
-use Rattle.iterators_walk.proofs.step.Symbol as step-def
-use Rattle.iterators_walk.proofs.step.Symbol.{name as #step}
-use Rattle.iterators_walk.proofs.step.Met as step-thm
-use Rattle.iterators_walk.proofs.next.Key.{name as #next}
-use Rattle.iterators_walk.proofs.next as next
-use Rattle.iterators_walk.proofs.next.Statement as stated
-use Rattle.iterators_walk.proofs.next.Code as code
+use Rattle.cartgravel.proofs.PlainStep as R
+use Rattle.cartgravel.proofs.PlainStep.Laws as R′
+use Rattle.cartgravel_plain.proofs.FoundId as F
+use Rattle.cartgravel_plain.proofs.FoundId.Laws as F′
+use Rattle.cartgravel.proofs.moved_on as step
+use Rattle.cartgravel.proofs.moved_on.Symbol as step-def
+use Rattle.cartgravel.proofs.moved_on.Symbol.{name as #step}
+use Rattle.cartgravel.proofs.moved_on.Met as step-thm
+use Rattle.cartgravel.proofs.cartgravel_next.Key.{name as #next}
+use Rattle.cartgravel.proofs.cartgravel_next as next
+use Rattle.cartgravel.proofs.cartgravel_next.Statement as stated
+use Rattle.cartgravel.proofs.cartgravel_next.Code as code
 
 -- the state's words
 abbrev words : RattleType
@@ -75,16 +75,16 @@ stayed = (stay-ref (0 ∷ []) tt (plain (λ _. T.the-row)), (stay-none-ref (1 �
 abbrev walk-val : Walk → Val
 walk-val = LL.val T.the-type T′.the-laws
 
--- what `step` says
-abbrev after : RefT (List ℕ) → Walk → Stepped
-after s h = steppedOf (nextOf (view (s .now)) h)
+-- what `moved_on` says
+abbrev after : RefT (List ℕ) → Walk → PlainStep
+after s h = plainStep (nextOf (view (s .now)) h)
 
 module _ {M : Type 1} (𝓤 : URA M) (H : Heap 𝓤) (A : Atoms 𝓤) (at-mem : Memory → SProp 𝓤) (run : Routine → Fun 𝓤) where
   -- the contract that the proof cites, and of what it ensures the clause alone
   abbrev Step : Contract 𝓤
   Step = tripleOf 𝓤 H A step.signature (step.spec 𝓤 H A at-mem run)
 
-  stepped : (κ : Lft) (s : RefT (List ℕ)) (h : Walk) (r : Stepped) → ent 𝓤 (ensured 𝓤 H A step.ended (step.clauses 𝓤 H A at-mem run) (κ, tt) (s, (h, tt)) tt r) (fact 𝓤 (r ≡ after s h))
+  stepped : (κ : Lft) (s : RefT (List ℕ)) (h : Walk) (r : PlainStep) → ent 𝓤 (ensured 𝓤 H A step.ended (step.clauses 𝓤 H A at-mem run) (κ, tt) (s, (h, tt)) tt r) (fact 𝓤 (r ≡ after s h))
   stepped κ s h r = exE 𝓤 _ (λ ws. snd∗ 𝓤 (sem 𝓤 H A (lasts step.ended (κ, tt) (s, (h, tt)) ws)) (fact 𝓤 (r ≡ after s h)))
 
 module _ {M : Type 1} (𝓤 : URA M) (H : Heap 𝓤) (A : Atoms 𝓤) (W : Given 𝓤 H A) (at-mem : Memory → SProp 𝓤) (run : Routine → Fun 𝓤) (κ κ′ : Lft) (q q′ : Share) (b o : ℕ) (γ : GName) (h : Walk) (s : RefT (List ℕ)) where
@@ -104,17 +104,17 @@ module _ {M : Type 1} (𝓤 : URA M) (H : Heap 𝓤) (A : Atoms 𝓤) (W : Given
   abbrev Own : Fml
   Own = ShrRef (named 1) κ′ words .own s (ptr-vals s)
 
-  -- the machine value of a Stepped, spelled out, and what its fields own
-  spelled : (r : Stepped) (v : Val) → Is R.the-row r (v ∷ []) → Is R.the-row r (LL.vals R.the-type R′.the-laws r)
+  -- the machine value of a PlainStep, spelled out, and what its fields own
+  spelled : (r : PlainStep) (v : Val) → Is R.the-row r (v ∷ []) → Is R.the-row r (LL.vals R.the-type R′.the-laws r)
   spelled r v is = subst (λ (vs : List Val). Is R.the-row r vs) (LL.tells R.the-type R′.the-laws r (v ∷ []) is) is
 
-  is-walk : (r : Stepped) → Is R.the-row r (LL.vals R.the-type R′.the-laws r) → Is T.the-row (r .walk) (walk-val (r .walk) ∷ [])
+  is-walk : (r : PlainStep) → Is R.the-row r (LL.vals R.the-type R′.the-laws r) → Is T.the-row (r .walk) (walk-val (r .walk) ∷ [])
   is-walk r is = LL.owed R.the-type R′.the-laws r _ is .0
 
-  is-answer : (r : Stepped) → Is R.the-row r (LL.vals R.the-type R′.the-laws r) → Is F.the-row (r .answer) (LL.vals F.the-type F′.the-laws (r .answer))
+  is-answer : (r : PlainStep) → Is R.the-row r (LL.vals R.the-type R′.the-laws r) → Is F.the-row (r .answer) (LL.vals F.the-type F′.the-laws (r .answer))
   is-answer r is = LL.owed R.the-type R′.the-laws r _ is .1 .0
 
-  exits : (r : Stepped) → r ≡ after s h → Is R.the-row r (LL.vals R.the-type R′.the-laws r)
+  exits : (r : PlainStep) → r ≡ after s h → Is R.the-row r (LL.vals R.the-type R′.the-laws r)
       → ent 𝓤 (⋆ 𝓤 H A (‵ (fobs γ (T.the-row .coded .code (r .walk))) ∷ ‵ (fbor κ (Body (mem T.the-row) b o γ)) ∷ ‵ (flft κ q) ∷ (‵ (flft κ′ q′) ⊛ ‵ ftrue) ∷ ‵ Own ∷ [])) (Post (LL.val F.the-type F′.the-laws (r .answer)))
   exits r e is =
       qed W (‵ (fobs γ (T.the-row .coded .code (r .walk))) ∷ ‵ (fbor κ (Body (mem T.the-row) b o γ)) ∷ ‵ (flft κ q) ∷ (‵ (flft κ′ q′) ⊛ ‵ ftrue) ∷ ‵ Own ∷ []) ∵
@@ -123,7 +123,7 @@ module _ {M : Type 1} (𝓤 : URA M) (H : Heap 𝓤) (A : Atoms 𝓤) (W : Given
       frame ! $ feqI ! (List Val) (vptr b o ∷ []) (vptr b o ∷ []) refl $ fjoin3 ! $ nothing ! $ move ! (2 ∷ 0 ∷ []) $ fjoin ! $ move ! (1 ∷ 0 ∷ []) $ fjoin ! $
       owned ! F.the-row (Is F.the-row) (LL.makes F.the-type F′.the-plain 𝓤 H A) (r .answer) _ (is-answer r is) $ move ! (1 ∷ 0 ∷ []) $ done !
 
-  -- what `step` is passed
+  -- what `moved_on` is passed
   abbrev passed : Vals step.signature (κ′, tt)
   passed = (ptr-vals s, (walk-val h ∷ [], tt))
 
@@ -150,7 +150,7 @@ module _ {M : Type 1} (𝓤 : URA M) (H : Heap 𝓤) (A : Atoms 𝓤) (W : Given
         move ! (18 ∷ []) $ owned ! T.the-row (Is T.the-row) (LL.makes T.the-type T′.the-plain 𝓤 H A) h _ was $ fjoin ! $ move ! (16 ∷ 0 ∷ []) $ fjoin ! $ move ! (17 ∷ 0 ∷ []) $
         use2 W (raw (Step 𝓤 H A at-mem run .pre to-step)) asked $
         calls-at ! fm (Step 𝓤 H A at-mem run) known to-step (and-then ! (load ! (from ! (stop !)) (look ! 10 refl)) (and-then ! (load ! (from ! (stop !)) (look ! 6 refl)) (no-more !))) (λ v.
-        use1 W (later (some (λ (r : Stepped). ((‵ (flft κ′ q′) ⊛ ‵ ftrue) ⊛ ‵ (R.the-row .own r (v ∷ []))) ⊛ raw (ensured 𝓤 H A step.ended (step.clauses 𝓤 H A at-mem run) (κ′, tt) (s, (h, tt)) tt r)))) (id⊢ 𝓤 _) $ await ! tt $ pick ! (λ r.
+        use1 W (later (some (λ (r : PlainStep). ((‵ (flft κ′ q′) ⊛ ‵ ftrue) ⊛ ‵ (R.the-row .own r (v ∷ []))) ⊛ raw (ensured 𝓤 H A step.ended (step.clauses 𝓤 H A at-mem run) (κ′, tt) (s, (h, tt)) tt r)))) (id⊢ 𝓤 _) $ await ! tt $ pick ! (λ r.
         split ! $ move ! (1 ∷ []) $ use1 W (raw (fact 𝓤 (r ≡ after s h))) (stepped 𝓤 H A at-mem run κ′ s h r) $ heard ! (r ≡ after s h) (λ e. split ! $ move ! (1 ∷ []) $
         peeks ! R.the-row (Is R.the-row) (shows 𝓤 H A R.the-row) r (v ∷ []) (λ is. drop ! $
         -- [the state's token; the walk's cell; what a Walk owns; the open borrow; obs; auth; _4; …; room for _3; …; _2; …; _1; …; room for _0; …; what s owns]
@@ -179,10 +179,10 @@ next-meets 𝓤 H A W at-mem run 𝓣 known =
     walk-meets 𝓤 H A next.ended stayed W (goes 𝓤 H A W at-mem run) (next.clauses 𝓤 H A at-mem run) (WpFn 𝓤 H (𝓣 .C) (𝓣 .Λ) code.function) (WpFn-mono 𝓤 H (W .laws) 𝓣 code.function)
     (next-walks 𝓤 H A W at-mem run (𝓣 .C) (𝓣 .Λ) (fmOf 𝓤 H (W .laws) 𝓣) known)
 
-pub next-spec : {M : Type 1} → stated.statement M
+pub cartgravel-next-spec : {M : Type 1} → stated.statement M
 unfolding code.routine tablesOf
-next-spec 𝓤 H 𝓜 𝓖 𝓡 =
+cartgravel-next-spec 𝓤 H 𝓜 𝓖 𝓡 =
     entered 𝓤 H (tripleOf 𝓤 H (𝓖 .A) next.signature (next.spec 𝓤 H (𝓖 .A) (𝓜 .mem) (𝓡 .run)))
     (tables 𝓤 H 𝓜 𝓡 code.env .C) (tables 𝓤 H 𝓜 𝓡 code.env .Λ) #next code.function (code.unfolded 𝓤 H 𝓜 𝓡)
     (next-meets 𝓤 H (𝓖 .A) (givenOf 𝓤 H 𝓜 𝓖) (𝓜 .mem) (𝓡 .run) (tablesOf 𝓤 H 𝓜 (tables 𝓤 H 𝓜 𝓡 code.env))
-    (cited 𝓤 H (Step 𝓤 H (𝓖 .A) (𝓜 .mem) (𝓡 .run)) 𝓜 𝓡 code.env #step step-def.routine code.calls-iterators-walk·step (step-thm.met 𝓤 H 𝓜 𝓖 𝓡)))
+    (cited 𝓤 H (Step 𝓤 H (𝓖 .A) (𝓜 .mem) (𝓡 .run)) 𝓜 𝓡 code.env #step step-def.routine code.calls-cartgravel·moved-on (step-thm.met 𝓤 H 𝓜 𝓖 𝓡)))
