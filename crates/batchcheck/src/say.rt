@@ -8,7 +8,7 @@ use batchcheck_reasons::why;
 use calls::Lengths;
 use calls::OptionalId;
 use calls::Reply;
-use cartgravel::Report;
+use calls::Report;
 use ids::FullNodeId;
 use ids::NodeId;
 use ids::TreeIndex;

@@ -150,7 +150,7 @@ pub fn neighbour(state: &State, focused: usize, side: Side, at: Place) -> usize
 }
 
 // Where a walk goes on from a node that is not listed: into it for ExcludeNode, else past it.
-pub fn unlisted(state: &State, side: Side, at: Place, result: FilterResult) -> Place
+fn unlisted(state: &State, side: Side, at: Place, result: FilterResult) -> Place
     ensures { λ r. ⌜ OfSlot (now (state .entry)) (at .slot) (λ f x. metFrom side (now (state .entry)) r ≡ unlisted side f (at .level) x result) ⌝ }
 {
     match result {

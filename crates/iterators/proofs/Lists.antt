@@ -31,11 +31,11 @@ use Rattle.iterators_steps.specs.declared.Place.{Place}
 use Rattle.iterators_lists.specs.Lists.{Collected}
 use Rattle.filters_plain.specs.Plain.{listedFrom}
 use Rattle.iterators_shown.specs.Shown.{ListsBelow}
-use Rattle.iterators.specs.Lists.{ListOf, Puts, PutsList, noNode}
+use Rattle.iterators.specs.Lists.{ListOf, noList, Puts, PutsList, noNode}
 
 -- what is answered, and the slice, where it is too short and where it is not
 abbrev answerFor : ℕ → Bool → ListAnswer
-answerFor n t = if t then record { number = 21; length = 0 } else record { number = 0; length = n }
+answerFor n t = if t then noList 21 else record { number = 0; length = n }
 
 abbrev sliceFor : List ℕ → List ℕ → Bool → List ℕ
 sliceFor words lent t = if t then lent else written words lent
@@ -49,7 +49,7 @@ module _ (ids : List ℕ) (n : ℕ) (long : 2 * n ≤ length ids) (lent : List �
   words-taken : length words ≡ 2 * n
   words-taken = length-take-le (2 * n) ids long
 
-  pub puts-short : length lent < 2 * n → Puts words n lent (record { number = 21; length = 0 }) lent
+  pub puts-short : length lent < 2 * n → Puts words n lent (noList 21) lent
   puts-short h =
       let short = lt-ltb (length lent) (length words) (omega (arith, words-taken)) in
       record { answer-is = sym (ap (answerFor n) short); slice-is = sym (ap (sliceFor words lent) short) }

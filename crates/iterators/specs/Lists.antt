@@ -32,9 +32,13 @@ ChildList v x filter lent r slice = ListOf (v .forest) x (filteredChildren (filt
 abbrev pub SiblingList : State → FullNodeId → Filter → Side → List ℕ → ListAnswer → List ℕ → Type 0
 SiblingList v x filter side lent r slice = ListOf (v .forest) x (filteredSiblings (filterOf filter v) side (v .forest) x) lent r slice
 
+-- a number, and no list
+abbrev pub noList : ℕ → ListAnswer
+noList k = record { number = k; length = 0 }
+
 -- 21 where the slice is too short for these words of n ids, else they are written
 pub record Puts (words : List ℕ) (n : ℕ) (lent : List ℕ) (r : ListAnswer) (slice : List ℕ) : Type 0 where
-  pub answer-is : r ≡ (if ltb (length lent) (length words) then record { number = 21; length = 0 } else record { number = 0; length = n })
+  pub answer-is : r ≡ (if ltb (length lent) (length words) then noList 21 else record { number = 0; length = n })
   pub slice-is : slice ≡ (if ltb (length lent) (length words) then lent else written words lent)
 
 -- so of a list of ids

@@ -13,7 +13,7 @@ ghost use Rattle.node_links.specs.Slots.{Sound, slotId};
 ghost use Rattle.node.specs.Answers.{nodeAnswer};
 ghost use Rattle.filters_plain.specs.Plain.{Focused, listedFrom};
 ghost use Rattle.iterators_shown.specs.Shown.{filteredChildOn, deepestOn};
-ghost use Rattle.iterators.specs.Lists.{ListOf, ChildList, SiblingList, Puts, PutsList, NodeOf, noNode};
+ghost use Rattle.iterators.specs.Lists.{ListOf, ChildList, SiblingList, Puts, PutsList, noList, NodeOf, noNode};
 use ids::FullNodeId;
 use iterators_steps::Place;
 use node::ListAnswer;
@@ -22,6 +22,11 @@ use questions::Filter;
 use questions::Side;
 use state_array::State;
 use state_focus::FoundNode;
+
+// The number of a list that is written, and of a slice that is too short for it.
+const WRITTEN: u8 = 0;
+
+const TOO_SHORT: u8 = 21;
 
 // The siblings on a side, nearest first.
 pub fn siblings<'a, 'b>(
@@ -35,7 +40,7 @@ pub fn siblings<'a, 'b>(
     let asked = node_asked::asked(state, id);
     let number = asked.number;
     if number != 0 {
-        return ListAnswer { number, length: 0 };
+        return no_list(number);
     }
     let mut ids = [0u64; 512];
     let n = iterators_lists::collect_siblings(state, side, asked.slot, &mut ids);
@@ -54,7 +59,7 @@ pub fn filtered_children<'a, 'b>(
     let asked = node_asked::asked(state, id);
     let number = asked.number;
     if number != 0 {
-        return ListAnswer { number, length: 0 };
+        return no_list(number);
     }
     let focused = filters_plain::focused_slot(state);
     let start = iterators_shown::shown_child(state, focused, filter, Side::Following, asked.slot);
@@ -74,7 +79,7 @@ pub fn filtered_siblings<'a, 'b>(
     let asked = node_asked::asked(state, id);
     let number = asked.number;
     if number != 0 {
-        return ListAnswer { number, length: 0 };
+        return no_list(number);
     }
     let focused = filters_plain::focused_slot(state);
     let start = iterators_shown::shown_sibling(state, focused, filter, side, asked.slot);
@@ -106,10 +111,7 @@ fn put<'a, 'b>(ids: &'a [u64], n: usize, out: &'b mut [u64]) -> ListAnswer
 {
     let words = 2 * n;
     if out.len() < words {
-        return ListAnswer {
-            number: 21,
-            length: 0,
-        };
+        return no_list(TOO_SHORT);
     }
     let mut i = 0usize;
     while i < words {
@@ -117,9 +119,16 @@ fn put<'a, 'b>(ids: &'a [u64], n: usize, out: &'b mut [u64]) -> ListAnswer
         i += 1;
     }
     ListAnswer {
-        number: 0,
+        number: WRITTEN,
         length: n,
     }
+}
+
+// A number, and no list.
+fn no_list(number: u8) -> ListAnswer
+    ensures { λ r. ⌜ r ≡ noList number ⌝ }
+{
+    ListAnswer { number, length: 0 }
 }
 
 // The filtered parent: the nearest ancestor that is included.

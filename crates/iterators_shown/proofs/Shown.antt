@@ -1,5 +1,5 @@
 -- What is listed under a filter, from the place of its first node: of children, of siblings, the deepest child. Assumes nothing.
-use mathlib.Core.Bool.{true, false}
+use mathlib.Core.Bool.{Bool, true, false}
 use mathlib.Core.List.{List, [], _∷_, flatMap, head?}
 use mathlib.Core.Option.{Option, none, some, Option·none-ne-some}
 use mathlib.Core.Path.{_≡_, refl, sym, ap, _∙_}
@@ -14,6 +14,7 @@ use Rattle.state_array.specs.View.{idIn, slotsOf, view}
 use Rattle.questions.specs.declared.Side.{Side}
 use Rattle.questions.specs.declared.Side.the-variants.{Following, Preceding}
 use Rattle.questions.specs.declared.FilterResult.{FilterResult}
+use Rattle.questions.specs.declared.FilterResult.the-variants.{Include, ExcludeNode, ExcludeSubtree}
 use Rattle.questions.specs.Links.{childIds, ancestors}
 use Rattle.questions.specs.Walks.{turned, leading, shown, orElse, deepestWithin, filteredChildren, firstFilteredChild, lastFilteredChild, deepestFirstFilteredChild, deepestLastFilteredChild, isExcludedNode, filteredParent, climbed, hasFilteredSiblings, filteredSiblings}
 use Rattle.questions.specs.Ahead.{ahead}
@@ -28,10 +29,10 @@ use Rattle.iterators_steps.specs.declared.Place.{Place}
 use Rattle.iterators_steps.specs.Places.{metFrom}
 use Rattle.iterators_steps.proofs.Steps.{met-at, met-end}
 use Rattle.iterators_lists.proofs.Lists.{few-nodes}
-use Rattle.filters_plain.specs.Plain.{listedFrom}
+use Rattle.filters_plain.specs.Plain.{unlisted, listedFrom}
 use Rattle.filters_plain.proofs.Above.{firstIncluded, upFrom}
 use Rattle.filters_plain.proofs.Listed.{head-listed}
-use Rattle.iterators_shown.specs.Shown.{ListsAhead, ListsBelow, Climbs, filteredChildOn, deepestOn}
+use Rattle.iterators_shown.specs.Shown.{isExcludeNode, metAfter, ListsAhead, ListsBelow, Climbs, filteredChildOn, deepestOn}
 
 head-none : {A : Type 0} (xs : List A) → head? xs ≡ none → xs ≡ []
 head-none [] e = refl
@@ -40,6 +41,14 @@ head-none (x ∷ xs) e = absurd (Option·none-ne-some x (sym e))
 head-some : {A : Type 0} (xs : List A) (x : A) → head? xs ≡ some x → isNil xs ≡ false
 head-some [] x e = absurd (Option·none-ne-some x e)
 head-some (y ∷ xs) x e = refl
+
+-- on from a node that is not listed, by what the filter says of it
+pub met-unlisted : (side : Side) (f : Forest) (level : ℕ) (x : FullNodeId) (r : FilterResult) (c : Bool) → c ≡ isExcludeNode r
+    → metAfter side f level x c ≡ unlisted side f level x r
+unfolding metAfter unlisted isExcludeNode
+met-unlisted side f level x Include c e = rw e refl
+met-unlisted side f level x ExcludeNode c e = rw e refl
+met-unlisted side f level x ExcludeSubtree c e = rw e refl
 
 module _ (side : Side) (s : List ℕ) (h : Sound s) where
   abbrev f : Forest

@@ -1,10 +1,11 @@
 -- What the functions over slots find under a filter. Assumes nothing.
 use mathlib.Core.Bool.{Bool, true, false}
-use mathlib.Core.List.{List, flatMap}
+use mathlib.Core.List.{List, _++_, flatMap}
 use mathlib.Core.Option.{Option}
 use mathlib.Core.Path.{_≡_}
 use Prim.Native.Nat.{ℕ}
 use lib.ListN.{length}
+use Rattle.base.specs.Tests.{if_then_else_}
 use Rattle.ids.specs.declared.FullNodeId.{FullNodeId}
 use Rattle.state.specs.State.{Forest}
 use Rattle.state_array.specs.View.{view}
@@ -24,6 +25,10 @@ unfoldable pub isExcludeNode : FilterResult → Bool
 isExcludeNode Include = false
 isExcludeNode ExcludeNode = true
 isExcludeNode ExcludeSubtree = false
+
+-- what is met on from a node, into it or past it
+unfoldable pub metAfter : Side → Forest → ℕ → FullNodeId → Bool → List FullNodeId
+metAfter side f level x inside = if inside then turned side (childIds f x) ++ ahead side f level x else ahead side f level x
 
 module _ (filter : FullNodeId → FilterResult) where
   -- what is listed of what is ahead of x, and of its children, is what is listed from r on

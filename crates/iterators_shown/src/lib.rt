@@ -7,17 +7,18 @@ ghost use Rattle.state_array.specs.View.{view};
 ghost use Rattle.questions.specs.Filters.{filterOf};
 ghost use Rattle.questions.specs.Walks.{filteredParent};
 ghost use Rattle.node_links.specs.Slots.{Sound, slotId, OfSlot};
+ghost use Rattle.iterators_steps.specs.Places.{metFrom};
 ghost use Rattle.iterators_lists.specs.Lists.{Collected};
 ghost use Rattle.filters_plain.specs.Plain.{Focused, listedFrom, Lists};
 ghost use Rattle.filters_plain.proofs.Above.{firstIncluded, upFrom};
-ghost use Rattle.iterators_shown.specs.Shown.{isExcludeNode, ListsAhead, ListsBelow, ListsSiblings, Climbs, filteredChildOn, deepestOn};
+ghost use Rattle.iterators_shown.specs.Shown.{isExcludeNode, metAfter, ListsAhead, ListsBelow, ListsSiblings, Climbs, filteredChildOn, deepestOn};
 use iterators_steps::Place;
 use questions::Filter;
 use questions::FilterResult;
 use questions::Side;
 use state_array::State;
 
-// From where a walk stands to the first node that is listed.
+// From where a walk stands to the first node that is listed: past a node that is dropped, into one whose children stand in its place.
 pub fn shown_from(state: &State, focused: usize, filter: Filter, side: Side, at: Place) -> Place
     requires { ⌜ Sound (now state) ⌝ }
     requires { ⌜ Focused (now state) focused ⌝ }
@@ -25,6 +26,7 @@ pub fn shown_from(state: &State, focused: usize, filter: Filter, side: Side, at:
 {
     let n = state_array::slots(state);
     let mut here = at;
+    let mut consider_children = false;
     loop {
         let i = here.slot;
         if n <= i {
@@ -34,8 +36,19 @@ pub fn shown_from(state: &State, focused: usize, filter: Filter, side: Side, at:
         if filters_plain::is_include(result) {
             return here;
         }
-        here = filters_plain::unlisted(state, side, here, result);
+        consider_children = is_exclude_node(result);
+        here = go_on(state, side, here, consider_children);
     }
+}
+
+// On from a node: into it, or past it.
+fn go_on(state: &State, side: Side, at: Place, inside: bool) -> Place
+    ensures { λ r. ⌜ OfSlot (now (state .entry)) (at .slot) (λ f x. metFrom side (now (state .entry)) r ≡ metAfter side f (at .level) x inside) ⌝ }
+{
+    if inside {
+        return iterators_steps::into(state, side, at);
+    }
+    iterators_steps::after(state, side, at)
 }
 
 // To the first node that is listed of what is ahead of a node.

@@ -33,7 +33,7 @@ use Rattle.node.specs.Answers.{foundNode}
 use Rattle.node_links.specs.Slots.{Sound, slotId}
 use Rattle.node_links.proofs.Slots.{slot-id-some, slot-id-none, slot-shape, slot-present}
 use Rattle.iterators_lists.proofs.Lists.{few-nodes}
-use Rattle.iterators_walk.specs.Steps.{steppedOf, standing, numberFor, Ours, FindsAt}
+use Rattle.iterators_walk.specs.Steps.{steppedOf, handedOut, numberFor, Ours, FindsAt}
 
 -- ## The numbers of a walk
 
@@ -121,38 +121,29 @@ walk-few s h i there w e = go (sideOf (w .side)) (filterChoice (w .filter))
 
 module _ (v : State) (w : Walk) where
   -- a call that is refused
-  pub step-refused : (n : ℕ) → n ≡ walkNumber v w → (n ≡ 0 → ⊥) → standing w n ≡ steppedOf (nextOf v w)
+  pub step-refused : (n : ℕ) → n ≡ walkNumber v w → (n ≡ 0 → ⊥) → handedOut w (w .count) n found.Nothing ≡ steppedOf (nextOf v w)
   unfolding steppedOf nextOf stepped foundNode
   step-refused n e h = rw (← e, after-refused none (getElem? (walkList v w) (w .count)) n h) refl
 
-  module _ (z : walkNumber v w ≡ 0) where
-    by-place : (o : Option FullNodeId) → getElem? (walkList v w) (w .count) ≡ o → nextOf v w ≡ stepped 0 w o
+  module _ (z : walkNumber v w ≡ 0) (r : FoundNode) (e : foundOf r ≡ getElem? (walkList v w) (w .count)) where
+    by-place : (o : Option FullNodeId) → foundOf r ≡ o → nextOf v w ≡ stepped 0 w o
     unfolding nextOf after
-    by-place o e = rw (z, e) refl
+    by-place o q = rw (z, sym e ∙ q) refl
 
     -- the end
-    pub step-end : getElem? (walkList v w) (w .count) ≡ none → standing w 0 ≡ steppedOf (nextOf v w)
-    unfolding steppedOf stepped foundNode
-    step-end e = rw (by-place none e) refl
+    pub step-end : r ≡ found.Nothing → handedOut w (w .count) 0 r ≡ steppedOf (nextOf v w)
+    unfolding steppedOf stepped foundNode foundOf
+    step-end q = rw (by-place none (ap foundOf q), q) refl
 
     -- the next sibling
-    pub step-found : (x : FullNodeId) → getElem? (walkList v w) (w .count) ≡ some x
-        → record { walk = record { node = w .node; side = w .side; filter = w .filter; count = w .count + 1 }; answer = record { number = 0; node = found.At x } } ≡ steppedOf (nextOf v w)
-    unfolding steppedOf stepped foundNode
-    step-found x e = rw (by-place (some x) e, add-one (w .count)) refl
+    pub step-found : (x : FullNodeId) (count : ℕ) → r ≡ found.At x → count ≡ w .count + 1 → handedOut w count 0 r ≡ steppedOf (nextOf v w)
+    unfolding steppedOf stepped foundNode foundOf
+    step-found x count q k = rw (by-place (some x) (ap foundOf q), q, k, add-one (w .count)) refl
 
-  -- there the count is a small number
-  pub step-room : (x : FullNodeId) → length (walkList v w) ≤ 256 → getElem? (walkList v w) (w .count) ≡ some x → w .count < 256
-  step-room x few e = omega (arith, take-more (walkList v w) (w .count) x e .1)
-
--- what the code finds
-pub found-nothing : (r : FoundNode) (o : Option FullNodeId) → foundOf r ≡ o → r ≡ found.Nothing → o ≡ none
-unfolding foundOf
-found-nothing r o e q = sym e ∙ rw q refl
-
-pub found-at : (r : FoundNode) (o : Option FullNodeId) (x : FullNodeId) → foundOf r ≡ o → r ≡ found.At x → o ≡ some x
-unfolding foundOf
-found-at r o x e q = sym e ∙ rw q refl
+    -- there the count is a small number
+    pub step-room : (x : FullNodeId) → length (walkList v w) ≤ 256 → r ≡ found.At x → w .count < 256
+    unfolding foundOf
+    step-room x few q = omega (arith, few, take-more (walkList v w) (w .count) x (sym e ∙ ap foundOf q) .1)
 
 -- the walk about the node in its slot
 pub finds-asked : (s : List ℕ) (i : ℕ) (w : Walk) (r : FoundNode) → idIn s i ≡ w .node → FindsAt s i (w .side) (w .filter) (w .count) r

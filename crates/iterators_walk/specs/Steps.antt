@@ -7,7 +7,6 @@ use lib.ListN.{getElem?}
 use Rattle.base.specs.Tests.{if_then_else_}
 use Rattle.state_array.specs.View.{idIn, view}
 use Rattle.state_focus.specs.declared.FoundNode.{FoundNode}
-use Rattle.state_focus.specs.declared.FoundNode.the-variants as found
 use Rattle.state_focus.specs.Focus.{foundOf}
 use Rattle.questions.specs.declared.Walk.{Walk}
 use Rattle.questions.specs.Kept.{walkList, WalkStep}
@@ -18,9 +17,10 @@ use Rattle.iterators_walk.specs.declared.Stepped.{Stepped}
 unfoldable pub steppedOf : WalkStep → Stepped
 steppedOf w = record { walk = w .walk; answer = record { number = w .number; node = foundNode (w .found) } }
 
--- a walk that stays, with a number
-abbrev pub standing : Walk → ℕ → Stepped
-standing w k = record { walk = w; answer = record { number = k; node = found.Nothing } }
+-- an answer, and the walk with a count
+abbrev pub handedOut : Walk → ℕ → ℕ → FoundNode → Stepped
+handedOut w count number node =
+    record { walk = record { node = w .node; side = w .side; filter = w .filter; count = count }; answer = record { number = number; node = node } }
 
 -- 2 stands between 1 and 22
 unfoldable pub numberFor : ℕ → ℕ → ℕ → ℕ

@@ -2,7 +2,7 @@
 // count is found by its place, or by as many steps of the walking engine.
 ghost use mathlib.Core.Option.{some};
 ghost use mathlib.Core.Path.{_≡_};
-ghost use Prim.Native.Nat.{_<_};
+ghost use Prim.Native.Nat.{_+_, _<_};
 ghost use lib.ListN.{getElem?};
 ghost use Rattle.state_array.specs.View.{slotsOf, view};
 ghost use Rattle.state_focus.specs.Focus.{foundOf};
@@ -11,7 +11,7 @@ ghost use Rattle.questions.specs.Kept.{sideOf, filterChoice, nextOf};
 ghost use Rattle.questions.specs.Links.{siblings};
 ghost use Rattle.questions.specs.Walks.{filteredSiblings};
 ghost use Rattle.node_links.specs.Slots.{Sound, OfSlot};
-ghost use Rattle.iterators_walk.specs.Steps.{steppedOf, standing, numberFor, Ours, FindsAt};
+ghost use Rattle.iterators_walk.specs.Steps.{steppedOf, handedOut, numberFor, Ours, FindsAt};
 use node::NodeAnswer;
 use questions::Filter;
 use questions::Side;
@@ -33,37 +33,40 @@ pub fn step(state: &State, walk: Walk) -> Stepped
     let asked = node_asked::asked(state, node);
     let number = number_of(asked.number, walk.side, walk.filter);
     if number != 0 {
-        return stay(walk, number);
+        return hand_out(walk, walk.count, number, FoundNode::Nothing);
     }
-    let slot = asked.slot;
-    match sibling_at(state, slot, walk.side, walk.filter, walk.count) {
-        FoundNode::Nothing => stay(walk, 0),
-        FoundNode::At(x) => Stepped {
-            walk: Walk {
-                node,
-                side: walk.side,
-                filter: walk.filter,
-                count: walk.count + 1,
-            },
-            answer: NodeAnswer {
-                number: 0,
-                node: FoundNode::At(x),
-            },
+    let found = sibling_at(state, asked.slot, walk.side, walk.filter, walk.count);
+    let further = one_more(walk.count);
+    match found {
+        FoundNode::Nothing => hand_out(walk, walk.count, 0, found),
+        FoundNode::At(_) => hand_out(walk, further, 0, found),
+    }
+}
+
+// An answer, and the walk with a count.
+fn hand_out(walk: Walk, count: u64, number: u8, found: FoundNode) -> Stepped
+    ensures { λ r. ⌜ r ≡ handedOut walk count number found ⌝ }
+{
+    let node = walk.node;
+    Stepped {
+        walk: Walk {
+            node,
+            side: walk.side,
+            filter: walk.filter,
+            count,
+        },
+        answer: NodeAnswer {
+            number,
+            node: found,
         },
     }
 }
 
-// The walk as it was, with a number and no node.
-fn stay(walk: Walk, number: u8) -> Stepped
-    ensures { λ r. ⌜ r ≡ standing walk number ⌝ }
+// One more was handed out. A list has at most 256.
+fn one_more(count: u64) -> u64
+    ensures { λ r. ⌜ (count < 256 → r ≡ count + 1) ⌝ }
 {
-    Stepped {
-        walk,
-        answer: NodeAnswer {
-            number,
-            node: FoundNode::Nothing,
-        },
-    }
+    if count < 256 { count + 1 } else { count }
 }
 
 // 1, then 2 where the side or the filter is none of ours, then 22; `asked` is 1, 22 or 0.

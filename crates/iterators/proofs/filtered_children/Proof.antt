@@ -9,7 +9,7 @@ use Rattle.iterators.proofs.filtered_children.Statement.{statement}
 use Rattle.iterators.proofs.filtered_children.Tie as tie
 
 returns : tie.Need-returns
-returns c = list-refused _ _ _ _ _ _ (c .before .asked .ensures .number-is) (c .if1 .taken)
+returns c = rw (c .no-list .ensures) (list-refused _ _ _ _ _ _ (c .before .before .asked .ensures .number-is) (c .before .if1 .taken))
 
 shown-child-requires : tie.Need-shown-child-requires
 shown-child-requires c κs =
@@ -27,4 +27,4 @@ returns-2 c =
     (λ sound there. children-listed (filterOf _ _) _ _ _ _ (c .before .before .before .before .shown-child .ensures sound there)) (c .before .before .list-from .ensures)
 
 pub filtered-children-spec : {M : Type 1} → statement M
-filtered-children-spec = tie.close (tie.spec (λ c κs. search needs) returns (λ c κs. search needs) shown-child-requires list-from-requires (λ c. search needs) returns-2)
+filtered-children-spec = tie.close (tie.spec (λ c κs. search needs) (λ c κs. search needs) returns (λ c κs. search needs) shown-child-requires list-from-requires (λ c. search needs) returns-2)

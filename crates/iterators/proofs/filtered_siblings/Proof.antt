@@ -9,7 +9,7 @@ use Rattle.iterators.proofs.filtered_siblings.Statement.{statement}
 use Rattle.iterators.proofs.filtered_siblings.Tie as tie
 
 returns : tie.Need-returns
-returns c = list-refused _ _ _ _ _ _ (c .before .asked .ensures .number-is) (c .if1 .taken)
+returns c = rw (c .no-list .ensures) (list-refused _ _ _ _ _ _ (c .before .before .asked .ensures .number-is) (c .before .if1 .taken))
 
 shown-sibling-requires : tie.Need-shown-sibling-requires
 shown-sibling-requires c κs =
@@ -27,4 +27,4 @@ returns-2 c =
     (c .before .before .before .before .shown-sibling .ensures) (c .before .before .list-from .ensures)
 
 pub filtered-siblings-spec : {M : Type 1} → statement M
-filtered-siblings-spec = tie.close (tie.spec (λ c κs. search needs) returns (λ c κs. search needs) shown-sibling-requires list-from-requires (λ c. search needs) returns-2)
+filtered-siblings-spec = tie.close (tie.spec (λ c κs. search needs) (λ c κs. search needs) returns (λ c κs. search needs) shown-sibling-requires list-from-requires (λ c. search needs) returns-2)

@@ -19,15 +19,17 @@ abbrev μ-loop : tie.MeasureT-loop
 μ-loop ids n out₀ words i₀ out i = 2 * n - i
 
 returns : tie.Need-returns Inv-loop μ-loop
-returns c = let a = c .before .args in puts-short (now (a .ids)) (a .n) (c .before .pre) (now (a .out)) (c .if1 .taken)
+returns c =
+    let s = c .before .before .before .before in
+    rw (c .no-list .ensures) (puts-short (now (s .args .ids)) (s .args .n) (s .pre) (now (s .args .out)) (omega arith))
 
 loop-holds : tie.Need-loop-holds Inv-loop μ-loop
-loop-holds c = let a = c .before .args in (omega arith, omega arith, refl, paste-zero (now (a .out)) 0 (now (a .ids)))
+loop-holds c = let a = c .before .before .before .args in (omega arith, omega arith, refl, paste-zero (now (a .out)) 0 (now (a .ids)))
 
 loop-again : tie.Need-loop-again Inv-loop μ-loop
 loop-again c =
     let l = c .before .before .loop in
-    let s = c .before .before .before .before in
+    let s = c .before .before .before .before .before .before in
     let a = s .args in
     let here : 0 + l .i ≡ l .i = omega arith in (
       omega arith,
@@ -45,7 +47,7 @@ same-length c = c .before .loop .inv .2
 returns-2 : tie.Need-returns-2 Inv-loop μ-loop
 returns-2 c =
     let l = c .before .loop in
-    let s = c .before .before .before in
+    let s = c .before .before .before .before .before in
     puts-all (now (s .args .ids)) (s .args .n) (s .pre) (now (s .args .out)) (l .out) (l .i) (l .inv .1) (omega arith) (l .inv .3)
 
 pub put-spec : {M : Type 1} → statement M
@@ -55,6 +57,7 @@ put-spec =
     Inv-loop
     μ-loop
     (λ c. search needs)
+    (λ c κs. search needs)
     returns
     loop-holds
     (λ c. search needs)

@@ -9,7 +9,7 @@ use Rattle.iterators.proofs.siblings.Statement.{statement}
 use Rattle.iterators.proofs.siblings.Tie as tie
 
 returns : tie.Need-returns
-returns c = list-refused _ _ _ _ _ _ (c .before .asked .ensures .number-is) (c .if1 .taken)
+returns c = rw (c .no-list .ensures) (list-refused _ _ _ _ _ _ (c .before .before .asked .ensures .number-is) (c .before .if1 .taken))
 
 collect-siblings-requires : tie.Need-collect-siblings-requires
 collect-siblings-requires c κs =
@@ -25,4 +25,4 @@ returns-2 c =
     (puts-collected _ _ _ _ _ _ _ (c .before .before .before .before .before .before .collect-siblings .ensures) (c .before .before .put .ensures))
 
 pub siblings-spec : {M : Type 1} → statement M
-siblings-spec = tie.close (tie.spec (λ c κs. search needs) returns (λ c. search needs) collect-siblings-requires (λ c. search needs) put-requires (λ c. search needs) returns-2)
+siblings-spec = tie.close (tie.spec (λ c κs. search needs) (λ c κs. search needs) returns (λ c. search needs) collect-siblings-requires (λ c. search needs) put-requires (λ c. search needs) returns-2)

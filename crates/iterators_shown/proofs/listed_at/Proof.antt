@@ -36,7 +36,7 @@ loop-again c =
     let sound = c .before .before .before .before .before .pre .0 in
     let there = rw (l .inv .0) at (c .before .if1 .left) in (
       l .inv .0,
-      at-next _ _ sound (filterOf _ _) (l .here) _ (l .left) there (c .shown-after .ensures sound there) (c .before .before .loop-test .taken) ∙ l .inv .1,
+      at-next _ _ sound (filterOf _ _) (l .here) _ (l .left) there (c .shown-after .ensures sound there) (omega arith) ∙ l .inv .1,
     )
 
 returns-2 : tie.Need-returns-2 Inv-loop μ-loop

@@ -10,7 +10,7 @@ use Rattle.state_focus.specs.Focus.{foundOf}
 use Rattle.questions.specs.Kept.{walkList, walkNumber}
 use Rattle.node_asked.specs.Asks.{NodeAt}
 use Rattle.iterators_walk.specs.Steps.{numberFor}
-use Rattle.iterators_walk.proofs.Steps.{number-walk, numbers-ours, walk-few, step-refused, step-end, step-found, step-room, found-nothing, found-at, finds-asked}
+use Rattle.iterators_walk.proofs.Steps.{number-walk, numbers-ours, walk-few, step-refused, step-end, step-found, step-room, finds-asked}
 use Rattle.iterators_walk.proofs.step.Statement.{statement}
 use Rattle.iterators_walk.proofs.step.Tie as tie
 
@@ -40,7 +40,7 @@ place c = finds-asked _ _ (c .before .before .before .before .before .args .walk
 returns : tie.Need-returns
 returns c =
     let a = c .before .before .before .before .before .args in
-    c .stay .ensures ∙ step-refused (view (now (a .state))) (a .walk) _ (numbered (c .before .before)) (c .before .if1 .taken)
+    c .hand-out .ensures ∙ step-refused (view (now (a .state))) (a .walk) _ (numbered (c .before .before)) (c .before .if1 .taken)
 
 sibling-at-requires : tie.Need-sibling-at-requires
 sibling-at-requires c κs =
@@ -48,26 +48,21 @@ sibling-at-requires c κs =
     let there = c .before .before .asked .ensures .stands (ours .0) in
     (there .is-sound, (there .within, ours .1))
 
-add-t11 : tie.Need-add-t11
-add-t11 c =
-    let b = c .before .before .before .before in
-    let a = b .before .before .before .before .before .args in
-    let there = node-there b in
-    let few = walk-few (now (a .state)) (there .is-sound) _ (there .within) (a .walk) (sym (there .id-is)) in
-    let room = step-room (view (now (a .state))) (a .walk) _ few (found-at _ _ _ (place b) (c .before .before .x .given .1)) in
-    omega (arith, room)
-
 returns-2 : tie.Need-returns-2
 returns-2 c =
-    let b = c .before .before .before in
+    let b = c .before .before .before .before in
     let a = b .before .before .before .before .before .args in
-    c .stay2 .ensures ∙ step-end (view (now (a .state))) (a .walk) (zero-number b) (found-nothing _ _ (place b) (c .before .enum-told .given .1))
+    c .hand-out2 .ensures ∙ step-end (view (now (a .state))) (a .walk) (zero-number b) _ (place b) (c .before .enum-told .given .1)
 
 returns-3 : tie.Need-returns-3
 returns-3 c =
     let b = c .before .before .before .before in
     let a = b .before .before .before .before .before .args in
-    step-found (view (now (a .state))) (a .walk) (zero-number b) _ (found-at _ _ _ (place b) (c .before .before .x .given .1))
+    let there = node-there b in
+    let few = walk-few (now (a .state)) (there .is-sound) _ (there .within) (a .walk) (sym (there .id-is)) in
+    let room = step-room (view (now (a .state))) (a .walk) (zero-number b) _ (place b) _ few (c .before .enum-told2 .given .1) in
+    c .hand-out3 .ensures
+    ∙ step-found (view (now (a .state))) (a .walk) (zero-number b) _ (place b) _ _ (c .before .enum-told2 .given .1) (c .before .before .before .one-more .ensures room)
 
 pub step-spec : {M : Type 1} → statement M
 step-spec =
@@ -78,9 +73,10 @@ step-spec =
     (λ c κs. search needs)
     returns
     sibling-at-requires
+    (λ c κs. search needs)
     (λ c. search needs)
     (λ c κs. search needs)
     (λ c. search needs)
-    add-t11
+    (λ c κs. search needs)
     returns-2
     returns-3)
