@@ -1,5 +1,5 @@
 -- Laws of the calls: what the bytes decide, the lent slice, tree numbers, the blank state. Assumes nothing.
-use Rattle.update.proofs.Numbers.{first-row, first-found}
+use Rattle.update.proofs.Sound.{first-row, first-found}
 use mathlib.Core.Bool.{true, false, not}
 use mathlib.Core.List.{List, [], _∷_, _++_, map}
 use mathlib.Core.Option.{Option, none, some}

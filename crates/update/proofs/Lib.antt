@@ -5,7 +5,5 @@ pub mod Pass
 pub mod Focus
 pub mod Sound
 pub mod Reports
-pub mod Numbers
 pub mod Calls
 pub mod Cases
-pub mod Sorted

@@ -1,17 +1,16 @@
--- Laws of the reports: an accepted batch leaves exactly the nodes before it, with the added ones joined and the removed ones taken away;
--- each list is told of the old nodes and the batch; the lists are sorted; the lent slice keeps its length. Assumes nothing.
-use mathlib.Core.Bool.{Bool, true, false, not, _||_, false≢true}
+-- Laws of the reports: what the four lists hold, that they are sorted, and the lent slice. Assumes nothing.
+use mathlib.Core.Bool.{Bool, true, false, not, _||_, false≢true, true≢false}
 use mathlib.Core.List.{List, [], _∷_}
 use mathlib.Core.Option.{Option, none, some}
 use mathlib.Core.Path.{_≡_, refl, sym, ap, ap₂, _∙_}
 use Prim.Native.Nat.{ℕ, _≤_}
 use native.Mathlib.Omega.{arith}
 use lib.ListN.{length, length-append, length-drop}
-use Rattle.base.specs.Tests.{_&&_, if_then_else_, isSome, keep, sameOption, has, distinct}
-use Rattle.base.proofs.Tests.{both, joined, all-keep, has-keep}
-use Rattle.base.proofs.Lists.{all-map}
+use Rattle.base.specs.Tests.{_&&_, if_then_else_, isSome, keep, sameOption, has, distinct, all}
+use Rattle.base.proofs.Tests.{both, joined, all-keep, has-keep, all-member}
+use Rattle.base.proofs.Lists.{all-map, any-found}
 use Rattle.ids.specs.Ids.{sameNode, sameId, before}
-use Rattle.ids.proofs.Ids.{same-id→≡}
+use Rattle.ids.proofs.Ids.{same-id→≡, same-id-refl, same-id-sym, before-self, before-apart, before-trans}
 use Rattle.ids.specs.declared.FullNodeId.{FullNodeId}
 use Rattle.record.specs.Batch.{NodeData, fieldsOk, sameData, Batch, listedIds}
 use Rattle.record.proofs.Batch.{same-data-refl}
@@ -27,6 +26,41 @@ use Rattle.update.specs.Reports.{Changes, sorted, added, removed, isUpda
 use Rattle.update.proofs.Gone.{gone-old}
 use Rattle.update.proofs.Outcome.{old-written, present-outcome, bodyAfter, nodeAfter, find-old-outcome}
 use Rattle.update.proofs.Write.{listing-some}
+
+-- an id that comes before all of a list does not stand in it
+not-among : (x : FullNodeId) (xs : List FullNodeId) → all (before x) xs ≡ true → has sameId xs x ≡ false
+not-among x [] e = refl
+not-among x (y ∷ ys) e = rw (same-id-sym x y ∙ before-apart x y (both e .0)) (not-among x ys (both e .1))
+
+-- an id of a list comes after what comes before all of it
+comes-after : (y : FullNodeId) (xs : List FullNodeId) (x : FullNodeId) → all (before y) xs ≡ true → has sameId xs x ≡ true → before y x ≡ true
+comes-after y xs x e h = let f = any-found (sameId x) xs h in ap (before y) (same-id→≡ x (f .0) (f .2)) ∙ all-member (before y) xs (f .0) e (f .1)
+
+-- two sorted lists with the same members are the same list
+pub same-members : (xs ys : List FullNodeId) → sorted xs ≡ true → sorted ys ≡ true → ((z : FullNodeId) → has sameId xs z ≡ has sameId ys z) → xs ≡ ys
+unfolding sorted
+same-members [] [] p q h = refl
+same-members [] (y ∷ ys) p q h = absurd (false≢true (h y ∙ ap (λ (c : Bool). c || has sameId ys y) (same-id-refl y)))
+same-members (x ∷ xs) [] p q h = absurd (true≢false (sym (ap (λ (c : Bool). c || has sameId xs x) (same-id-refl x)) ∙ h x))
+same-members (x ∷ xs) (y ∷ ys) p q h = go (sameId x y) refl (same-members xs ys (both p .1) (both q .1))
+  where
+    go : (c : Bool) → sameId x y ≡ c → (((z : FullNodeId) → has sameId xs z ≡ has sameId ys z) → xs ≡ ys) → _≡_ {A = List FullNodeId} (x ∷ xs) (y ∷ ys)
+    go true e r = λ i. heads i ∷ r (λ z. rest z (sameId z x) refl) i
+      where
+        heads : x ≡ y
+        heads = same-id→≡ x y e
+
+        rest : (z : FullNodeId) (c : Bool) → sameId z x ≡ c → has sameId xs z ≡ has sameId ys z
+        rest z true f = rw (same-id→≡ z x f) (not-among x xs (both p .0) ∙ sym (rw heads (not-among y ys (both q .0))))
+        rest z false f =
+            sym (ap (λ (c : Bool). c || has sameId xs z) f) ∙ h z ∙ ap (λ (c : Bool). c || has sameId ys z) (ap (sameId z) (sym heads) ∙ f)
+    go false e r = absurd (true≢false (sym (before-trans x y x (comes-after x xs y (both p .0) later) (comes-after y ys x (both q .0) earlier)) ∙ before-self x))
+      where
+        earlier : has sameId ys x ≡ true
+        earlier = sym (ap (λ (c : Bool). c || has sameId ys x) e) ∙ sym (h x) ∙ ap (λ (c : Bool). c || has sameId xs x) (same-id-refl x)
+
+        later : has sameId xs y ≡ true
+        later = sym (ap (λ (c : Bool). c || has sameId xs y) (same-id-sym y x ∙ e)) ∙ h y ∙ ap (λ (c : Bool). c || has sameId ys y) (same-id-refl y)
 
 -- ## Added and removed
 

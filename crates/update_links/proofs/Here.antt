@@ -33,7 +33,7 @@ use Rattle.update_notes.specs.Says.{turnMark, namingMark, HolderIs, PositionIn,
 use Rattle.update_notes.proofs.Positions.{first-unique, first-cong, position-first, has-position, first-given-at}
 use Rattle.update_notes.proofs.Places.{forest-length, forest-node, forest-id}
 use Rattle.update_notes.proofs.Marks.{here-mine, turn-self, naming-none, naming-link}
-use Rattle.update_links.specs.Links.{namedLink, cutMark, graftLink, LinkHereIs, namedRow, namedBefore, Rises, Owns}
+use Rattle.update_links.specs.Links.{namedLink, cutMark, graftLink, LinkHereIs, namedRow, namedBefore, Rises, Owns, NewListed, newRow}
 use native.Mathlib.Decide.{decLt}
 use native.Mathlib.Numerals.{add-one}
 use lib.Seq.{take-length}
@@ -317,9 +317,25 @@ module _ {state bytes : List ℕ} {c : Scope} {notes : List ℕ} (told : Told CO
       ap₂ (λ (t : TreeIndex) (n : ℕ). record { tree = t; node = record { 0 = n } }) (told .given .scoped .tree) (told .written 0 (omega arith) i h)
 
   -- the naming of a number
-  pub naming-is : (n : NodeId) (r : ℕ) → PositionIn notes NAMED (c .named) (n .0) r
+  naming-is : (n : NodeId) (r : ℕ) → PositionIn notes NAMED (c .named) (n .0) r
       → (if ltb r (c .named) then suc r else 0) ≡ namingMark (forest state) (asked bytes c) (here (forest state) (asked bytes c) n)
   unfolding namedWord
   naming-is n r first =
       naming-mark-here (forest state) (asked bytes c) n (c .named) r (told .given .scoped .named)
       (first-cong _ _ (c .named) r (λ i l. ap (λ w. eqb w (n .0)) (told .written 1 (omega arith) i l)) first)
+
+  -- ## A listed node that is new
+
+  module _ (i : ℕ) {x : FullNodeId} (id : x ≡ here (forest state) (asked bytes c) (listedAt (asked bytes c) i .id)) where
+    -- its naming, from a search
+    pub new-naming : {j r : ℕ} → PositionIn notes NAMED (c .named) (x .node .0) j → r ≡ (if ltb j (c .named) then suc j else 0)
+        → r ≡ namingMark (forest state) (asked bytes c) x
+    unfolding here
+    new-naming {j} found e = e ∙ rw id (naming-is (listedAt (asked bytes c) i .id) j (rw id at found))
+
+    -- its link
+    pub new-row : {was r : LinkRow} → NewListed state bytes c i → was ≡ linkRow none → LinkHereIs state bytes c x was 0 r → r ≡ newRow state bytes c i
+    unfolding here cutMark
+    new-row new none-before f =
+        (rw id at f) none none-before (rw (new .new)) (λ _. refl)
+        ∙ ap linkRow (link-after-here (told .given .scoped) _ none (ap (λ (t : TreeIndex). t .0) (sym (told .given .scoped .tree))))

@@ -38,7 +38,7 @@ use Rattle.ids.proofs.Ids.{same-id→≡, same-id-refl}
 use Rattle.ids.specs.declared.FullNodeId.{FullNodeId}
 use Rattle.state.specs.Sound.{ascending}
 use Rattle.update.specs.Reports.{sorted}
-use Rattle.update.proofs.Sorted.{same-members}
+use Rattle.update.proofs.Reports.{same-members}
 use Rattle.state_array.specs.Stored.{noState}
 
 -- an ascending run is a sorted list

@@ -162,11 +162,11 @@ pub plan-end : {i j m k : ℕ} {state bytes : List ℕ} {c : Scope} {notes : Lis
 plan-end h p q = rw (p, q) at h
 
 -- a flag that is set, and one that is not
-flag-true : (t : Bool) → flag t ≡ 1 → t ≡ true
+pub flag-true : (t : Bool) → flag t ≡ 1 → t ≡ true
 flag-true true e = refl
 flag-true false e = absurd (omega arith)
 
-flag-false : (t : Bool) → (flag t ≡ 1 → ⊥) → t ≡ false
+pub flag-false : (t : Bool) → (flag t ≡ 1 → ⊥) → t ≡ false
 flag-false true e = absurd (e refl)
 flag-false false e = refl
 

@@ -1,4 +1,6 @@
 -- Laws of sources: where the data of an outcome's node comes from, by its code, its turn and whether it differs. Assumes nothing.
+use borrow.Author.Tests.{lt-ltb}
+use Rattle.update_plan.proofs.Planned.{flag-true, flag-false}
 use mathlib.Core.Bool.{Bool, true, false}
 use mathlib.Core.List.{List}
 use mathlib.Core.Path.{_≡_, refl, sym, ap, _∙_}
@@ -19,7 +21,7 @@ use Rattle.update_notes.specs.Setting.{Kept, asked, forest}
 use Rattle.update_notes.specs.Codes.{idAt, flag, differs, codeOf, sourceOf}
 use Rattle.update_notes.specs.Says.{turnMark, turnWord, differWord, codeWord, sourceWord, outcomeCount, Told}
 use Rattle.update_notes.proofs.Places.{slot-id, forest-length}
-use Rattle.update_notes.proofs.Marks.{turn-none, turn-is, turn-within}
+use Rattle.update_notes.proofs.Marks.{turn-none, turn-is, turn-within, turn-listed}
 use Rattle.update_outcome.proofs.Codes.{old-slot, code-slot, code-turn}
 use Rattle.update_plan.specs.Plan.{codeIn, CODED}
 
@@ -60,17 +62,13 @@ module _ (s : Forest) (b : Batch) (kept : Kept s) (x : FullNodeId) where
 
     -- one that is listed has the listed data where that differs
     module _ (t : ℕ) (e : turnMark s b x ≡ suc t) where
+      is-listed : listed s b x ≡ true
+      is-listed = turn-listed s b x ∙ rw (e, lt-ltb 0 (suc t) (omega arith))
+
       source-listed : (d : Bool) → differs s b (listedAt b t) ≡ d → sourceOf s b x ≡ (if d then 320 + t else codeOf s b x)
-      unfolding sourceOf codeOf _&&_ turnMark
-      source-listed d q = go (listed s b x) refl
-        where
-          go : (m : Bool) → listed s b x ≡ m → sourceOf s b x ≡ (if d then 320 + t else codeOf s b x)
-          go true m = on d q
-            where
-              on : (d : Bool) → differs s b (listedAt b t) ≡ d → sourceOf s b x ≡ (if d then 320 + t else codeOf s b x)
-              on true q = rw (code-low low, m, turn-is s b x t e, q)
-              on false q = rw (code-low low, m, turn-is s b x t e, q)
-          go false m = let none : turnMark s b x ≡ 0 = rw m in absurd (omega (arith, sym e ∙ none))
+      unfolding sourceOf codeOf _&&_
+      source-listed true q = rw (code-low low, is-listed, turn-is s b x t e, q)
+      source-listed false q = rw (code-low low, is-listed, turn-is s b x t e, q)
 
 -- ## What the notes say of the outcome's node r
 
@@ -133,16 +131,8 @@ module _ {state bytes : List ℕ} {c : Scope} {notes : List ℕ} (told : Told CO
       pub source-differs : getD notes (DIFFERS + (getD notes (TURNS + codeIn notes r) 0 - 1)) 0 ≡ 1
           → 320 + (getD notes (TURNS + codeIn notes r) 0 - 1) ≡ sourceWord state bytes c r
       unfolding sourceWord t
-      source-differs q = go (differs s b (listedAt b t)) refl
-        where
-          go : (d : Bool) → differs s b (listedAt b t) ≡ d → 320 + (getD notes (TURNS + codeIn notes r) 0 - 1) ≡ sourceOf s b x
-          go true f = sym (source-listed s b (told .given .kept) x low t mark true f)
-          go false f = absurd (omega (arith, sym q ∙ differ-at ∙ ap flag f))
+      source-differs q = sym (source-listed s b (told .given .kept) x low t mark true (flag-true _ (sym differ-at ∙ q)))
 
       pub source-same : (getD notes (DIFFERS + (getD notes (TURNS + codeIn notes r) 0 - 1)) 0 ≡ 1 → ⊥) → codeIn notes r ≡ sourceWord state bytes c r
       unfolding sourceWord t
-      source-same q = go (differs s b (listedAt b t)) refl
-        where
-          go : (d : Bool) → differs s b (listedAt b t) ≡ d → codeIn notes r ≡ sourceOf s b x
-          go true f = absurd (q (differ-at ∙ ap flag f))
-          go false f = code-is ∙ sym (source-listed s b (told .given .kept) x low t mark false f)
+      source-same q = code-is ∙ sym (source-listed s b (told .given .kept) x low t mark false (flag-false _ (λ f. q (differ-at ∙ f))))

@@ -1,4 +1,4 @@
--- Laws of what changed of a node: its link, its data, its mark. Assumes nothing.
+-- Laws of the outcome that stands in `next`, and of what changed of a node: its link, its data, its mark. Assumes nothing.
 use mathlib.Core.Bool.{Bool, true, false, not, _||_}
 use mathlib.Core.List.{List, [], _∷_}
 use mathlib.Core.Option.{Option, none, some}
@@ -33,7 +33,20 @@ use Rattle.update_notes.specs.Says.{turnMark, turnWord, differWord, codeWord, c
 use Rattle.update_notes.proofs.Places.{slot-old, slot-id, find-at, forest-length, forest-id, forest-link}
 use Rattle.update_notes.proofs.Marks.{turn-listed, turn-none, turn-within, turn-here, turn-listing}
 use Rattle.update_reports.specs.Outcomes.{Outcomes, PaneRootIs}
-use Rattle.update_reports.proofs.Outcomes.{shows, counted}
+use Rattle.state.specs.Sound.{ascending}
+
+module _ {k : ℕ} {state bytes : List ℕ} {c : Scope} {notes next : List ℕ} (given : Outcomes k state bytes c notes next) where
+  -- they are the outcome's
+  pub shows : forest next ≡ outcome (forest state) (asked bytes c)
+  shows = ap (λ a. a .forest) (given .next-is)
+
+  -- as many as slots
+  pub counted : slotsOf next ≡ outcomeCount state bytes c
+  counted = sym (forest-length next) ∙ ap (λ (f : Forest). length (f .nodes)) shows
+
+  -- in order, as before
+  pub ascending-next : ascending (forest next .nodes) ≡ true
+  ascending-next = rw shows (ascending-outcome (forest state) (asked bytes c) (given .told .given .kept .ascending))
 
 module _ (was next : LinkRow) where
   -- a link to no parent does not count as a change

@@ -1,4 +1,3 @@
-pub mod Outcomes
 pub mod Slice
 pub mod Changed
 pub mod Picked

@@ -26,8 +26,7 @@ use Rattle.update.specs.Gone.{gone}
 use Rattle.update.specs.Outcome.{paneRoot, outcome}
 use Rattle.update.specs.Reports.{sorted, added, removed, isUpdated, updated, isRelinked, relinked, changesWith, changesOf, Changes, noChanges, unlessIn, focusMoved, extraBefore, extraAfter}
 use Rattle.update.proofs.Outcome.{ascending-outcome}
-use Rattle.update.proofs.Reports.{removed-is, sorted-ids, sorted-keep}
-use Rattle.update.proofs.Sorted.{same-members}
+use Rattle.update.proofs.Reports.{removed-is, sorted-ids, sorted-keep, same-members}
 use Rattle.state_focus.specs.Focus.{foundOf}
 use Rattle.state_focus.specs.declared.FoundNode.{FoundNode}
 use Rattle.state_focus.specs.declared.FoundNode.the-variants as node
@@ -40,7 +39,7 @@ use Rattle.update_notes.specs.Says.{goesWord, changedWord, REPORTED}
 use Rattle.update_notes.proofs.Places.{slot-found, slot-present, slot-id, present-at, forest-length}
 use Rattle.update_reports.specs.Outcomes.{changesIn, Outcomes}
 use Rattle.update_reports.specs.Slice.{picked}
-use Rattle.update_reports.proofs.Outcomes.{shows, counted}
+use Rattle.update_reports.proofs.Changed.{shows, counted}
 use Rattle.update_reports.proofs.Slice.{picked-ids}
 use Rattle.state.specs.Focus.{stateFocus}
 use Rattle.update_reports.specs.declared.Report.{Report}

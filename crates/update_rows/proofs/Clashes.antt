@@ -1,20 +1,26 @@
 -- Laws of the listed nodes: row 5, and row 18. Assumes nothing.
+use borrow.Author.Count.{below-more}
+use native.Mathlib.Nat.{zero-add}
+use Rattle.base.proofs.Regions.{fill-put}
+use Rattle.base.specs.Search.{First}
+use Rattle.update_notes.proofs.Setting.{batched-facts}
+use Rattle.record.specs.Parse.{wellFormed}
 use mathlib.Core.Bool.{Bool, true, false, not, false≢true}
 use mathlib.Core.List.{List}
 use mathlib.Core.Option.{Option, none, some}
-use mathlib.Core.Path.{_≡_, refl, sym, ap, _∙_}
+use mathlib.Core.Path.{_≡_, refl, sym, ap, _∙_, ap₂}
 use Prim.Native.Nat.{ℕ, _+_, _≤_, _<_}
 use native.Mathlib.Omega.{arith}
 use lib.Dec.{eqb}
-use lib.ListN.{length, getD}
+use lib.ListN.{length, getD, set, replicate, length-replicate}
 use borrow.Author.Tests.{ltb-true, eq-eqb, ne-eqb}
 use Rattle.base.specs.Tests.{_&&_, isSome, distinct}
 use Rattle.base.proofs.Tests.{and-false, and-right, bit-is}
 use Rattle.record.specs.Batch.{sameData, Listed, Batch, listedIds}
-use Rattle.base.proofs.Loops.{Passing, any-at, any-passed}
+use Rattle.base.proofs.Loops.{Passing, any-at, any-passed, Filling, filling-begins, filling-goes}
 use Rattle.update_rows.specs.Rows.{clashes}
 use Rattle.ids.specs.declared.FullNodeId.{FullNodeId}
-use Rattle.record_reader.specs.Reader.{blank, listedAt, noNode}
+use Rattle.record_reader.specs.Reader.{blank, listedAt, noNode, batchIn}
 use Rattle.state.specs.State.{NodeState, Forest, find, present}
 use Rattle.state_array.specs.View.{slotsOf}
 use Rattle.update.specs.Words.{here}
@@ -43,15 +49,44 @@ module _ (b : Batch) where
   listed-ids = rw (← listed-length (b .nodes)) (list-of-each noNode (listedIds (b .nodes)) listedId (λ i l. sym (listed-at (b .nodes) i blank)))
 
   -- one stands there twice
-  pub twice-found : (h j : ℕ) → h < j → j < length (b .nodes) → sameNode (listedId h) (listedId j) ≡ true
-      → not (distinct sameNode (listedIds (b .nodes))) ≡ true
-  twice-found h j l m e = ap (λ ids. not (distinct sameNode ids)) (sym listed-ids) ∙ ap not (distinct-twice sameNode (length (b .nodes)) listedId h j l m e)
+  twice-found : (h j : ℕ) → h < j → j < length (b .nodes) → sameNode (listedId h) (listedId j) ≡ true → true ≡ not (distinct sameNode (listedIds (b .nodes)))
+  twice-found h j l m e = sym (ap (λ ids. not (distinct sameNode ids)) (sym listed-ids) ∙ ap not (distinct-twice sameNode (length (b .nodes)) listedId h j l m e))
 
-  -- each two differ
-  pub twice-none : ((j : ℕ) → j < length (b .nodes) → (h : ℕ) → h < j → sameNode (listedId h) (listedId j) ≡ false)
-      → not (distinct sameNode (listedIds (b .nodes))) ≡ false
-  twice-none e =
-      ap (λ ids. not (distinct sameNode ids)) (sym listed-ids) ∙ ap not (distinct-list-of sameNode (length (b .nodes)) listedId (λ h j l m. e j m h l))
+  -- the first i numbers are stored, and each two of them differ
+  pub record Listing (k i : ℕ) (seen : List ℕ) : Type 0 where
+    pub filling : Filling 0 64 k (λ j. listedId j .0) (replicate 64 0) i seen
+    pub apart : (j : ℕ) → j < i → (h : ℕ) → h < j → sameNode (listedId h) (listedId j) ≡ false
+
+-- none yet
+pub listing-begins : (bytes : List ℕ) {k : ℕ} → wellFormed bytes ≡ true → k ≡ length (batchIn bytes .nodes) → Listing (batchIn bytes) k 0 (replicate 64 0)
+listing-begins bytes formed e =
+    let facts = batched-facts bytes (batchIn bytes) (record { formed = formed; nodes = refl }) in
+    record { filling = filling-begins (omega (arith, facts .nodes-limit)); apart = λ j h. absurd (omega arith) }
+
+module _ {b : Batch} {k i : ℕ} {seen : List ℕ} (g : Listing b k i seen) where
+  -- one more, as a search among those before it answers
+  module _ (l : i < k) {x : NodeId} (id : x ≡ listedId b i) {p : ℕ} (first : First (λ j. eqb (getD seen j 0) (x .0)) i p) where
+    same : (h : ℕ) → h < i → eqb (getD seen h 0) (x .0) ≡ sameNode (listedId b h) (listedId b i)
+    unfolding sameNode
+    same h m =
+        let room : 0 + i ≤ length (replicate {A = ℕ} 64 0) = rw (length-replicate {A = ℕ} 64 0) (omega (arith, g .filling .few)) in
+        let stored = rw zero-add at (fill-put 0 (λ j. listedId b j .0) i (replicate 64 0) room h m) in
+        ap₂ eqb (ap (λ s. getD s h 0) (g .filling .filled) ∙ stored) (ap (λ (y : NodeId). y .0) id)
+
+    pub listing-found : k ≡ length (b .nodes) → p < i → true ≡ not (distinct sameNode (listedIds (b .nodes)))
+    listing-found e h = twice-found b p i h (omega arith) (sym (same p h) ∙ first .hit h)
+
+    pub listing-goes : i ≤ p → Listing b k (i + 1) (set seen i (x .0))
+    listing-goes past = record {
+      filling = rw zero-add at (filling-goes (g .filling) l (ap (λ (y : NodeId). y .0) id));
+      apart = below-more _ i (g .apart) (λ h m. sym (same h m) ∙ first .passed h (omega (arith, first .within)));
+    }
+
+  -- all of them
+  pub listing-ends : k ≡ length (b .nodes) → k ≤ i → false ≡ not (distinct sameNode (listedIds (b .nodes)))
+  listing-ends e done =
+      sym (ap (λ ids. not (distinct sameNode ids)) (sym (listed-ids b))
+      ∙ ap not (distinct-list-of sameNode (length (b .nodes)) (listedId b) (λ h j l m. g .apart j (omega (arith, g .filling .within)) h l)))
 
 -- ## A listed node
 

@@ -1,20 +1,20 @@
--- A batch that passed its rows gives the phases what they are given. Assumes nothing.
-use mathlib.Core.Bool.{Bool}
-use mathlib.Core.List.{List}
-use mathlib.Core.Option.{Option, none, some, Option·none-ne-some}
-use mathlib.Core.Path.{_≡_, refl, ap, _∙_}
-use Prim.Native.Nat.{ℕ}
+-- Laws of the scope of a batch, and of what the phases are given. Assumes nothing.
+use mathlib.Core.Bool.{Bool, true, false, not, false≢true}
+use mathlib.Core.List.{List, [], _∷_, _++_, map, append-nil}
+use mathlib.Core.Option.{Option, none, some, Option·none-ne-some, Option·some-injective}
+use mathlib.Core.Path.{_≡_, refl, ap, _∙_, sym}
+use Prim.Native.Nat.{ℕ, zero, suc, _+_, _<_}
 use native.Mathlib.Omega.{arith}
-use lib.ListN.{length}
-use Rattle.base.specs.Tests.{if_then_else_, isSome}
+use lib.ListN.{length, getD, take, length-append}
+use Rattle.base.specs.Tests.{if_then_else_, isSome, _&&_, isNone, position}
 use Rattle.ids.specs.declared.NodeId.{NodeId}
-use Rattle.record.specs.Batch.{Batch}
-use Rattle.record_reader.specs.Reader.{batchIn}
-use Rattle.state.specs.State.{Forest, find, linkAt}
+use Rattle.record.specs.Batch.{Batch, Listed, namedIds}
+use Rattle.record_reader.specs.Reader.{batchIn, blank, listedAt, fieldAt, rootOrZero}
+use Rattle.state.specs.State.{Forest, find, linkAt, TreeEntry, SubtreeState, subtreeState, subtreeFrom, subtreeOf}
 use Rattle.state.specs.Sound as sound
 use Rattle.state.proofs.Pool.{childTotal}
 use Rattle.state_array.specs.View.{view}
-use Rattle.update.specs.Words.{withTreeData}
+use Rattle.update.specs.Words.{withTreeData, number, here, rootAfter}
 use Rattle.update.specs.Calls.{seed, withoutTreeData}
 use Rattle.update_notes.specs.declared.Scope.{Scope}
 use Rattle.update_notes.specs.Setting.{Scoped, Kept, asked, Given}
@@ -22,6 +22,104 @@ use Rattle.update_notes.specs.Says.{Told}
 use Rattle.update_notes.proofs.Kept.{kept-sound}
 use Rattle.update_rows.specs.Rows.{firstNumber, startRows}
 use Rattle.update_rows.proofs.Numbers.{listable, first-passed, start-begun, start-listable}
+use native.Mathlib.Nat.{add-zero, zero-add}
+use native.Mathlib.Numerals.{add-one}
+use lib.Seq.{take-suc, take-length}
+use Rattle.base.proofs.Tests.{not-false}
+use Rattle.base.proofs.Lists.{none-of, some-from}
+use Rattle.ids.specs.Ids.{ROOT, sameTree}
+use Rattle.ids.specs.declared.TreeId.{TreeId}
+use Rattle.ids.specs.declared.FullNodeId.{FullNodeId}
+use Rattle.ids.proofs.Ids.{same-tree→≡}
+use Rattle.record.specs.Parse.{wellFormed}
+use Rattle.record.proofs.Batch.{named-append}
+use Rattle.record_reader.proofs.Reader.{first-child-is}
+use Rattle.state_lookup.specs.Lookup.{endsOf}
+use Rattle.state_lookup.specs.declared.Ends.{Ends}
+use Rattle.state_lookup.specs.declared.FoundTree.{FoundTree}
+use Rattle.state_lookup.specs.declared.FoundTree.the-variants as tree
+
+-- ## The children that are named
+
+-- none without nodes
+pub entries-none : (ls : List Listed) → length ls < 1 → 0 ≡ length (namedIds ls)
+unfolding namedIds
+entries-none [] h = refl
+entries-none (l ∷ ls) h = absurd (omega arith)
+
+-- they end where those of the last listed node end
+pub entries-last : (bytes : List ℕ) → wellFormed bytes ≡ true → (i : ℕ) → i + 1 ≡ length (batchIn bytes .nodes)
+    → fieldAt 2 bytes i 32 + length (listedAt (batchIn bytes) i .body .children) ≡ length (namedIds (batchIn bytes .nodes))
+unfolding listedAt namedIds
+entries-last bytes formed i e =
+    let ls = batchIn bytes .nodes in
+    let l : i < length ls = omega arith in
+    let all : take (suc i) ls ≡ ls = rw (← add-one i, e) (take-length ls) in
+    let split : namedIds ls ≡ namedIds (take i ls) ++ getD ls i blank .body .children =
+    ap namedIds (sym all ∙ take-suc ls i blank l) ∙ named-append (take i ls) (getD ls i blank ∷ []) ∙ ap (λ xs. namedIds (take i ls) ++ xs) (append-nil _) in
+    rw (first-child-is bytes formed i l) (sym (ap length split ∙ length-append (namedIds (take i ls)) _))
+
+-- ## The root as a batch leaves it
+
+-- the number of a tree that exists is its place in the table
+subtree-number : (k : ℕ) (ts : List TreeEntry) (t : TreeId) (u : SubtreeState) → subtreeFrom k ts t ≡ some u
+    → u .root .tree .0 ≡ k + position sameTree (map (λ e. e .id) ts) t
+unfolding subtreeFrom subtreeState
+subtree-number k [] t u e = absurd (Option·none-ne-some u e)
+subtree-number k (r ∷ ts) t u e = go (sameTree t (r .id)) e (subtree-number (suc k) ts t u)
+  where
+    go : (c : Bool)
+        → (if c then elim (r .subtree) as (λ _. Option SubtreeState) [ none ↦ none | some v ↦ some (subtreeState k v) ] else subtreeFrom (suc k) ts t) ≡ some u
+        → (subtreeFrom (suc k) ts t ≡ some u → u .root .tree .0 ≡ suc k + position sameTree (map (λ e. e .id) ts) t)
+        → u .root .tree .0 ≡ k + (if c then zero else suc (position sameTree (map (λ e. e .id) ts) t))
+    go true f h =
+        let z = some-from (r .subtree) (λ v. some (subtreeState k v)) u f in
+        sym (ap (λ (v : SubtreeState). v .root .tree .0) (Option·some-injective (subtreeState k (z .0)) u (z .2))) ∙ sym (add-zero k)
+    go false f h = omega (arith, h f)
+
+-- tree data has a root
+root-there : (o : Option NodeId) → isSome o ≡ true → o ≡ some (rootOrZero o)
+root-there none e = absurd (false≢true e)
+root-there (some r) e = refl
+
+module _ (s : Forest) (b : Batch) {v : Bool} (data-is : v ≡ isSome (b .root)) where
+  -- that of the tree data
+  pub root-given : {x : NodeId} → v ≡ true → x ≡ rootOrZero (b .root) → some (here s b x) ≡ rootAfter s b
+  unfolding rootAfter
+  root-given e q = rw q (sym (rw (root-there (b .root) (sym data-is ∙ e))))
+
+  module _ (without : v ≡ false) {t : TreeId} (tree-is : t ≡ b .tree) (f : FoundTree) (ends : endsOf f ≡ subtreeOf s t) where
+    -- the tree's own
+    own-root : rootAfter s b ≡ (elim (endsOf f) as (λ _. Option FullNodeId) [ none ↦ none | some u ↦ some (u .root) ])
+    unfolding rootAfter
+    own-root = rw (none-of (b .root) (ap not (sym data-is ∙ without)), ← tree-is, ends)
+
+    -- the tree does not exist
+    pub root-missing : f ≡ tree.Nothing → none ≡ rootAfter s b
+    unfolding endsOf
+    root-missing q = sym (own-root ∙ rw q)
+
+    -- it exists
+    pub root-own : {e : Ends} → f ≡ tree.At e → some (here s b (e .root .node)) ≡ rootAfter s b
+    unfolding endsOf here number subtreeOf
+    root-own {e} q =
+        let u : SubtreeState = record { root = e .root; focus = e .focus } in
+        let at : e .root .tree .0 ≡ position sameTree (map (λ t. t .id) (s .trees)) (b .tree) =
+        subtree-number 0 (s .trees) (b .tree) u (rw tree-is at (sym ends ∙ ap endsOf q)) ∙ zero-add _ in
+        sym (own-root ∙ rw q (ap (λ (k : ℕ). some (record { tree = record { 0 = k }; node = e .root .node })) at))
+
+-- ## A start
+
+module _ (b : Batch) (root : sameTree (b .tree) ROOT ≡ true) where
+  -- ROOT's number
+  pub start-number : record { 0 = 0 } ≡ number (seed b) (withoutTreeData b)
+  unfolding number seed withoutTreeData
+  start-number = rw root
+
+  -- ROOT's root
+  pub start-root : isNone (b .root) ≡ false → rootAfter (seed b) (withoutTreeData b) ≡ some (record { tree = record { 0 = 0 }; node = rootOrZero (b .root) })
+  unfolding rootAfter seed withoutTreeData subtreeOf subtreeFrom subtreeState sameTree _&&_
+  start-root e = rw (same-tree→≡ (b .tree) ROOT root, root-there (b .root) (not-false e))
 
 -- ## The batch that is asked
 

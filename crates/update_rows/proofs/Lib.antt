@@ -1,4 +1,3 @@
-pub mod Scopes
 pub mod Outcomes
 pub mod Clashes
 pub mod Numbers

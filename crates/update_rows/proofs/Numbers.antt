@@ -1,6 +1,6 @@
 -- How the numbers of the parts make the number of a batch: rows 1, 2 and 5 to 8, or 2 to 5 of a start, then 9 to 14, then the last.
 -- Assumes nothing.
-use Rattle.update.proofs.Numbers.{first-row, first-found}
+use Rattle.update.proofs.Sound.{first-row, first-found}
 use mathlib.Core.Bool.{Bool, true, false, not, _||_}
 use mathlib.Core.List.{List, [], _∷_}
 use mathlib.Core.Path.{_≡_, refl, sym, _∙_}

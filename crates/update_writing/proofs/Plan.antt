@@ -1,33 +1,36 @@
--- What the notes say to the writer: of node r its code, its id, its link, its data. Assumes nothing.
+-- What the notes say to the writer, of node r its code, its id, its link, its data; and the whole outcome. Assumes nothing.
 use Rattle.ids.specs.declared.FullNodeId.{FullNodeId}
 use mathlib.Core.List.{List}
 use mathlib.Core.Path.{_≡_, sym, _∙_, ap}
 use Prim.Native.Nat.{ℕ, _+_, _-_, _≤_, _<_}
 use native.Mathlib.Omega.{arith}
-use lib.ListN.{length, getD}
+use lib.ListN.{length, getD, replicate}
 use Rattle.record.specs.Batch.{Batch, NodeData, fieldsOk}
 use Rattle.record_reader.specs.Reader.{listedAt}
 use Rattle.state.specs.State.{Forest, NodeState}
 use Rattle.state_array.specs.View.{idIn, nodeIn}
-use Rattle.state_array.specs.Stored.{noState, entriesOf, bodyOf}
+use Rattle.state_array.specs.Stored.{noState, entriesOf, bodyOf, headWord, stored}
 use Rattle.update.specs.Words.{here}
 use Rattle.update.specs.Outcome.{linkAfter, outcome}
 use Rattle.update_notes.specs.declared.Scope.{Scope}
 use Rattle.update_notes.specs.Layout.{LISTED, COUNT, CODES, SOURCES}
 use Rattle.update_notes.specs.Setting.{asked, forest}
 use Rattle.update_notes.specs.Codes.{idAt, codeId, codeLink, Coded, SourceOf, codeOf, sourceOf, nodeAt}
-use Rattle.update_notes.specs.Says.{Told, COMPARED, PLANNED, listedWord, codeWord, sourceWord}
+use Rattle.update_notes.specs.Says.{Told, COMPARED, PLANNED, listedWord, codeWord, sourceWord, outcomeState}
 use Rattle.update_notes.proofs.Places.{forest-length, forest-id, forest-node}
 use Rattle.update_notes.proofs.Told.{few-listed, few-named, few-after, batched}
 use Rattle.update_outcome.proofs.Codes.{code-old, code-new, coded, code-id}
 use Rattle.update_outcome.proofs.Nodes.{code-link, source-of}
-use Rattle.update_outcome.proofs.Room.{entries-few}
-use Rattle.update_writing.specs.Written.{nodesAfter}
+use Rattle.update_outcome.proofs.Room.{entries-few, trees-few}
+use Rattle.update_writing.specs.Written.{nodesAfter, nodesWritten, childrenWritten}
 use native.Mathlib.Decide.{decLt}
 use Rattle.state_array.specs.declared.Body.{Body}
 use Rattle.update_notes.proofs.Setting.{batched-at}
 use Rattle.base.proofs.Lists.{all-at}
 use Rattle.update_bodies.specs.Bodies.{BodyIs}
+use Rattle.base.specs.Regions.{fill}
+use Rattle.state_array.proofs.Filled.{filled-stored}
+use Rattle.update_trees.specs.Trees.{treesAfter, treesWritten}
 
 module _ {state bytes : List ℕ} {c : Scope} {notes : List ℕ} (told : Told PLANNED state bytes c notes) where
   abbrev s : Forest
@@ -124,3 +127,11 @@ module _ {state bytes : List ℕ} {c : Scope} {notes : List ℕ} (told : Told PL
           let record-of = batched state bytes c (told .given) in
           is .read past (told .given .formed) (rw (record-of .nodes) at (from .0)) .is
           ∙ rw (batched-at bytes (asked bytes c) record-of (source - 320)) (ap bodyOf (from .1))
+
+pub outcome-written : {state bytes : List ℕ} {c : Scope} {notes : List ℕ} → Told PLANNED state bytes c notes → {blank nodes children trees end : List ℕ}
+    → blank ≡ replicate 9640 0 → nodes ≡ nodesWritten (nodesAfter state bytes c) blank → children ≡ childrenWritten (nodesAfter state bytes c) nodes
+    → trees ≡ treesWritten (treesAfter state bytes c) children → end ≡ fill 0 3 (headWord (outcomeState state bytes c)) trees → end ≡ stored (outcomeState state bytes c)
+outcome-written {state} {bytes} {c} told z n k t h =
+    rw (h, t, k, n, z)
+    (filled-stored (outcomeState state bytes c) (nodes-room told)
+    (trees-few (forest state) (asked bytes c) (told .given .kept) (told .given .numbered)) (entries-room told))

@@ -1,7 +1,7 @@
 -- `update_reports::unless_after` meets its contract: the marks pick the added and the updated nodes. Assumes nothing.
 use Rattle.state_focus.specs.Focus.{foundOf}
 use Rattle.update_reports.proofs.Picked.{after-marked, after-unmarked, unless-none}
-use Rattle.update_reports.proofs.Outcomes.{ascending-next}
+use Rattle.update_reports.proofs.Changed.{ascending-next}
 use native.Mathlib.Omega.{arith}
 use borrow.Author.Needs.{needs}
 use Rattle.update_reports.proofs.unless_after.Statement.{statement}

@@ -1,7 +1,7 @@
 -- `update_reports::unless_before` meets its contract: the marks pick the updated and the removed nodes. Assumes nothing.
 use Rattle.state_focus.specs.Focus.{foundOf}
 use Rattle.update_reports.proofs.Picked.{before-marked, before-unmarked, unless-none}
-use Rattle.update_reports.proofs.Outcomes.{ascending-next}
+use Rattle.update_reports.proofs.Changed.{ascending-next}
 use native.Mathlib.Omega.{arith}
 use borrow.Author.Needs.{needs}
 use Rattle.update_reports.proofs.unless_before.Statement.{statement}

@@ -4,7 +4,7 @@ use Prim.Native.Nat.{_-_}
 use Rattle.update_notes.specs.Layout.{CHANGED}
 use Rattle.update_notes.specs.Says.{changedWord, PLANNED}
 use Rattle.update_notes.proofs.Told.{told-filled, few-after, told-fill}
-use Rattle.update_reports.proofs.Outcomes.{counted}
+use Rattle.update_reports.proofs.Changed.{counted}
 use borrow.Author.Needs.{needs}
 use native.Mathlib.Omega.{arith}
 use Rattle.base.proofs.Loops.{Filling, filling-begins, filling-goes, filling-ends}

@@ -5,7 +5,7 @@ use Prim.Native.Nat.{_+_, _-_}
 use lib.ListN.{length}
 use Rattle.record_reader.specs.Reader.{batchIn}
 use Rattle.update_reading.proofs.Reading.{end-small}
-use Rattle.update_rows.proofs.Scopes.{entries-none, entries-last}
+use Rattle.update_rows.proofs.Given.{entries-none, entries-last}
 use borrow.Author.Needs.{needs}
 use native.Mathlib.Omega.{arith}
 use Rattle.update_rows.proofs.entries_of.Statement.{statement}

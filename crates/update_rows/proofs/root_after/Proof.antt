@@ -1,5 +1,5 @@
 -- `update_rows::root_after` meets its contract: a law for each way out. Assumes nothing.
-use Rattle.update_rows.proofs.Scopes.{root-given, root-missing, root-own}
+use Rattle.update_rows.proofs.Given.{root-given, root-missing, root-own}
 use borrow.Author.Needs.{needs}
 use Rattle.update_rows.proofs.root_after.Statement.{statement}
 use Rattle.update_rows.proofs.root_after.Tie as tie

@@ -5,7 +5,7 @@ use Rattle.record_reader.specs.Reader.{batchIn}
 use Rattle.update.specs.Words.{withTreeData}
 use Rattle.update.specs.Calls.{withoutTreeData}
 use Rattle.update_notes.specs.Setting.{rootIn}
-use Rattle.update_rows.proofs.Scopes.{start-number, start-root}
+use Rattle.update_rows.proofs.Given.{start-number, start-root}
 use Rattle.update_rows.proofs.Numbers.{start-begun}
 use borrow.Author.Needs.{needs}
 use Rattle.update_rows.proofs.start_scope.Statement.{statement}

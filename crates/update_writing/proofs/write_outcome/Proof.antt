@@ -1,5 +1,5 @@
 -- `update_writing::write_outcome` meets its contract: what the four writers leave is the image. Assumes nothing.
-use Rattle.update_writing.proofs.Written.{outcome-written}
+use Rattle.update_writing.proofs.Plan.{outcome-written}
 use borrow.Author.Needs.{needs}
 use Rattle.update_writing.proofs.write_outcome.Statement.{statement}
 use Rattle.update_writing.proofs.write_outcome.Tie as tie
