@@ -1,18 +1,18 @@
 -- Laws of what the accessors answer. Assumes nothing.
-use mathlib.Core.Bool.{Bool, true, false, true≢false, false≢true}
+use mathlib.Core.Bool.{true, false, true≢false, false≢true}
 use mathlib.Core.List.{List}
-use mathlib.Core.Option.{none, some}
+use mathlib.Core.Option.{some}
 use mathlib.Core.Path.{_≡_, refl, sym, ap, _∙_}
 use Prim.Native.Nat.{ℕ, _+_, _-_, min, _≤_, _<_}
 use native.Mathlib.Omega.{arith}
-use lib.Dec.{ltb}
+use lib.Ieee.{Float, ofBits, binary64}
 use lib.ListN.{length, getD, take, drop, List·getD-eq-default}
-use borrow.Author.Tests.{ltb-true, ltb-false, lt-ltb, le-ltb}
-use Rattle.base.specs.Tests.{if_then_else_, isSome}
+use borrow.Author.Tests.{lt-ltb, le-ltb}
+use Rattle.base.specs.Tests.{isSome}
 use Rattle.base.specs.Bytes.{le}
+use Rattle.base.proofs.Cases.{by-test, by-order}
 use Rattle.base.proofs.Tests.{is-some-if}
 use Rattle.base.proofs.Bytes.{length-list-of, list-of-at, part-cut}
-use Rattle.ids.specs.declared.NodeId.{NodeId}
 use Rattle.record.specs.Batch.{Listed, Batch, namedIds}
 use Rattle.record.specs.Layout.{nodeCount, entryCount, hasTreeData, treeRoot, recordAt, entryAt, labelsAt, childCount, labelStart, labelLength}
 use Rattle.record.specs.Parse.{nodeOf, wellFormed, parse}
@@ -40,21 +40,11 @@ root-there s = sym (is-some-if (hasTreeData s) _)
 module _ (s : List ℕ) where
   pub root-given : isSome (batchIn s .root) ≡ true → rootOrZero (batchIn s .root) ≡ record { 0 = treeRoot s }
   unfolding batchIn
-  root-given h = go (hasTreeData s) h
-    where
-      go : (t : Bool) → isSome {A = NodeId} (if t then some (record { 0 = treeRoot s }) else none) ≡ true
-          → rootOrZero (if t then some (record { 0 = treeRoot s }) else none) ≡ record { 0 = treeRoot s }
-      go true e = refl
-      go false e = absurd (false≢true e)
+  root-given h = by-test (hasTreeData s) (λ t. rw t) (λ t. absurd (false≢true (rw t at h)))
 
   pub root-missing : isSome (batchIn s .root) ≡ false → rootOrZero (batchIn s .root) ≡ noNode
   unfolding batchIn
-  root-missing h = go (hasTreeData s) h
-    where
-      go : (t : Bool) → isSome {A = NodeId} (if t then some (record { 0 = treeRoot s }) else none) ≡ false
-          → rootOrZero (if t then some (record { 0 = treeRoot s }) else none) ≡ noNode
-      go true e = absurd (true≢false e)
-      go false e = refl
+  root-missing h = by-test (hasTreeData s) (λ t. absurd (true≢false (rw t at h))) (λ t. rw t)
 
 -- ## Nodes
 
@@ -81,11 +71,14 @@ module _ (s : List ℕ) (i : ℕ) where
   pub field-is : {A : Type 0} (w offset : ℕ) (g : ℕ → A) (f : Listed → A) → g 0 ≡ f blank → g (le w s (recordAt i + offset)) ≡ f (nodeOf s i)
       → g (fieldAt w s i offset) ≡ f (listedAt (batchIn s) i)
   unfolding fieldAt
-  field-is w offset g f z e = go (ltb i (nodeCount s)) refl
-    where
-      go : (t : Bool) → ltb i (nodeCount s) ≡ t → g (if t then le w s (recordAt i + offset) else 0) ≡ f (listedAt (batchIn s) i)
-      go true h = e ∙ sym (ap f (listed-here (ltb-true i (nodeCount s) h)))
-      go false h = z ∙ sym (ap f (listed-past (ltb-false i (nodeCount s) h)))
+  field-is w offset g f z e =
+      by-order i (nodeCount s) (λ l. rw (lt-ltb i (nodeCount s) l) (e ∙ sym (ap f (listed-here l))))
+      (λ l. rw (le-ltb i (nodeCount s) l) (z ∙ sym (ap f (listed-past l))))
+
+  -- so of a float
+  pub float-is : {w : ℕ} {r : Float} (offset : ℕ) (f : Listed → Float) → w ≡ fieldAt 8 s i offset → r ≡ ofBits binary64 w
+      → ofBits binary64 0 ≡ f blank → ofBits binary64 (le 8 s (recordAt i + offset)) ≡ f (nodeOf s i) → r ≡ f (listedAt (batchIn s) i)
+  float-is offset f word read z e = read ∙ ap (ofBits binary64) word ∙ field-is 8 offset (ofBits binary64) f z e
 
   -- ## Children and labels
 
@@ -94,15 +87,11 @@ module _ (s : List ℕ) (i : ℕ) where
 
   pub child-here : (k : ℕ) → k < fieldAt 2 s i 34
       → record { 0 = le 8 s (entryAt s (fieldAt 2 s i 32 + k)) } ≡ getD (listedAt (batchIn s) i .body .children) k noNode
-  child-here k h = go (ltb i (nodeCount s)) refl
-    where
-      go : (t : Bool) → ltb i (nodeCount s) ≡ t
-          → record { 0 = le 8 s (entryAt s (fieldAt 2 s i 32 + k)) } ≡ getD (listedAt (batchIn s) i .body .children) k noNode
-      go true e =
-          let in-batch : i < nodeCount s = ltb-true i (nodeCount s) e in
-          let in-node : k < childCount s (recordAt i) = rw (field-here 2 34 refl in-batch) at h in
-          rw (listed-here in-batch, field-here 2 32 refl in-batch) (sym (list-of-at (childCount s (recordAt i)) k _ noNode in-node))
-      go false e = let none-there : k < 0 = rw (field-past 2 34 refl (ltb-false i (nodeCount s) e)) at h in let no : ⊥ = omega arith in absurd no
+  child-here k h =
+      by-order i (nodeCount s)
+      (λ l. let in-node : k < childCount s (recordAt i) = rw (field-here 2 34 refl l) at h in
+      rw (listed-here l, field-here 2 32 refl l) (sym (list-of-at (childCount s (recordAt i)) k _ noNode in-node)))
+      (λ l. absurd (omega (arith, field-past 2 34 refl l)))
 
   pub child-past : (k : ℕ) → fieldAt 2 s i 34 ≤ k → noNode ≡ getD (listedAt (batchIn s) i .body .children) k noNode
   child-past k h = sym (List·getD-eq-default (listedAt (batchIn s) i .body .children) noNode (rw (← children-count) h))

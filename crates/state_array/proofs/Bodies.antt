@@ -2,16 +2,17 @@
 use mathlib.Core.Bool.{true}
 use mathlib.Core.List.{List}
 use mathlib.Core.Path.{_≡_, _∙_}
-use Prim.Native.Nat.{ℕ, zero, suc, _+_, _*_, _/_, _%_, _^_, _-_, _≤_, _<_, min}
+use Prim.Native.Nat.{ℕ, _+_, _*_, _/_, _%_, _^_, _-_, _≤_, _<_, min}
 use native.Mathlib.Omega.{arith}
 use lib.ListN.{length, getD, List·getD-eq-default}
 use borrow.Author.Tests.{lt-ltb}
 use Rattle.base.specs.Floats.{isFinite}
-use Rattle.base.proofs.Tests.{both}
-use Rattle.base.proofs.Bytes.{length-list-of, list-of-at}
+use Rattle.base.specs.Bytes.{allBelow}
+use Rattle.base.proofs.Tests.{and-true}
+use Rattle.base.proofs.Bytes.{length-list-of, list-of-at, all-below-at, all-below-none}
 use Rattle.geometry.specs.Geometry.{rectTest, affineTest}
 use Rattle.record.specs.Batch.{fieldsOk}
-use Rattle.record.proofs.Batch.{FieldRules, field-rules}
+use Rattle.record.proofs.Batch.{field-rules}
 use Rattle.state_array.specs.Layout.{word, child}
 use Rattle.state_array.specs.View.{idIn, shapeIn, childrenOf, labelByte, labelIn, floatIn, boundsIn, transformIn, bodyIn}
 use Rattle.state_array.specs.Stored.{labelWord}
@@ -43,21 +44,9 @@ module _ (s : List ℕ) (i : ℕ) where
 
   -- the floats are finite where the fields obey the rules
   pub floats-finite : fieldsOk (bodyIn s i) ≡ true → (k : ℕ) → k < 10 → isFinite (floatIn s i k) ≡ true
-  unfolding bodyIn boundsIn transformIn rectTest affineTest
-  floats-finite ok k h = at k h
-    where
-      r : FieldRules (bodyIn s i)
-      r = field-rules (bodyIn s i) ok
-
-      at : (k : ℕ) → k < 10 → isFinite (floatIn s i k) ≡ true
-      at zero h = both (both (both (r .finite-bounds) .0) .0) .0
-      at (suc zero) h = both (both (both (r .finite-bounds) .0) .0) .1
-      at (suc (suc zero)) h = both (both (r .finite-bounds) .0) .1
-      at (suc (suc (suc zero))) h = both (r .finite-bounds) .1
-      at (suc (suc (suc (suc zero)))) h = both (both (both (both (both (r .finite-transform) .0) .0) .0) .0) .0
-      at (suc (suc (suc (suc (suc zero))))) h = both (both (both (both (both (r .finite-transform) .0) .0) .0) .0) .1
-      at (suc (suc (suc (suc (suc (suc zero)))))) h = both (both (both (both (r .finite-transform) .0) .0) .0) .1
-      at (suc (suc (suc (suc (suc (suc (suc zero))))))) h = both (both (both (r .finite-transform) .0) .0) .1
-      at (suc (suc (suc (suc (suc (suc (suc (suc zero)))))))) h = both (both (r .finite-transform) .0) .1
-      at (suc (suc (suc (suc (suc (suc (suc (suc (suc zero))))))))) h = both (r .finite-transform) .1
-      at (suc (suc (suc (suc (suc (suc (suc (suc (suc (suc k)))))))))) h = absurd (omega arith)
+  unfolding bodyIn boundsIn transformIn rectTest affineTest allBelow
+  floats-finite ok k h =
+      let r = field-rules (bodyIn s i) ok in
+      let bounds = simp and-true at (r .finite-bounds) in
+      let transform = simp and-true at (r .finite-transform) in
+      all-below-at (λ j. isFinite (floatIn s i j)) 10 k (simp and-true (search all-below-none)) h

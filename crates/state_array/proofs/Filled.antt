@@ -44,11 +44,11 @@ fitting ps = all (λ p. leb (p .used) (p .size)) ps
 sizes-with : (ps : List Part) (j n : ℕ) (f : ℕ → ℕ) → sizes (withPart ps j n f) ≡ sizes ps
 sizes-with [] j n f = refl
 sizes-with (p ∷ ps) zero n f = refl
-sizes-with (p ∷ ps) (suc j) n f = ap {B = List ℕ} (λ l. p .size ∷ l) (sizes-with ps j n f)
+sizes-with (p ∷ ps) (suc j) n f = rw (sizes-with ps j n f)
 
 sizes-blanks : (ns : List ℕ) → sizes (blanks ns) ≡ ns
 sizes-blanks [] = refl
-sizes-blanks (n ∷ ns) = ap {B = List ℕ} (λ l. n ∷ l) (sizes-blanks ns)
+sizes-blanks (n ∷ ns) = rw (sizes-blanks ns)
 
 -- what the sizes settle: where a part starts, and that there is room for what is to be filled in
 abbrev startIn : List ℕ → ℕ → ℕ
@@ -59,7 +59,7 @@ startIn (n ∷ ns) (suc j) = n + startIn ns j
 start-in : (ps : List Part) (j : ℕ) → startOf ps j ≡ startIn (sizes ps) j
 start-in [] j = refl
 start-in (p ∷ ps) zero = refl
-start-in (p ∷ ps) (suc j) = ap (λ n. p .size + n) (start-in ps j)
+start-in (p ∷ ps) (suc j) = rw (start-in ps j)
 
 size-in : (ps : List Part) (j : ℕ) → partOf ps j .size ≡ getD (sizes ps) j 0
 size-in [] j = refl
@@ -148,5 +148,3 @@ pub filled-stored : (a : State) → length (a .forest .nodes) ≤ 320 → length
 unfolding listOf _&&_
 filled-stored a few fewTrees room =
     filled-in-order a few fewTrees room (6 ∷ 7 ∷ 8 ∷ 9 ∷ 10 ∷ 11 ∷ 12 ∷ 13 ∷ 14 ∷ 16 ∷ 17 ∷ 18 ∷ 19 ∷ 20 ∷ 21 ∷ 22 ∷ 23 ∷ 24 ∷ 25 ∷ 26 ∷ 27 ∷ 28 ∷ 29 ∷ 30 ∷ 31 ∷ 32 ∷ 33 ∷ 15 ∷ 34 ∷ 1 ∷ 2 ∷ 3 ∷ 4 ∷ 5 ∷ 0 ∷ []) refl refl
-
--- ## Regions with the same words

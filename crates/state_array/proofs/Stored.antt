@@ -43,8 +43,6 @@ module _ (size used : ℕ) (ps : List Part) where
       ∙ getD-append-add (wordsOf (part size used (w 0))) (image (listOf n (λ j. part size used (w (suc j))) ++ ps)) (size * n + k) 0
       ∙ table-past n (λ j. w (suc j)) k
 
--- ## How long an image is
-
 module _ (a : State) where
   -- ## The four regions
 
@@ -129,5 +127,3 @@ module _ (a : State) where
     stored-child l =
         child-there (stored a) own j (omega arith) ∙ child-place j (omega arith)
         ∙ part-at (part 512 (length (entriesOf (a .forest .nodes))) (λ j. getD (entriesOf (a .forest .nodes)) j noNode .0)) j (omega arith) l
-
--- ## The host flag is one word

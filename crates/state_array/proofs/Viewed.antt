@@ -1,17 +1,17 @@
 -- The state that an image stands for is the one that it is the image of. Assumes nothing.
-use mathlib.Core.Bool.{true, not}
-use mathlib.Core.List.{List, [], _∷_}
+use mathlib.Core.Bool.{not}
 use mathlib.Core.Option.{Option, none, some}
 use mathlib.Core.Path.{_≡_, refl, ap, _∙_}
 use Prim.Native.Nat.{ℕ, zero, suc, _+_, _*_, _/_, _%_, _<_, min}
 use native.Mathlib.Omega.{arith}
 use lib.Dec.{eqb}
-use lib.Ieee.{Float, fits, ofBits, toBits, binary64}
+use lib.Ieee.{fits, ofBits, toBits, binary64}
 use lib.ListN.{length, getD}
 use borrow.Author.Tests.{lt-ltb}
-use Rattle.base.specs.Tests.{if_then_else_, all}
+use Rattle.base.specs.Tests.{if_then_else_}
 use Rattle.base.specs.Bytes.{listOf}
-use Rattle.base.proofs.Tests.{both, bit-set}
+use Rattle.base.proofs.Tests.{bit-set}
+use Rattle.base.proofs.Lists.{all-at}
 use Rattle.base.proofs.Columns.{list-of-each}
 use Rattle.ids.specs.declared.NodeId.{NodeId}
 use Rattle.record.proofs.Batch.{field-rules}
@@ -45,13 +45,6 @@ tree-id : (o : Option Subtree) (e : TreeEntry) → e .subtree ≡ o → treeRow 
 unfolding treeRow
 tree-id none e q = rw q
 tree-id (some u) e q = rw q
-
--- ## A float of a list of ten
-
-fits-at : (d : Float) (xs : List Float) (k : ℕ) → all (fits binary64) xs ≡ true → k < length xs → fits binary64 (getD xs k d) ≡ true
-fits-at d [] k h l = absurd (omega arith)
-fits-at d (x ∷ xs) zero h l = both h .0
-fits-at d (x ∷ xs) (suc k) h l = fits-at d xs k (both h .1) (omega arith)
 
 module _ (a : State) (fit : Fits a) where
   -- ## A node
@@ -122,7 +115,7 @@ module _ (a : State) (fit : Fits a) where
     unfolding floatsOf
     float-stored k h e =
         ap (ofBits binary64) (at (18 + k) (omega arith) ∙ e)
-        ∙ float-forth (getD (floatsOf (n .body)) k (ofBits binary64 0)) (fits-at (ofBits binary64 0) (floatsOf (n .body)) k (fit .each i l .body .floats) h)
+        ∙ float-forth (getD (floatsOf (n .body)) k (ofBits binary64 0)) (all-at (fits binary64) (floatsOf (n .body)) (ofBits binary64 0) (fit .each i l .body .floats) k h)
 
     node-stored : nodeIn (stored a) i ≡ n
     unfolding nodeIn bodyIn boundsIn transformIn shapeIn nodeWord rowOf bodyOf floatsOf listOf

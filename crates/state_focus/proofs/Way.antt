@@ -14,8 +14,8 @@ use Rattle.base.specs.Search.{First}
 use Rattle.base.proofs.Tests.{not-true, not-false}
 use Rattle.base.proofs.Bytes.{length-list-of}
 use Rattle.ids.specs.Ids.{ROOT}
-use Rattle.ids.specs.declared.FullNodeId.{FullNodeId}
 use Rattle.ids.specs.declared.NodeId.{NodeId}
+use Rattle.ids.specs.declared.FullNodeId.{FullNodeId}
 use Rattle.record.specs.Batch.{graft?, activeDescendant?}
 use Rattle.state.specs.State.{NodeState, Forest, graftAt, subtreeOf}
 use Rattle.state.specs.Focus.{throughGrafts, effectiveFocus, orActiveDescendant, stateFocus}

@@ -91,7 +91,8 @@ module _ (s : List ℕ) where
       unfolding countedAll countedBelow
       linked-below p e =
           let there : r < slotsOf s = rw slots at h in
-          e ∙ sym (counted-on f (startIn s) [] (slotsOf s) (omega arith) (told ∙ eq-eqb (l .linked) 0 p) ∙ rw (append-nil (belowId f (startIn s .id)), below-there s (startIn s .id) r found there))
+          e ∙ sym (counted-on f (startIn s) [] (slotsOf s) (omega arith) (told ∙ eq-eqb (l .linked) 0 p)
+          ∙ rw (append-nil (belowId f (startIn s .id)), below-there s (startIn s .id) r found there))
 
   -- ## The focus
 

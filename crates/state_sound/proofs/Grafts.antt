@@ -57,7 +57,8 @@ module _ (s : List ℕ) where
   none-is : (t : TreeId) (n : ℕ) → noneGrafts s t n ≡ not (any (sameTree t) (given (graftIn s) (listOf n (λ i. i))))
   unfolding noneGrafts
   none-is t n =
-      all-below-cong n _ _ (λ i l. ap not (grafts-is t i)) ∙ sym (all-indexed _ n (λ i. i)) ∙ all-not _ (listOf n (λ i. i)) ∙ ap not (sym (any-given (sameTree t) (graftIn s) (listOf n (λ i. i))))
+      all-below-cong n _ _ (λ i l. ap not (grafts-is t i)) ∙ sym (all-indexed _ n (λ i. i)) ∙ all-not _ (listOf n (λ i. i))
+      ∙ ap not (sym (any-given (sameTree t) (graftIn s) (listOf n (λ i. i))))
 
   -- a node that is no graft is new, and a graft where none before it grafts its tree
   new-none : (i : ℕ) → bit 8 (shapeIn s i .flags) ≡ false → newIn s i ≡ true
@@ -75,7 +76,15 @@ module _ (s : List ℕ) where
   differ-is (suc n) =
       by-option (graftIn s n)
       (λ e. rw (← add-one n, given-none (graftIn s) n (λ i. i) e, differ-is n, e, newIn) (sym (and-right (allBelow n (newIn s)))))
-      (λ g e. rw (← add-one n, given-some (graftIn s) n (λ i. i) g e, distinct-last sameTree same-tree-swap (given (graftIn s) (listOf n (λ i. i))) g, differ-is n, ← none-is g n, e, newIn))
+      (λ g e. rw (
+        ← add-one n,
+        given-some (graftIn s) n (λ i. i) g e,
+        distinct-last sameTree same-tree-swap (given (graftIn s) (listOf n (λ i. i))) g,
+        differ-is n,
+        ← none-is g n,
+        e,
+        newIn,
+      ))
 
   -- so no tree is grafted twice where each graft is new
   grafts-differ : graftsDiffer (view s .forest .nodes) ≡ allBelow (slotsOf s) (newIn s)

@@ -10,6 +10,7 @@ use native.Mathlib.Omega.{arith}
 use lib.ListN.{drop, drop-of-length-le}
 use Rattle.base.specs.Bytes.{bit, listOf}
 use Rattle.base.proofs.Tests.{call-true, call-false}
+use Rattle.ids.specs.declared.TreeId.{TreeId}
 use Rattle.ids.specs.declared.NodeId.{NodeId}
 use Rattle.ids.specs.declared.FullNodeId.{FullNodeId}
 use Rattle.state_array.specs.declared.ShapeRow.{ShapeRow}
@@ -17,7 +18,6 @@ use Rattle.record.specs.Batch.{graft?}
 use Rattle.state_array.specs.Layout.{child}
 use Rattle.state.specs.State.{SubtreeState, subtreeOf}
 use Rattle.state.specs.Down.{Met, metUnder, childrenMet, below}
-use Rattle.ids.specs.declared.TreeId.{TreeId}
 use Rattle.state_array.specs.View.{graftIn, idIn, shapeIn, childrenOf, bodyIn, nodeIn, view}
 use Rattle.state_lookup.specs.declared.Ends.{Ends}
 use Rattle.state_lookup.specs.declared.FoundTree.{FoundTree}

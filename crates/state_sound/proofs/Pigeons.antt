@@ -39,7 +39,8 @@ down-counted s zero (m ∷ ms) = rw (eqb·suc-zero 0) (sym (and-false (recorded 
 down-counted s (suc room) [] = sym (eqb·zero-suc room)
 down-counted s (suc room) (m ∷ ms) =
     let rest = down (suc room) s (belowId s (m .id) ++ ms) in
-    rw (down-counted s room (belowId s (m .id) ++ ms), eqb·suc-suc (length rest) room) (sym (and-assoc (recorded (s .nodes) m) (all (recorded (s .nodes)) rest) (eqb (length rest) room)))
+    rw (down-counted s room (belowId s (m .id) ++ ms), eqb·suc-suc (length rest) room)
+    (sym (and-assoc (recorded (s .nodes) m) (all (recorded (s .nodes)) rest) (eqb (length rest) room)))
 
 -- every node is met once, every one met is recorded so, and the way ends by itself: what one pass from the root finds, over ids that ascend
 pub links-counted : (s : Forest) (r : FullNodeId) → rootOf s ≡ some r → ascending (s .nodes) ≡ true

@@ -1,13 +1,11 @@
 -- Laws of columns: one more is written, and those that are written stay. Each is stated once for every phase. Assumes nothing.
 use mathlib.Core.List.{List, [], _∷_}
-use mathlib.Core.Logic.{_⊎_, inl, inr}
-use mathlib.Core.Path.{_≡_, refl, _∙_}
+use mathlib.Core.Path.{refl, _∙_}
 use Prim.Native.Nat.{ℕ, zero, suc, _+_, _≤_, _<_}
-use native.Mathlib.Nat.{eq-or-lt-of-le, le-of-suc-le-suc}
-use native.Mathlib.Numerals.{add-one}
 use native.Mathlib.Omega.{arith}
 use lib.ListN.{length, set, length-set}
 use lib.Seq.{getD-set-other}
+use Rattle.base.proofs.Cases.{by-last}
 use Rattle.base.specs.Regions.{fill, Part, startOf, partOf}
 use Rattle.update_notes.specs.Columns.{Holds, Column, Fit, Below}
 use Rattle.base.proofs.Regions.{fill-length, fill-kept, fill-put}
@@ -50,8 +48,14 @@ module _ (ps : List Part) (fit : Fit ps) (s : List ℕ) (k : ℕ) (told : (j : �
 
   -- one column more
   pub columns-more : Column ps s k → (j : ℕ) → j < k + 1 → Column ps s j
-  columns-more new j h = go (eq-or-lt-of-le (le-of-suc-le-suc (rw add-one at h)))
-    where
-      go : (j ≡ k) ⊎ (j < k) → Column ps s j
-      go (inl e) = rw e new
-      go (inr l) = told j l
+  columns-more new j h = by-last j k h (λ e. rw e new) (told j)
+
+-- no column is too small where each one by itself is not
+abbrev Each : List Part → Type 0
+Each [] = Unit {0}
+Each (p ∷ ps) = (p .used ≤ p .size) × Each ps
+
+pub each-fit : (ps : List Part) → Each ps → Fit ps
+each-fit [] e j = omega arith
+each-fit (p ∷ ps) e zero = e .0
+each-fit (p ∷ ps) e (suc j) = each-fit ps (e .1) j

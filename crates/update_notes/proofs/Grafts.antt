@@ -1,30 +1,31 @@
 -- What the rows of a state say of grafts. Assumes nothing.
-use mathlib.Core.Bool.{Bool, true, false, not, false≢true, true≢false}
+use mathlib.Core.Bool.{Bool, true, false, not}
 use mathlib.Core.List.{List}
 use mathlib.Core.Option.{Option, none, some}
 use mathlib.Core.Path.{_≡_, refl, sym, ap, _∙_}
 use Prim.Native.Nat.{ℕ, suc, _+_, _<_}
-use native.Mathlib.Decide.{decLt}
 use native.Mathlib.Omega.{arith}
 use lib.Dec.{eqb, ltb}
 use lib.ListN.{length, getD}
 use borrow.Author.Tests.{lt-ltb, le-ltb}
 use Rattle.base.specs.Tests.{_&&_, if_then_else_, isSome, sameOption}
 use Rattle.base.specs.Bytes.{bit}
-use Rattle.base.proofs.Tests.{is-some-if}
+use Rattle.base.proofs.Cases.{by-test, by-option, by-order}
+use Rattle.base.proofs.Tests.{both, is-some-if, call-true, call-false, clash}
+use Rattle.state_array.specs.declared.ShapeRow.{ShapeRow}
 use Rattle.base.proofs.Lists.{none-of}
 use Rattle.ids.specs.Ids.{sameTree}
 use Rattle.ids.specs.declared.TreeId.{TreeId}
 use Rattle.ids.specs.declared.FullNodeId.{FullNodeId}
 use Rattle.record.specs.Batch.{NodeData, graft?, Listed, Batch}
 use Rattle.record_reader.specs.Reader.{batchIn, blank, listedAt}
-use Rattle.state.specs.State.{NodeState, Forest, graftAt}
+use Rattle.state.specs.State.{Forest, graftAt}
 use Rattle.state_array.specs.View.{graftIn, shapeIn, bodyIn, nodeIn, slotsOf}
 use Rattle.update.specs.Words.{here, listed, claim, claimer, claimedFrom, letsGo}
 use Rattle.update_notes.specs.Layout.{CLAIMS}
 use Rattle.update_notes.specs.Columns.{Holds}
 use Rattle.update_notes.specs.Setting.{Batched, forest}
-use Rattle.update_notes.specs.Codes.{nodeAt, slotAt, flag}
+use Rattle.update_notes.specs.Codes.{slotAt, flag}
 use Rattle.update_notes.specs.Says.{turnMark, graftBelow, ClaimerIs, ClaimedFromIs}
 use Rattle.update_notes.proofs.Positions.{first-cong, first-given-at}
 use Rattle.update_notes.proofs.Places.{slot-found, forest-length, forest-node}
@@ -38,12 +39,6 @@ same-none : {A : Type 0} (same : A → A → Bool) (o : Option A) → not (isSom
 same-none same none = refl
 same-none same (some x) = refl
 
--- a value agrees with an option under a test
-same-some : (c : Bool) (g t : TreeId) → (c && sameTree g t) ≡ sameOption sameTree (if c then some g else none) (some t)
-unfolding _&&_
-same-some true g t = refl
-same-some false g t = refl
-
 -- ## A listed node's graft
 
 -- whether data grafts a tree is its flag
@@ -56,34 +51,29 @@ pub graft-given : (d : NodeData) → isSome (graft? d) ≡ true → graft? d ≡
 unfolding graft?
 graft-given d e = rw (graft-flag d ∙ e)
 
+-- whether it is t, by what was read
+pub claim-read : (b : Batch) (i : ℕ) (t : TreeId) (w : Bool) {g : TreeId} {z c : Bool} → g ≡ listedAt b i .body .graft → z ≡ sameTree g t → w && z ≡ c
+    → w && sameTree (listedAt b i .body .graft) t ≡ c
+claim-read b i t w is test e = rw (← is, ← test) e
+
 -- ## A slot's graft
 
 module _ (state : List ℕ) (i : ℕ) where
-  -- whether it is a tree's
-  pub graft-in-is : (t : TreeId) → (bit 8 (shapeIn state i .flags) && sameTree (shapeIn state i .graft) t) ≡ sameOption sameTree (graftIn state i) (some t)
-  unfolding graftIn
-  graft-in-is t = same-some (bit 8 (shapeIn state i .flags)) (shapeIn state i .graft) t
+  -- whether it is a tree's, by its row
+  pub graft-test : (t : TreeId) {d : ShapeRow} {g z b : Bool} → d ≡ shapeIn state i → g ≡ bit 8 (d .flags) → z ≡ sameTree (d .graft) t → g && z ≡ b
+      → sameOption sameTree (graftIn state i) (some t) ≡ b
+  unfolding graftIn _&&_
+  graft-test t {d} {g} is e f q = rw (← is, ← e) (by-test g (λ h. rw h (sym f ∙ rw h at q)) (λ h. rw h (rw h at q)))
 
   -- whether a slot of a node grafts a tree
   pub graft-below-some : (ltb i (slotsOf state) && bit 8 (shapeIn state i .flags)) ≡ isSome (graftBelow state i)
   unfolding graftBelow graftIn _&&_
-  graft-below-some = go (ltb i (slotsOf state)) (bit 8 (shapeIn state i .flags))
-    where
-      go : (c d : Bool) → (c && d) ≡ isSome (if c then (if d then some (shapeIn state i .graft) else none) else none)
-      go true true = refl
-      go true false = refl
-      go false d = refl
+  graft-below-some = by-test (ltb i (slotsOf state)) (λ c. by-test (bit 8 (shapeIn state i .flags)) (λ d. rw (c, d)) (λ d. rw (c, d))) (λ c. rw c)
 
   -- the tree that it grafts
-  pub graft-below-given : isSome (graftBelow state i) ≡ true → graftBelow state i ≡ some (shapeIn state i .graft)
-  unfolding graftBelow graftIn _&&_
-  graft-below-given e = go (ltb i (slotsOf state)) (bit 8 (shapeIn state i .flags)) e
-    where
-      go : (c d : Bool) → isSome (if c then (if d then some (shapeIn state i .graft) else none) else none) ≡ true
-          → (if c then (if d then some (shapeIn state i .graft) else none) else none) ≡ some (shapeIn state i .graft)
-      go true true e = refl
-      go true false e = absurd (false≢true e)
-      go false d e = absurd (false≢true e)
+  graft-below-given : isSome (graftBelow state i) ≡ true → graftBelow state i ≡ some (shapeIn state i .graft)
+  unfolding graftBelow graftIn
+  graft-below-given e = let there = both (graft-below-some ∙ e) in rw (there .0, there .1)
 
 -- ## The graft of a listed node and of a slot
 
@@ -96,28 +86,21 @@ module _ (d : NodeData) (state : List ℕ) (i : ℕ) where
   pub same-graft-some : isSome (graft? d) ≡ true
       → (isSome (graftBelow state i) && sameTree (d .graft) (shapeIn state i .graft)) ≡ sameOption sameTree (graft? d) (graftBelow state i)
   unfolding _&&_
-  same-graft-some e = rw (graft-given d e) (go (isSome (graftBelow state i)) refl)
-    where
-      go : (c : Bool) → isSome (graftBelow state i) ≡ c → (c && sameTree (d .graft) (shapeIn state i .graft)) ≡ sameOption sameTree (some (d .graft)) (graftBelow state i)
-      go true q = rw (graft-below-given state i q)
-      go false q = rw (none-of (graftBelow state i) (ap not q))
+  same-graft-some e =
+      rw (graft-given d e) (by-test (isSome (graftBelow state i)) (λ q. rw (graft-below-given state i q)) (λ q. rw (none-of (graftBelow state i) (ap not q))))
 
 -- ## The claim of a slot's graft
 
-module _ (b : Batch) (notes : List ℕ) (k : ℕ) (state : List ℕ) (i : ℕ) where
+module _ (b : Batch) (notes : List ℕ) (k : ℕ) (state : List ℕ) (i : ℕ) {g : Bool} (test : g ≡ isSome (graftBelow state i)) where
   -- a slot that grafts nothing
-  pub claimed-none : isSome (graftBelow state i) ≡ false → ClaimedFromIs b notes k (graftBelow state i) k
-  claimed-none e = record {
-    ungrafted = λ _. refl;
-    grafted = λ t q. absurd (true≢false (sym (ap (λ o. isSome o) q) ∙ e));
-  }
+  pub claimed-none : not g ≡ true → ClaimedFromIs b notes k (graftBelow state i) k
+  claimed-none e = record { ungrafted = λ _. refl; grafted = λ t q. absurd (clash (call-false test e) (ap isSome q)) }
 
   -- one that grafts a tree
-  pub claimed-some : (r : ℕ) → isSome (graftBelow state i) ≡ true → ClaimerIs b notes k (shapeIn state i .graft) r
-      → ClaimedFromIs b notes k (graftBelow state i) r
-  claimed-some r e h = record {
-    ungrafted = λ q. absurd (false≢true (sym (ap (λ o. isSome o) q) ∙ e));
-    grafted = λ t q. let same : shapeIn state i .graft ≡ t = cc (graft-below-given state i e) in rw same at h;
+  pub claimed-some : not g ≡ false → {d : ShapeRow} → d ≡ shapeIn state i → {r : ℕ} → ClaimerIs b notes k (d .graft) r → ClaimedFromIs b notes k (graftBelow state i) r
+  claimed-some e {d} is h = record {
+    ungrafted = λ q. absurd (clash (ap isSome q) (call-true test e));
+    grafted = λ t q. let same : d .graft ≡ t = cc (graft-below-given state i (call-true test e)) in rw same at h;
   }
 
 -- ## Grafts of the forest of a state
@@ -131,20 +114,10 @@ node-graft state i = refl
 pub graft-slot : (state : List ℕ) (x : FullNodeId) → graftAt (forest state .nodes) x ≡ graftBelow state (slotAt (forest state) x)
 unfolding graftAt graftBelow
 graft-slot state x =
-    ap (λ o. graftFound o) (slot-found s x ∙ ap (λ j. if ltb (slotAt s x) j then some (nodeAt s (slotAt s x)) else none) (forest-length state))
-    ∙ go (decLt (slotAt s x) (slotsOf state))
-  where
-    s : Forest
-    s = forest state
-
-    graftFound : Option NodeState → Option TreeId
-    graftFound o = elim o [ none ↦ none | some k ↦ graft? (k .body) ]
-
-    go : Dec (slotAt s x < slotsOf state)
-        → graftFound (if ltb (slotAt s x) (slotsOf state) then some (nodeAt s (slotAt s x)) else none)
-        ≡ (if ltb (slotAt s x) (slotsOf state) then graftIn state (slotAt s x) else none)
-    go (yes l) = rw (lt-ltb (slotAt s x) (slotsOf state) l) (ap (λ (k : NodeState). graft? (k .body)) (forest-node state (slotAt s x) l) ∙ node-graft state (slotAt s x))
-    go (no l) = rw (le-ltb (slotAt s x) (slotsOf state) (omega arith))
+    let s = forest state in
+    rw (slot-found s x, graftAt, forest-length state)
+    (by-order (slotAt s x) (slotsOf state) (λ l. rw (lt-ltb (slotAt s x) (slotsOf state) l, forest-node state (slotAt s x) l) (node-graft state (slotAt s x)))
+    (λ l. rw (le-ltb (slotAt s x) (slotsOf state) l)))
 
 -- ## Claims
 
@@ -152,14 +125,9 @@ module _ (s : Forest) (b : Batch) where
   -- a node claims t if it claims a tree and grafts t
   claim-test : (l : Listed) (t : TreeId) → (eqb (flag (isSome (claim s b l))) 1 && sameTree (l .body .graft) t) ≡ sameOption sameTree (claim s b l) (some t)
   unfolding claim graft? _&&_
-  claim-test l t = go (sameOption sameTree (graft? (l .body)) (graftAt (s .nodes) (here s b (l .id)))) (bit 8 (l .body .flags))
-    where
-      go : (c d : Bool)
-          → (eqb (flag (isSome (if c then none else (if d then some (l .body .graft) else none)))) 1 && sameTree (l .body .graft) t)
-          ≡ sameOption sameTree (if c then none else (if d then some (l .body .graft) else none)) (some t)
-      go true d = refl
-      go false true = refl
-      go false false = refl
+  claim-test l t =
+      by-test (sameOption sameTree (graft? (l .body)) (graftAt (s .nodes) (here s b (l .id)))) (λ c. rw c)
+      (λ c. by-test (bit 8 (l .body .flags)) (λ d. rw (c, d)) (λ d. rw (c, d)))
 
   -- a listed node lets go of a graft that it does not keep
   pub lets-go-turn : (x : FullNodeId) (k : ℕ) → turnMark s b x ≡ suc k
@@ -186,9 +154,6 @@ module _ (s : Forest) (b : Batch) where
     pub claimed-from-is : (p : FullNodeId) (r : ℕ) → ClaimedFromIs (batchIn bytes) notes k (graftAt (s .nodes) p) r
         → claimedFrom s b p ≡ (if ltb r k then some (here s b (listedAt b r .id)) else none)
     unfolding claimedFrom
-    claimed-from-is p r h = go (graftAt (s .nodes) p) refl
-      where
-        go : (o : Option TreeId) → graftAt (s .nodes) p ≡ o
-            → (elim o as (λ _. Option FullNodeId) [ none ↦ none | some t ↦ claimer s b t ]) ≡ (if ltb r k then some (here s b (listedAt b r .id)) else none)
-        go none q = rw (le-ltb r k (omega (arith, h .ungrafted q)))
-        go (some t) q = claimer-is t r (h .grafted t q)
+    claimed-from-is p r h =
+        by-option (graftAt (s .nodes) p) (λ q. rw (q, claimedFrom, le-ltb r k (omega (arith, h .ungrafted q))))
+        (λ t q. rw (q, claimedFrom) (claimer-is t r (h .grafted t q)))

@@ -1,17 +1,17 @@
 -- Laws of marks: what a node's turn and its naming say of it, and which slot a key marks. Assumes nothing.
-use mathlib.Core.Bool.{Bool, true, false, not, _||_, false≢true}
+use mathlib.Core.Bool.{Bool, true, false, not, false≢true}
 use mathlib.Core.List.{List, [], _∷_, _++_}
 use mathlib.Core.Option.{Option, none, some}
 use mathlib.Core.Path.{_≡_, refl, sym, ap, _∙_}
 use Prim.Native.Nat.{ℕ, zero, suc, _+_, _-_, _≤_, _<_}
 use native.Mathlib.Numerals.{add-one}
-use native.Mathlib.Decide.{decLt}
 use native.Mathlib.Omega.{arith}
 use lib.Dec.{eqb, ltb}
 use lib.ListN.{length, getD, take, length-append}
 use borrow.Author.Tests.{eqb-true, eq-eqb, lt-ltb, le-ltb, ltb-true}
-use Rattle.base.specs.Tests.{_&&_, if_then_else_, isSome, any, has, distinct, position, firstGiven}
+use Rattle.base.specs.Tests.{_&&_, if_then_else_, any, has, distinct, position, firstGiven}
 use Rattle.base.specs.Search.{First}
+use Rattle.base.proofs.Cases.{by-test, by-order}
 use Rattle.base.proofs.Tests.{both, joined, iff}
 use Rattle.base.proofs.Lists.{first-given-some, none-of, any-append}
 use Rattle.ids.specs.Ids.{sameNode}
@@ -121,7 +121,7 @@ module _ (s : Forest) (b : Batch) where
 has-named : (ls : List Listed) (n : NodeId) → has sameNode (namedIds ls) n ≡ any (λ l. has sameNode (l .body .children) n) ls
 unfolding namedIds
 has-named [] n = refl
-has-named (l ∷ ls) n = any-append (sameNode n) (l .body .children) (namedIds ls) ∙ ap (λ c. has sameNode (l .body .children) n || c) (has-named ls n)
+has-named (l ∷ ls) n = rw (any-append (sameNode n) (l .body .children) (namedIds ls), has-named ls n)
 
 module _ (s : Forest) (b : Batch) (x : FullNodeId) where
   -- the link under a listed node
@@ -135,11 +135,9 @@ module _ (s : Forest) (b : Batch) (x : FullNodeId) where
   -- a node is named where it is of the batch's tree and its number is
   pub named-is : named s b x ≡ (mine s b x && has sameNode (namedIds (b .nodes)) (x .node))
   unfolding named naming _&&_
-  named-is = go (mine s b x)
-    where
-      go : (c : Bool) → isSome (if c then namer (b .nodes) else none) ≡ (c && has sameNode (namedIds (b .nodes)) (x .node))
-      go true = first-given-some (λ l. has sameNode (l .body .children) (x .node)) namedBy (b .nodes) ∙ sym (has-named (b .nodes) (x .node))
-      go false = refl
+  named-is =
+      by-test (mine s b x)
+      (λ t. rw t (first-given-some (λ l. has sameNode (l .body .children) (x .node)) namedBy (b .nodes) ∙ sym (has-named (b .nodes) (x .node)))) (λ t. rw t)
 
   pub naming-named : named s b x ≡ ltb 0 (namingMark s b x)
   unfolding namingMark
@@ -156,39 +154,23 @@ module _ (s : Forest) (b : Batch) (x : FullNodeId) where
       → namer ls ≡ some (record { parent = here s b (getD ls i blank .id); index = position sameNode (namedIds ls) (x .node) - length (namedIds (take i ls)) })
   unfolding namedIds
   namer-at [] i h l m = absurd (omega arith)
-  namer-at (k ∷ ks) zero h l m = go (has sameNode (k .body .children) (x .node)) refl (position-append sameNode (x .node) (k .body .children) (namedIds ks))
-    where
-      cs : List NodeId
-      cs = k .body .children
-
-      go : (c : Bool) → has sameNode cs (x .node) ≡ c
-          → position sameNode (cs ++ namedIds ks) (x .node) ≡ (if c then position sameNode cs (x .node) else length cs + position sameNode (namedIds ks) (x .node))
-          → namer (k ∷ ks) ≡ some (record { parent = here s b (k .id); index = position sameNode (cs ++ namedIds ks) (x .node) - 0 })
-      go true q e = let same : position sameNode cs (x .node) - 0 ≡ position sameNode cs (x .node) = omega arith in rw (q, firstGiven, e, same)
-      go false q e = absurd (omega (arith, length-append cs []))
-  namer-at (k ∷ ks) (suc i) h l m = go (has sameNode cs (x .node)) refl (position-append sameNode (x .node) cs (namedIds ks)) (namer-at ks i (omega arith))
-    where
-      cs : List NodeId
-      cs = k .body .children
-
-      go : (c : Bool) → has sameNode cs (x .node) ≡ c
-          → position sameNode (cs ++ namedIds ks) (x .node) ≡ (if c then position sameNode cs (x .node) else length cs + position sameNode (namedIds ks) (x .node))
-          → (length (namedIds (take i ks)) ≤ position sameNode (namedIds ks) (x .node) → position sameNode (namedIds ks) (x .node) < length (namedIds (take (suc i) ks))
-          → namer ks ≡ some (record { parent = here s b (getD ks i blank .id); index = position sameNode (namedIds ks) (x .node) - length (namedIds (take i ks)) }))
-          → namer (k ∷ ks)
-          ≡ some (record { parent = here s b (getD ks i blank .id); index = position sameNode (cs ++ namedIds ks) (x .node) - length (cs ++ namedIds (take i ks)) })
-      go true q e f =
-          absurd (omega (
-            arith,
-            length-append cs (namedIds (take i ks)),
-            ltb-true (position sameNode cs (x .node)) (length cs) (sym (has-position sameNode (x .node) cs) ∙ q),
-          ))
-      go false q e f =
-          let before = length-append cs (namedIds (take i ks)) in
-          let through = length-append cs (namedIds (take (suc i) ks)) in
-          let same : position sameNode (cs ++ namedIds ks) (x .node) - length (cs ++ namedIds (take i ks))
-          ≡ position sameNode (namedIds ks) (x .node) - length (namedIds (take i ks)) = omega arith in
-          rw (q, firstGiven, same) (f (omega arith) (omega arith))
+  namer-at (k ∷ ks) zero h l m =
+      let cs = k .body .children in
+      let e = position-append sameNode (x .node) cs (namedIds ks) in
+      by-test (has sameNode cs (x .node))
+      (λ q. let same : position sameNode cs (x .node) - 0 ≡ position sameNode cs (x .node) = omega arith in rw (q, firstGiven, rw q at e, same))
+      (λ q. absurd (omega (arith, rw q at e, length-append cs [])))
+  namer-at (k ∷ ks) (suc i) h l m =
+      let cs = k .body .children in
+      let e = position-append sameNode (x .node) cs (namedIds ks) in
+      let before = length-append cs (namedIds (take i ks)) in
+      let through = length-append cs (namedIds (take (suc i) ks)) in
+      by-test (has sameNode cs (x .node))
+      (λ q. absurd (omega (arith, rw q at e, ltb-true (position sameNode cs (x .node)) (length cs) (sym (has-position sameNode (x .node) cs) ∙ q))))
+      (λ q. let at = rw q at e in
+      let same : position sameNode (cs ++ namedIds ks) (x .node) - length (cs ++ namedIds (take i ks))
+      ≡ position sameNode (namedIds ks) (x .node) - length (namedIds (take i ks)) = omega arith in
+      rw (q, firstGiven, same) (namer-at ks i (omega arith) (omega arith) (omega arith)))
 
   -- the link of a node that is first named at entry j, which is among the children of listed node i
   pub naming-link : (j i : ℕ) → namingMark s b x ≡ suc j → i < length (b .nodes) → length (namedIds (take i (b .nodes))) ≤ j
@@ -225,21 +207,12 @@ module _ (s : Forest) (b : Batch) (up : ascending (s .nodes) ≡ true) (keys : L
   mark-first : (r : ℕ) → First (λ j. eqb (slotAt s (here s b (getD keys j noNode))) i) (length keys) r
       → (if mine s b (idAt s i) && has sameNode keys (idAt s i .node) then suc (position sameNode keys (idAt s i .node)) else 0) ≡ (if ltb r (length keys) then suc r else 0)
   unfolding _&&_
-  mark-first r h = go (mine s b (idAt s i)) (first-cong _ _ (length keys) r (λ j l. key-test j) h)
-    where
-      x : FullNodeId
-      x = idAt s i
-
-      go : (c : Bool) → First (λ j. c && sameNode (x .node) (getD keys j noNode)) (length keys) r
-          → (if c && has sameNode keys (x .node) then suc (position sameNode keys (x .node)) else 0) ≡ (if ltb r (length keys) then suc r else 0)
-      go true f =
-          let same : position sameNode keys (x .node) ≡ r = first-unique _ (length keys) _ r (position-first sameNode (x .node) noNode keys) f in
-          rw (has-position sameNode (x .node) keys, same)
-      go false f = rw (le-ltb r (length keys) (past (decLt r (length keys))))
-        where
-          past : Dec (r < length keys) → length keys ≤ r
-          past (yes l) = absurd (false≢true (f .hit l))
-          past (no l) = omega arith
+  mark-first r h =
+      let f = first-cong _ _ (length keys) r (λ j l. key-test j) h in
+      by-test (mine s b (idAt s i))
+      (λ c. let same : position sameNode keys (idAt s i .node) ≡ r = first-unique _ (length keys) _ r (position-first sameNode (idAt s i .node) noNode keys) (rw c at f) in
+      rw (c, has-position sameNode (idAt s i .node) keys, same))
+      (λ c. by-order r (length keys) (λ l. absurd (false≢true (rw c at (f .hit l)))) (λ l. rw (c, le-ltb r (length keys) l)))
 
 -- the turn and the naming of the node in slot i, by the slots of the listed nodes and of the children that they name
 module _ (s : Forest) (b : Batch) (up : ascending (s .nodes) ≡ true) (i : ℕ) (within : i < length (s .nodes)) (r : ℕ) where

@@ -1,17 +1,18 @@
 -- Laws of slots: the forest that columns show, and what the slot of an id says. Assumes nothing.
-use mathlib.Core.Bool.{Bool, true, false, true≢false}
+use mathlib.Core.Bool.{true}
 use mathlib.Core.List.{List, [], _∷_}
 use mathlib.Core.Option.{none, some}
 use mathlib.Core.Path.{_≡_, refl, sym, ap, _∙_}
 use Prim.Native.Nat.{ℕ, zero, suc, _<_}
-use native.Mathlib.Decide.{decLt}
 use native.Mathlib.Omega.{arith}
 use lib.Dec.{ltb}
-use lib.ListN.{length, getD}
+use lib.ListN.{length, getD, length-map, List·getD-map}
 use borrow.Author.Tests.{lt-ltb}
-use Rattle.base.specs.Tests.{if_then_else_, isSome, all, position}
+use Rattle.base.specs.Tests.{if_then_else_, isSome, position}
 use Rattle.base.specs.Search.{First}
-use Rattle.base.proofs.Tests.{both, is-some-if}
+use Rattle.base.proofs.Cases.{by-test, by-order}
+use Rattle.base.proofs.Lists.{all-at}
+use Rattle.base.proofs.Tests.{both, is-some-if, clash}
 use Rattle.base.proofs.Bytes.{length-list-of, list-of-at}
 use Rattle.base.proofs.Search.{ltb-suc}
 use Rattle.ids.specs.Ids.{sameId, before}
@@ -29,38 +30,23 @@ use Rattle.update_notes.proofs.Positions.{first-unique, first-cong, pos
 
 -- ## Lists of nodes
 
--- an id by index
-ids-at : (ns : List NodeState) (i : ℕ) → getD (idsOf ns) i (noState .id) ≡ getD ns i noState .id
-unfolding idsOf
-ids-at [] i = refl
-ids-at (n ∷ ns) zero = refl
-ids-at (n ∷ ns) (suc i) = ids-at ns i
-
-ids-length : (ns : List NodeState) → length (idsOf ns) ≡ length ns
-unfolding idsOf
-ids-length [] = refl
-ids-length (n ∷ ns) = ap suc (ids-length ns)
-
 -- the node found is the one at its position
 find-position : (ns : List NodeState) (x : FullNodeId) → find x ns ≡ (if ltb (position sameId (idsOf ns) x) (length ns) then some (getD ns (position sameId (idsOf ns) x) noState) else none)
 unfolding find idsOf
 find-position [] x = refl
-find-position (n ∷ ns) x = go (sameId x (n .id)) (position sameId (idsOf ns) x) (find-position ns x)
-  where
-    go : (c : Bool) (r : ℕ) → find x ns ≡ (if ltb r (length ns) then some (getD ns r noState) else none)
-        → (if c then some n else find x ns)
-        ≡ (if ltb (if c then zero else suc r) (suc (length ns)) then some (getD (n ∷ ns) (if c then zero else suc r) noState) else none)
-    go true r h = rw (lt-ltb 0 (suc (length ns)) (omega arith))
-    go false r h = rw (ltb-suc r (length ns)) h
+find-position (n ∷ ns) x =
+    by-test (sameId x (n .id)) (λ t. rw (t, lt-ltb 0 (suc (length ns)) (omega arith)))
+    (λ t. rw (t, ltb-suc (position sameId (idsOf ns) x) (length ns)) (find-position ns x))
 
 -- ## The slot of an id
 
 module _ (s : Forest) (x : FullNodeId) where
   -- it is what a search for the id answers
   pub slot-first : First (λ i. sameId x (idAt s i)) (length (s .nodes)) (slotAt s x)
+  unfolding idsOf
   slot-first =
-      let h = position-first sameId x (noState .id) (idsOf (s .nodes)) in
-      first-cong _ _ (length (s .nodes)) (slotAt s x) (λ i l. ap (sameId x) (ids-at (s .nodes) i)) (rw (ids-length (s .nodes)) at h)
+      first-cong _ _ (length (s .nodes)) (slotAt s x) (λ i l. ap (sameId x) (List·getD-map (λ n. n .id) (s .nodes) i noState))
+      (rw (length-map (s .nodes) (λ (n : NodeState). n .id)) at (position-first sameId x (noState .id) (idsOf (s .nodes))))
 
   -- and what a search answers is it
   pub slot-search : (r : ℕ) → First (λ i. sameId x (idAt s i)) (length (s .nodes)) r → r ≡ slotAt s x
@@ -94,15 +80,10 @@ module _ (s : Forest) (up : ascending (s .nodes) ≡ true) (i : ℕ) (h : i < le
   unfolding ascending
   slot-self = sym (slot-search s (idAt s i) i (record { within = omega arith; passed = λ k l. before-apart (idAt s k) (idAt s i) (pair (s .nodes) up k i l h); hit = λ _. same-id-refl (idAt s i) }))
     where
-      later : (p : NodeState → Bool) (ns : List NodeState) → all p ns ≡ true → (k : ℕ) → k < length ns → p (getD ns k noState) ≡ true
-      later p [] e k l = absurd (omega arith)
-      later p (n ∷ ns) e zero l = both e .0
-      later p (n ∷ ns) e (suc k) l = later p ns (both e .1) k (omega arith)
-
       pair : (ns : List NodeState) → ascending ns ≡ true → (k j : ℕ) → k < j → j < length ns → before (getD ns k noState .id) (getD ns j noState .id) ≡ true
       pair [] e k j l m = absurd (omega arith)
       pair (n ∷ ns) e k zero l m = absurd (omega arith)
-      pair (n ∷ ns) e zero (suc j) l m = later (λ q. before (n .id) (q .id)) ns (both e .0) j (omega arith)
+      pair (n ∷ ns) e zero (suc j) l m = all-at (λ q. before (n .id) (q .id)) ns noState (both e .0) j (omega arith)
       pair (n ∷ ns) e (suc k) (suc j) l m = pair ns (both e .1) k j (omega arith) (omega arith)
 
   -- so the node in a slot is found by its id
@@ -111,11 +92,9 @@ module _ (s : Forest) (up : ascending (s .nodes) ≡ true) (i : ℕ) (h : i < le
 
 -- an id that stands in a slot is present
 pub present-at : (s : Forest) (i : ℕ) → i < length (s .nodes) → present (s .nodes) (idAt s i) ≡ true
-present-at s i h = slot-present s (idAt s i) ∙ lt-ltb _ _ (go (decLt i (slotAt s (idAt s i))))
-  where
-    go : Dec (i < slotAt s (idAt s i)) → slotAt s (idAt s i) < length (s .nodes)
-    go (yes l) = absurd (true≢false (sym (same-id-refl (idAt s i)) ∙ slot-first s (idAt s i) .passed i l))
-    go (no l) = omega arith
+present-at s i h =
+    slot-present s (idAt s i) ∙ lt-ltb (slotAt s (idAt s i)) (length (s .nodes))
+    (by-order i (slotAt s (idAt s i)) (λ l. absurd (clash (slot-first s (idAt s i) .passed i l) (same-id-refl (idAt s i)))) (λ l. omega arith))
 
 -- ## The forest that the words of a state show
 

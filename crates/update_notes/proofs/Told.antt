@@ -1,13 +1,13 @@
 -- Laws of what a phase is told: the batch that it is asked, and the columns of the notes. Assumes nothing.
 use mathlib.Core.List.{List}
 use mathlib.Core.Path.{_≡_, refl, ap, _∙_}
-use Prim.Native.Nat.{ℕ, zero, suc, _+_, _≤_, _<_}
+use Prim.Native.Nat.{ℕ, _+_, _≤_, _<_}
 use native.Mathlib.Omega.{arith}
 use lib.ListN.{set}
 use Rattle.base.specs.Regions.{fill, startOf, partOf}
 use Rattle.update_notes.specs.Columns.{Column, Fit, Below}
 use Rattle.base.proofs.Regions.{fill-cong}
-use Rattle.update_notes.proofs.Columns.{below-none, below-set, below-fill, holds-fill, columns-below, columns-more}
+use Rattle.update_notes.proofs.Columns.{below-none, below-set, below-fill, holds-fill, columns-below, columns-more, each-fit}
 use Rattle.update_notes.specs.declared.Scope.{Scope}
 use Rattle.update_notes.specs.Setting.{Batched, asked, forest, Given}
 use Rattle.update.proofs.Outcome.{length-outcome}
@@ -34,22 +34,7 @@ module _ (state bytes : List ℕ) (c : Scope) (g : Given state bytes c) where
 
   -- so no column is too small
   pub fit : Fit (columns state bytes c)
-  fit zero = few-listed
-  fit (suc zero) = few-named
-  fit (suc (suc zero)) = few-listed
-  fit (suc (suc (suc zero))) = few-listed
-  fit (suc (suc (suc (suc zero)))) = few-named
-  fit (suc (suc (suc (suc (suc zero))))) = omega arith
-  fit (suc (suc (suc (suc (suc (suc zero)))))) = omega arith
-  fit (suc (suc (suc (suc (suc (suc (suc zero))))))) = few-listed
-  fit (suc (suc (suc (suc (suc (suc (suc (suc zero)))))))) = omega arith
-  fit (suc (suc (suc (suc (suc (suc (suc (suc (suc zero))))))))) = omega arith
-  fit (suc (suc (suc (suc (suc (suc (suc (suc (suc (suc zero)))))))))) = few-listed
-  fit (suc (suc (suc (suc (suc (suc (suc (suc (suc (suc (suc zero))))))))))) = omega arith
-  fit (suc (suc (suc (suc (suc (suc (suc (suc (suc (suc (suc (suc zero)))))))))))) = few-after
-  fit (suc (suc (suc (suc (suc (suc (suc (suc (suc (suc (suc (suc (suc zero))))))))))))) = few-after
-  fit (suc (suc (suc (suc (suc (suc (suc (suc (suc (suc (suc (suc (suc (suc zero)))))))))))))) = few-after
-  fit (suc (suc (suc (suc (suc (suc (suc (suc (suc (suc (suc (suc (suc (suc (suc j))))))))))))))) = omega arith
+  fit = each-fit (columns state bytes c) (omega (arith, few-listed, few-named, few-after))
 
 module _ (state bytes : List ℕ) (c : Scope) (s : List ℕ) (k : ℕ) (told : Told k state bytes c s) where
   -- THE FRAME: words past the columns that are written change

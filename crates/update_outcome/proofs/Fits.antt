@@ -6,12 +6,12 @@ use mathlib.Core.Path.{_≡_, refl, sym, ap, _∙_}
 use Prim.Native.Nat.{ℕ, _-_, _≤_, _<_}
 use native.Mathlib.Omega.{arith}
 use lib.Dec.{eqb, ltb}
-use lib.Ieee.{fits, ofBits, binary64}
+use lib.Ieee.{fits, binary64}
 use lib.ListN.{length, getD, drop, length-map}
 use borrow.Author.Tests.{lt-ltb, ltb-true}
 use Rattle.base.proofs.Cases.{by-test, by-option}
-use Rattle.base.specs.Tests.{if_then_else_, all, has, firstGiven, sameOption}
-use Rattle.base.proofs.Tests.{joined, all-member}
+use Rattle.base.specs.Tests.{_&&_, if_then_else_, all, has, firstGiven, sameOption}
+use Rattle.base.proofs.Tests.{all-member}
 use Rattle.base.proofs.Lists.{all-at, all-index, all-or, all-take, all-drop}
 use Rattle.state_array.proofs.Labels.{float-fits}
 use Rattle.base.proofs.Bytes.{all-list-of}
@@ -70,19 +70,10 @@ bytesFit d = all (λ x. ltb x 256) (d .label)
 abbrev pub floatsFit : NodeData → Bool
 floatsFit d = all (fits binary64) (floatsOf d)
 
--- ten that are read from words
-ten-fit : (a b c d e f g h i j : ℕ)
-    → all (fits binary64)
-    (ofBits binary64 a ∷ ofBits binary64 b ∷ ofBits binary64 c ∷ ofBits binary64 d ∷ ofBits binary64 e ∷ ofBits binary64 f ∷ ofBits binary64 g
-    ∷ ofBits binary64 h ∷ ofBits binary64 i ∷ ofBits binary64 j ∷ []) ≡ true
-ten-fit a b c d e f g h i j =
-    joined (float-fits a) (joined (float-fits b) (joined (float-fits c) (joined (float-fits d) (joined (float-fits e)
-    (joined (float-fits f) (joined (float-fits g) (joined (float-fits h) (joined (float-fits i) (joined (float-fits j) refl)))))))))
-
 -- of a state's nodes
 view-floats : (state : List ℕ) → all (λ n. floatsFit (n .body)) (forest state .nodes) ≡ true
-unfolding view nodeIn bodyIn boundsIn transformIn floatsOf
-view-floats state = all-list-of (λ n. floatsFit (n .body)) (slotsOf state) (nodeIn state) (λ i l. ten-fit _ _ _ _ _ _ _ _ _ _)
+unfolding view nodeIn bodyIn boundsIn transformIn floatsOf _&&_
+view-floats state = all-list-of (λ n. floatsFit (n .body)) (slotsOf state) (nodeIn state) (λ i l. simp float-fits)
 
 view-bytes : (state : List ℕ) → all (λ n. bytesFit (n .body)) (forest state .nodes) ≡ true
 unfolding view nodeIn bodyIn labelIn labelByte
@@ -93,8 +84,8 @@ view-bytes state =
 
 -- of a record's nodes
 asked-floats : (bytes : List ℕ) (c : Scope) → all (λ l. floatsFit (l .body)) (asked bytes c .nodes) ≡ true
-unfolding asked batchIn floatsOf
-asked-floats bytes c = all-list-of (λ l. floatsFit (l .body)) (nodeCount bytes) (nodeOf bytes) (λ i l. ten-fit _ _ _ _ _ _ _ _ _ _)
+unfolding asked batchIn floatsOf _&&_
+asked-floats bytes c = all-list-of (λ l. floatsFit (l .body)) (nodeCount bytes) (nodeOf bytes) (λ i l. simp float-fits)
 
 -- a record of bytes has labels of bytes
 asked-bytes : (bytes : List ℕ) (c : Scope) → ((i : ℕ) → getD bytes i 0 < 256) → all (λ l. bytesFit (l .body)) (asked bytes c .nodes) ≡ true

@@ -5,13 +5,8 @@ use borrow.Author.Needs.{needs}
 use Rattle.record_layout.proofs.record_ok.Statement.{statement}
 use Rattle.record_layout.proofs.record_ok.Tie as tie
 
-returns : tie.Need-returns
-unfolding _&&_
-returns c =
-    record-read _ _ _ _ (c .before .before .before .before .u16-at .ensures) (c .before .before .before .u32-at .ensures) (c .before .before .fields-ok .ensures)
-    (c .before .u16-at2 .ensures) (c .u16-at3 .ensures)
-
 pub record-ok-spec : {M : Type 1} → statement M
+unfolding _&&_
 record-ok-spec =
     tie.close
     (tie.spec
@@ -26,4 +21,4 @@ record-ok-spec =
     (λ c. search needs)
     (λ c κs. search needs)
     (λ c. search needs)
-    returns)
+    (λ c. search (needs, record-read)))

@@ -1,22 +1,19 @@
 -- `record_reader::bounds` meets its contract: each f64 of the record is the listed node's. Assumes nothing.
-use mathlib.Core.Path.{refl, ap, _∙_}
-use lib.Ieee.{ofBits, binary64}
-use Rattle.record_reader.proofs.Reader.{field-is}
+use mathlib.Core.Path.{refl}
+use Rattle.record_reader.proofs.Reader.{float-is}
 use borrow.Author.Needs.{needs}
 use Rattle.record_reader.proofs.bounds.Statement.{statement}
 use Rattle.record_reader.proofs.bounds.Tie as tie
 
 returns : tie.Need-returns
-returns c =
-    let x0-is = c .before .before .before .before .before .before .f64-of .ensures ∙ ap (ofBits binary64) (c .before .before .before .before .before .before .before .word .ensures)
-    ∙ field-is _ _ 8 48 (ofBits binary64) (λ l. l .body .bounds .x0) refl refl in
-    let y0-is = c .before .before .before .before .f64-of2 .ensures ∙ ap (ofBits binary64) (c .before .before .before .before .before .word2 .ensures)
-    ∙ field-is _ _ 8 56 (ofBits binary64) (λ l. l .body .bounds .y0) refl refl in
-    let x1-is = c .before .before .f64-of3 .ensures ∙ ap (ofBits binary64) (c .before .before .before .word3 .ensures)
-    ∙ field-is _ _ 8 64 (ofBits binary64) (λ l. l .body .bounds .x1) refl refl in
-    let y1-is = c .f64-of4 .ensures ∙ ap (ofBits binary64) (c .before .word4 .ensures)
-    ∙ field-is _ _ 8 72 (ofBits binary64) (λ l. l .body .bounds .y1) refl refl in
-    λ j. record { x0 = x0-is j; y0 = y0-is j; x1 = x1-is j; y1 = y1-is j }
+returns c = λ j. record {
+  x0 = float-is _ _ 48 (λ l. l .body .bounds .x0) (c .before .before .before .before .before .before .before .word .ensures)
+      (c .before .before .before .before .before .before .f64-of .ensures) refl refl j;
+  y0 = float-is _ _ 56 (λ l. l .body .bounds .y0) (c .before .before .before .before .before .word2 .ensures)
+      (c .before .before .before .before .f64-of2 .ensures) refl refl j;
+  x1 = float-is _ _ 64 (λ l. l .body .bounds .x1) (c .before .before .before .word3 .ensures) (c .before .before .f64-of3 .ensures) refl refl j;
+  y1 = float-is _ _ 72 (λ l. l .body .bounds .y1) (c .before .word4 .ensures) (c .f64-of4 .ensures) refl refl j;
+}
 
 pub bounds-spec : {M : Type 1} → statement M
 bounds-spec =

@@ -11,9 +11,6 @@ use borrow.Author.Needs.{needs}
 use Rattle.record_reader.proofs.child.Statement.{statement}
 use Rattle.record_reader.proofs.child.Tie as tie
 
-returns : tie.Need-returns
-returns c = child-past _ _ _ (rw (← c .before .half .ensures) (c .if1 .taken))
-
 returns-2 : tie.Need-returns-2
 returns-2 c =
     let a = c .before .before .before .before .before .before .args in
@@ -29,7 +26,7 @@ child-spec =
     (tie.spec
     (λ c κs. search needs)
     (λ c. search needs)
-    returns
+    (λ c. child-past _ _ _ (rw (← c .before .half .ensures) (c .if1 .taken)))
     (λ c κs. search needs)
     (λ c. search needs)
     (λ c. search needs)

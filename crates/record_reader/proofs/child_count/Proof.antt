@@ -5,8 +5,10 @@ use borrow.Author.Needs.{needs}
 use Rattle.record_reader.proofs.child_count.Statement.{statement}
 use Rattle.record_reader.proofs.child_count.Tie as tie
 
-returns : tie.Need-returns
-returns c = c .half .ensures ∙ children-count _ _
-
 pub child-count-spec : {M : Type 1} → statement M
-child-count-spec = tie.close (tie.spec (λ c κs. search needs) (λ c. search needs) returns)
+child-count-spec =
+    tie.close
+    (tie.spec
+    (λ c κs. search needs)
+    (λ c. search needs)
+    (λ c. c .half .ensures ∙ children-count _ _))

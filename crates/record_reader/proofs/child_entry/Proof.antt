@@ -9,9 +9,6 @@ use borrow.Author.Needs.{needs}
 use Rattle.record_reader.proofs.child_entry.Statement.{statement}
 use Rattle.record_reader.proofs.child_entry.Tie as tie
 
-returns : tie.Need-returns
-returns c = sym (entry-past _ _ (rw (← c .before .u16-at .ensures) (c .if1 .taken)))
-
 returns-2 : tie.Need-returns-2
 returns-2 c =
     let a = c .before .before .before .before .before .args in
@@ -24,7 +21,7 @@ child-entry-spec =
     (tie.spec
     (λ c κs. search needs)
     (λ c. search needs)
-    returns
+    (λ c. sym (entry-past _ _ (rw (← c .before .u16-at .ensures) (c .if1 .taken))))
     (λ c κs. search needs)
     (λ c. search needs)
     (λ c. search needs)

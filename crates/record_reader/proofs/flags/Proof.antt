@@ -5,8 +5,9 @@ use borrow.Author.Needs.{needs}
 use Rattle.record_reader.proofs.flags.Statement.{statement}
 use Rattle.record_reader.proofs.flags.Tie as tie
 
-returns : tie.Need-returns
-returns c = c .byte .ensures ∙ field-is _ _ 1 41 (λ n. n) (λ l. l .body .flags) refl refl
-
 pub flags-spec : {M : Type 1} → statement M
-flags-spec = tie.close (tie.spec (λ c κs. search needs) returns)
+flags-spec =
+    tie.close
+    (tie.spec
+    (λ c κs. search needs)
+    (λ c. c .byte .ensures ∙ field-is _ _ 1 41 (λ n. n) (λ l. l .body .flags) refl refl))

@@ -5,8 +5,6 @@ use borrow.Author.Needs.{needs}
 use Rattle.record_reader.proofs.has_tree_data.Statement.{statement}
 use Rattle.record_reader.proofs.has_tree_data.Tie as tie
 
-returns : tie.Need-returns
-returns c = rw (← root-there, div-one, c .u16-at .ensures)
-
 pub has-tree-data-spec : {M : Type 1} → statement M
-has-tree-data-spec = tie.close (tie.spec (λ c κs. search needs) returns)
+has-tree-data-spec =
+    tie.close (tie.spec (λ c κs. search needs) (λ c. rw (← root-there, div-one, c .u16-at .ensures)))

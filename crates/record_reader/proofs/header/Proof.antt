@@ -3,9 +3,6 @@ use borrow.Author.Needs.{needs}
 use Rattle.record_reader.proofs.header.Statement.{statement}
 use Rattle.record_reader.proofs.header.Tie as tie
 
-returns : tie.Need-returns
-returns c = cc
-
 pub header-spec : {M : Type 1} → statement M
 header-spec =
     tie.close
@@ -15,4 +12,4 @@ header-spec =
     (λ c κs. search needs)
     (λ c κs. search needs)
     (λ c κs. search needs)
-    returns)
+    (λ c. cc))

@@ -3,9 +3,6 @@ use borrow.Author.Needs.{needs}
 use Rattle.record_reader.proofs.node.Statement.{statement}
 use Rattle.record_reader.proofs.node.Tie as tie
 
-returns : tie.Need-returns
-returns c = cc
-
 pub node-spec : {M : Type 1} → statement M
 node-spec =
     tie.close
@@ -19,4 +16,4 @@ node-spec =
     (λ c κs. search needs)
     (λ c κs. search needs)
     (λ c κs. search needs)
-    returns)
+    (λ c. cc))

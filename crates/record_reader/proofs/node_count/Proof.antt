@@ -5,8 +5,10 @@ use borrow.Author.Needs.{needs}
 use Rattle.record_reader.proofs.node_count.Statement.{statement}
 use Rattle.record_reader.proofs.node_count.Tie as tie
 
-returns : tie.Need-returns
-returns c = c .u16-at .ensures ∙ node-count-is _
-
 pub node-count-spec : {M : Type 1} → statement M
-node-count-spec = tie.close (tie.spec (λ c κs. search needs) (λ c. search needs) returns)
+node-count-spec =
+    tie.close
+    (tie.spec
+    (λ c κs. search needs)
+    (λ c. search needs)
+    (λ c. c .u16-at .ensures ∙ node-count-is _))

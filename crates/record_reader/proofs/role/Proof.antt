@@ -5,8 +5,9 @@ use borrow.Author.Needs.{needs}
 use Rattle.record_reader.proofs.role.Statement.{statement}
 use Rattle.record_reader.proofs.role.Tie as tie
 
-returns : tie.Need-returns
-returns c = c .byte .ensures ∙ field-is _ _ 1 40 (λ n. n) (λ l. l .body .role) refl refl
-
 pub role-spec : {M : Type 1} → statement M
-role-spec = tie.close (tie.spec (λ c κs. search needs) returns)
+role-spec =
+    tie.close
+    (tie.spec
+    (λ c κs. search needs)
+    (λ c. c .byte .ensures ∙ field-is _ _ 1 40 (λ n. n) (λ l. l .body .role) refl refl))

@@ -4,9 +4,6 @@ use borrow.Author.Needs.{needs}
 use Rattle.record_reader.proofs.tree_id.Statement.{statement}
 use Rattle.record_reader.proofs.tree_id.Tie as tie
 
-returns : tie.Need-returns
-unfolding batchIn
-returns c = cc
-
 pub tree-id-spec : {M : Type 1} → statement M
-tree-id-spec = tie.close (tie.spec (λ c κs. search needs) (λ c κs. search needs) returns)
+unfolding batchIn
+tree-id-spec = tie.close (tie.spec (λ c κs. search needs) (λ c κs. search needs) (λ c. cc))

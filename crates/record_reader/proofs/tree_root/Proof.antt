@@ -9,8 +9,11 @@ use Rattle.record_reader.proofs.tree_root.Tie as tie
 returns : tie.Need-returns
 returns c = ap {B = NodeId} (λ n. record { 0 = n }) (c .u64-at .ensures) ∙ sym (root-given _ (sym (c .before .before .has-tree-data .ensures) ∙ c .before .if1 .taken))
 
-returns-2 : tie.Need-returns-2
-returns-2 c = sym (root-missing _ (sym (c .before .has-tree-data .ensures) ∙ c .if1 .left))
-
 pub tree-root-spec : {M : Type 1} → statement M
-tree-root-spec = tie.close (tie.spec (λ c κs. search needs) (λ c κs. search needs) returns returns-2)
+tree-root-spec =
+    tie.close
+    (tie.spec
+    (λ c κs. search needs)
+    (λ c κs. search needs)
+    returns
+    (λ c. sym (root-missing _ (sym (c .before .has-tree-data .ensures) ∙ c .if1 .left))))

@@ -5,8 +5,10 @@ use borrow.Author.Needs.{needs}
 use Rattle.record_wire.proofs.f64_at.Statement.{statement}
 use Rattle.record_wire.proofs.f64_at.Tie as tie
 
-returns : tie.Need-returns
-returns c = c .f64-of .ensures ∙ ap (ofBits binary64) (c .before .u64-at .ensures)
-
 pub f64-at-spec : {M : Type 1} → statement M
-f64-at-spec = tie.close (tie.spec (λ c κs. search needs) (λ c κs. search needs) returns)
+f64-at-spec =
+    tie.close
+    (tie.spec
+    (λ c κs. search needs)
+    (λ c κs. search needs)
+    (λ c. c .f64-of .ensures ∙ ap (ofBits binary64) (c .before .u64-at .ensures)))

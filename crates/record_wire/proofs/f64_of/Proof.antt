@@ -7,12 +7,11 @@ use borrow.Author.Needs.{needs}
 use Rattle.record_wire.proofs.f64_of.Statement.{statement}
 use Rattle.record_wire.proofs.f64_of.Tie as tie
 
-float-from-bits-result : tie.Need-float-from-bits-result
-float-from-bits-result c = bits-defined binary64 (c .before .args .bits) (c .if1 .left)
-
-returns : tie.Need-returns
-unfolding ofBits div
-returns c = sym (bits-nan binary64 (c .before .args .bits) (c .if1 .taken))
-
 pub f64-of-spec : {M : Type 1} → statement M
-f64-of-spec = tie.close (tie.spec float-from-bits-result returns (λ c. search needs))
+unfolding ofBits div
+f64-of-spec =
+    tie.close
+    (tie.spec
+    (λ c. bits-defined binary64 (c .before .args .bits) (c .if1 .left))
+    (λ c. sym (bits-nan binary64 (c .before .args .bits) (c .if1 .taken)))
+    (λ c. search needs))

@@ -5,8 +5,5 @@ use Rattle.base.proofs.Floats.{bits-finite}
 use Rattle.record_wire.proofs.finite_bits.Statement.{statement}
 use Rattle.record_wire.proofs.finite_bits.Tie as tie
 
-returns : tie.Need-returns
-returns c = sym (bits-finite binary64 (c .args .bits))
-
 pub finite-bits-spec : {M : Type 1} → statement M
-finite-bits-spec = tie.close (tie.spec returns)
+finite-bits-spec = tie.close (tie.spec (λ c. sym (bits-finite binary64 (c .args .bits))))

@@ -7,9 +7,6 @@ use borrow.Author.Needs.{needs}
 use Rattle.record_wire.proofs.u16_at.Statement.{statement}
 use Rattle.record_wire.proofs.u16_at.Tie as tie
 
-returns : tie.Need-returns
-returns c = sym (le-past _ _ 2 (c .if1 .taken))
-
 returns-2 : tie.Need-returns-2
 returns-2 c =
     let a = c .before .before .before .before .args in
@@ -19,7 +16,7 @@ pub u16-at-spec : {M : Type 1} → statement M
 u16-at-spec =
     tie.close
     (tie.spec
-    returns
+    (λ c. sym (le-past _ _ 2 (c .if1 .taken)))
     (λ c κs. search needs)
     (λ c. search needs)
     (λ c. search needs)

@@ -8,9 +8,6 @@ use borrow.Author.Needs.{needs}
 use Rattle.record_wire.proofs.u64_at.Statement.{statement}
 use Rattle.record_wire.proofs.u64_at.Tie as tie
 
-returns : tie.Need-returns
-returns c = sym (le-past _ _ 8 (c .if1 .taken))
-
 returns-3 : tie.Need-returns-3
 returns-3 c =
     let a = c .before .before .before .before .before .args in
@@ -20,7 +17,7 @@ pub u64-at-spec : {M : Type 1} → statement M
 u64-at-spec =
     tie.close
     (tie.spec
-    returns
+    (λ c. sym (le-past _ _ 8 (c .if1 .taken)))
     (λ c. search needs)
     (λ c κs. search needs)
     (λ c. search needs)

@@ -5,11 +5,10 @@ use borrow.Author.Needs.{needs}
 use Rattle.record_wire.proofs.u8_at.Statement.{statement}
 use Rattle.record_wire.proofs.u8_at.Tie as tie
 
-returns : tie.Need-returns
-returns c = sym (le-one _ _)
-
-returns-2 : tie.Need-returns-2
-returns-2 c = sym (le-past _ _ 1 (c .if1 .left))
-
 pub u8-at-spec : {M : Type 1} → statement M
-u8-at-spec = tie.close (tie.spec (λ c. search needs) returns returns-2)
+u8-at-spec =
+    tie.close
+    (tie.spec
+    (λ c. search needs)
+    (λ c. sym (le-one _ _))
+    (λ c. sym (le-past _ _ 1 (c .if1 .left))))

@@ -5,9 +5,6 @@ use borrow.Author.Needs.{needs}
 use Rattle.record_wire.proofs.whole_u32.Statement.{statement}
 use Rattle.record_wire.proofs.whole_u32.Tie as tie
 
-returns : tie.Need-returns
-returns c = rw le-four (omega arith)
-
 pub whole-u32-spec : {M : Type 1} → statement M
 whole-u32-spec =
     tie.close
@@ -29,4 +26,4 @@ whole-u32-spec =
     (λ c. search needs)
     (λ c. search needs)
     (λ c. search needs)
-    returns)
+    (λ c. rw le-four (omega arith)))

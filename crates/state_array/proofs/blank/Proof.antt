@@ -4,8 +4,5 @@ use Rattle.state_array.proofs.View.{view-empty}
 use Rattle.state_array.proofs.blank.Statement.{statement}
 use Rattle.state_array.proofs.blank.Tie as tie
 
-returns : tie.Need-returns
-returns c = view-empty _ refl refl refl
-
 pub blank-spec : {M : Type 1} → statement M
-blank-spec = tie.close (tie.spec returns)
+blank-spec = tie.close (tie.spec (λ c. view-empty _ refl refl refl))

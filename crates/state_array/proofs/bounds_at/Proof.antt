@@ -4,11 +4,8 @@ use borrow.Author.Needs.{needs}
 use Rattle.state_array.proofs.bounds_at.Statement.{statement}
 use Rattle.state_array.proofs.bounds_at.Tie as tie
 
-returns : tie.Need-returns
-unfolding boundsIn
-returns c = cc
-
 pub bounds-at-spec : {M : Type 1} → statement M
+unfolding boundsIn
 bounds-at-spec =
     tie.close
     (tie.spec
@@ -16,4 +13,4 @@ bounds-at-spec =
     (λ c κs. search needs)
     (λ c κs. search needs)
     (λ c κs. search needs)
-    returns)
+    (λ c. cc))

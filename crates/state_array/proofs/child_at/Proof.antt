@@ -5,14 +5,13 @@ use borrow.Author.Needs.{needs}
 use Rattle.state_array.proofs.child_at.Statement.{statement}
 use Rattle.state_array.proofs.child_at.Tie as tie
 
-returns : tie.Need-returns
-unfolding child
-returns c = rw (lt-ltb (c .before .before .args .j) 512 (c .before .if1 .taken))
-
-returns-2 : tie.Need-returns-2
-unfolding child
-returns-2 c = rw (le-ltb (c .before .args .j) 512 (c .if1 .left))
-
 pub child-at-spec : {M : Type 1} → statement M
+unfolding child
 child-at-spec =
-    tie.close (tie.spec (λ c. search needs) (λ c. search needs) (λ c. search needs) returns returns-2)
+    tie.close
+    (tie.spec
+    (λ c. search needs)
+    (λ c. search needs)
+    (λ c. search needs)
+    (λ c. rw (lt-ltb (c .before .before .args .j) 512 (c .before .if1 .taken)))
+    (λ c. rw (le-ltb (c .before .args .j) 512 (c .if1 .left))))

@@ -6,15 +6,8 @@ use borrow.Author.Needs.{needs}
 use Rattle.state_array.proofs.entry_at.Statement.{statement}
 use Rattle.state_array.proofs.entry_at.Tie as tie
 
-returns : tie.Need-returns
-unfolding entry _&&_
-returns c = let a = c .before .before .args in rw (lt-ltb (a .j) 5 (c .before .before .pre), lt-ltb (a .k) 32 (c .before .if1 .taken))
-
-returns-2 : tie.Need-returns-2
-unfolding entry _&&_
-returns-2 c = let a = c .before .args in rw (lt-ltb (a .j) 5 (c .before .pre), le-ltb (a .k) 32 (c .if1 .left))
-
 pub entry-at-spec : {M : Type 1} → statement M
+unfolding entry _&&_
 entry-at-spec =
     tie.close
     (tie.spec
@@ -23,5 +16,5 @@ entry-at-spec =
     (λ c. search needs)
     (λ c. search needs)
     (λ c. search needs)
-    returns
-    returns-2)
+    (λ c. search (needs, lt-ltb, le-ltb))
+    (λ c. search (needs, lt-ltb, le-ltb)))

@@ -3,8 +3,6 @@ use borrow.Author.Needs.{needs}
 use Rattle.state_array.proofs.float_at.Statement.{statement}
 use Rattle.state_array.proofs.float_at.Tie as tie
 
-returns : tie.Need-returns
-returns c = cc
-
 pub float-at-spec : {M : Type 1} → statement M
-float-at-spec = tie.close (tie.spec (λ c. search needs) (λ c κs. search needs) (λ c κs. search needs) returns)
+float-at-spec =
+    tie.close (tie.spec (λ c. search needs) (λ c κs. search needs) (λ c κs. search needs) (λ c. cc))

@@ -4,9 +4,7 @@ use borrow.Author.Needs.{needs}
 use Rattle.state_array.proofs.id_at.Statement.{statement}
 use Rattle.state_array.proofs.id_at.Tie as tie
 
-returns : tie.Need-returns
-unfolding idIn
-returns c = cc
-
 pub id-at-spec : {M : Type 1} → statement M
-id-at-spec = tie.close (tie.spec (λ c κs. search needs) (λ c κs. search needs) (λ c κs. search needs) returns)
+unfolding idIn
+id-at-spec =
+    tie.close (tie.spec (λ c κs. search needs) (λ c κs. search needs) (λ c κs. search needs) (λ c. cc))

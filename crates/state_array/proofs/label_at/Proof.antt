@@ -4,11 +4,8 @@ use borrow.Author.Needs.{needs}
 use Rattle.state_array.proofs.label_at.Statement.{statement}
 use Rattle.state_array.proofs.label_at.Tie as tie
 
-returns : tie.Need-returns
-unfolding listOf
-returns c = cc
-
 pub label-at-spec : {M : Type 1} → statement M
+unfolding listOf
 label-at-spec =
     tie.close
     (tie.spec
@@ -16,4 +13,4 @@ label-at-spec =
     (λ c κs. search needs)
     (λ c κs. search needs)
     (λ c κs. search needs)
-    returns)
+    (λ c. cc))

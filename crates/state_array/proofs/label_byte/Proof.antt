@@ -5,15 +5,15 @@ use borrow.Author.Needs.{needs}
 use Rattle.state_array.proofs.label_byte.Statement.{statement}
 use Rattle.state_array.proofs.label_byte.Tie as tie
 
-returns : tie.Need-returns
-unfolding labelByte
-returns c = rw (le-ltb (c .before .args .j) 32 (c .if1 .taken))
-
-returns-2 : tie.Need-returns-2
-unfolding labelByte
-returns-2 c = rw (lt-ltb (c .before .before .args .j) 32 (c .before .if1 .left), c .word-at .ensures)
-
 pub label-byte-spec : {M : Type 1} → statement M
+unfolding labelByte
 label-byte-spec =
     tie.close
-    (tie.spec returns (λ c. search needs) (λ c κs. search needs) (λ c. search needs) (λ c. search needs) (λ c. search needs) returns-2)
+    (tie.spec
+    (λ c. rw (le-ltb (c .before .args .j) 32 (c .if1 .taken)))
+    (λ c. search needs)
+    (λ c κs. search needs)
+    (λ c. search needs)
+    (λ c. search needs)
+    (λ c. search needs)
+    (λ c. rw (lt-ltb (c .before .before .args .j) 32 (c .before .if1 .left), c .word-at .ensures)))

@@ -4,11 +4,8 @@ use borrow.Author.Needs.{needs}
 use Rattle.state_array.proofs.link_at.Statement.{statement}
 use Rattle.state_array.proofs.link_at.Tie as tie
 
-returns : tie.Need-returns
-unfolding linkIn
-returns c = cc
-
 pub link-at-spec : {M : Type 1} → statement M
+unfolding linkIn
 link-at-spec =
     tie.close
     (tie.spec
@@ -17,4 +14,4 @@ link-at-spec =
     (λ c κs. search needs)
     (λ c κs. search needs)
     (λ c κs. search needs)
-    returns)
+    (λ c. cc))

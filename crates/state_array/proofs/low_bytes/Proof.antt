@@ -13,9 +13,6 @@ use Rattle.state_array.proofs.low_bytes.Tie as tie
 power : (n : ℕ) → n < 8 → 1 * 2 ^ (8 * n) % 18446744073709551616 ≡ 2 ^ (8 * n)
 power n h = rw (one-mul (2 ^ (8 * n))) (mod-eq-of-lt (pow-lt {i = 8 * n} {j = 64} (omega arith)))
 
-rem-result : tie.Need-rem-result
-rem-result c = rw (power (c .before .args .n) (omega arith)) (pow-pos (8 * c .before .args .n))
-
 returns : tie.Need-returns
 returns c =
     let n = c .before .args .n in
@@ -28,4 +25,11 @@ returns-2 c =
     rw eight (sym (mod-eq-of-lt (c .before .fits .w .fits)))
 
 pub low-bytes-spec : {M : Type 1} → statement M
-low-bytes-spec = tie.close (tie.spec (λ c. search needs) (λ c. search needs) rem-result returns returns-2)
+low-bytes-spec =
+    tie.close
+    (tie.spec
+    (λ c. search needs)
+    (λ c. search needs)
+    (λ c. rw (power (c .before .args .n) (omega arith)) (pow-pos (8 * c .before .args .n)))
+    returns
+    returns-2)

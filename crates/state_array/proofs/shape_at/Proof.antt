@@ -4,11 +4,8 @@ use borrow.Author.Needs.{needs}
 use Rattle.state_array.proofs.shape_at.Statement.{statement}
 use Rattle.state_array.proofs.shape_at.Tie as tie
 
-returns : tie.Need-returns
-unfolding shapeIn
-returns c = cc
-
 pub shape-at-spec : {M : Type 1} → statement M
+unfolding shapeIn
 shape-at-spec =
     tie.close
     (tie.spec
@@ -17,4 +14,4 @@ shape-at-spec =
     (λ c κs. search needs)
     (λ c κs. search needs)
     (λ c κs. search needs)
-    returns)
+    (λ c. cc))

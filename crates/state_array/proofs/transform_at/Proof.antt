@@ -4,11 +4,8 @@ use borrow.Author.Needs.{needs}
 use Rattle.state_array.proofs.transform_at.Statement.{statement}
 use Rattle.state_array.proofs.transform_at.Tie as tie
 
-returns : tie.Need-returns
-unfolding transformIn
-returns c = cc
-
 pub transform-at-spec : {M : Type 1} → statement M
+unfolding transformIn
 transform-at-spec =
     tie.close
     (tie.spec
@@ -18,4 +15,4 @@ transform-at-spec =
     (λ c κs. search needs)
     (λ c κs. search needs)
     (λ c κs. search needs)
-    returns)
+    (λ c. cc))

@@ -4,11 +4,8 @@ use borrow.Author.Needs.{needs}
 use Rattle.state_array.proofs.tree_at.Statement.{statement}
 use Rattle.state_array.proofs.tree_at.Tie as tie
 
-returns : tie.Need-returns
-unfolding treeIn
-returns c = cc
-
 pub tree-at-spec : {M : Type 1} → statement M
+unfolding treeIn
 tree-at-spec =
     tie.close
     (tie.spec
@@ -17,4 +14,4 @@ tree-at-spec =
     (λ c κs. search needs)
     (λ c κs. search needs)
     (λ c κs. search needs)
-    returns)
+    (λ c. cc))

@@ -6,15 +6,8 @@ use borrow.Author.Needs.{needs}
 use Rattle.state_array.proofs.word_at.Statement.{statement}
 use Rattle.state_array.proofs.word_at.Tie as tie
 
-returns : tie.Need-returns
-unfolding word _&&_
-returns c = let a = c .before .before .args in rw (lt-ltb (a .f) 28 (c .before .before .pre), lt-ltb (a .i) 320 (c .before .if1 .taken))
-
-returns-2 : tie.Need-returns-2
-unfolding word _&&_
-returns-2 c = let a = c .before .args in rw (lt-ltb (a .f) 28 (c .before .pre), le-ltb (a .i) 320 (c .if1 .left))
-
 pub word-at-spec : {M : Type 1} → statement M
+unfolding word _&&_
 word-at-spec =
     tie.close
     (tie.spec
@@ -23,5 +16,5 @@ word-at-spec =
     (λ c. search needs)
     (λ c. search needs)
     (λ c. search needs)
-    returns
-    returns-2)
+    (λ c. search (needs, lt-ltb, le-ltb))
+    (λ c. search (needs, lt-ltb, le-ltb)))

@@ -8,7 +8,8 @@ use Rattle.state_fields.proofs.fields_ok_at.Tie as tie
 
 returns : tie.Need-returns
 unfolding _&&_
-returns c = let a = c .before .before .before .before .before .before .before .before .before .before .before .before .before .before .args in cc (fields-read (now (a .state)) (a .i))
+returns c =
+    let a = c .before .before .before .before .before .before .before .before .before .before .before .before .before .before .args in cc (fields-read (now (a .state)) (a .i))
 
 pub fields-ok-at-spec : {M : Type 1} → statement M
 fields-ok-at-spec =

@@ -29,11 +29,8 @@ loop-again c =
     scan-more (c .before .before .before .before .before .loop .inv) (omega arith)
     (rw (c .before .before .before .id-at .ensures, c .before .before .id-at2 .ensures) at (call-true (c .before .is-before .ensures) (c .if1 .left)))
 
-returns-2 : tie.Need-returns-2 Inv-loop μ-loop
-unfolding ascend
-returns-2 c = rw (ordered-is _) (scan-end (c .before .loop .inv) (omega arith) (omega arith))
-
 pub ordered-spec : {M : Type 1} → statement M
+unfolding ascend
 ordered-spec =
     tie.close
     (tie.spec
@@ -50,4 +47,4 @@ ordered-spec =
     (λ c. search needs)
     (λ c. search needs)
     loop-again
-    returns-2)
+    (λ c. rw (ordered-is _) (scan-end (c .before .loop .inv) (omega arith) (omega arith))))

@@ -8,13 +8,16 @@ use borrow.Author.Needs.{needs}
 use Rattle.state_lookup.proofs.stands.Statement.{statement}
 use Rattle.state_lookup.proofs.stands.Tie as tie
 
-returns : tie.Need-returns
-unfolding inSlot _&&_
-returns c = rw (le-ltb (c .before .args .i) (c .before .args .n) (c .if1 .taken))
-
 returns-2 : tie.Need-returns-2
 unfolding inSlot _&&_
 returns-2 c = let a = c .before .before .before .args in rw (lt-ltb (a .i) (a .n) (c .before .before .if1 .left)) (c .same-id .ensures ∙ ap (sameId (a .id)) (c .before .id-at .ensures))
 
 pub stands-spec : {M : Type 1} → statement M
-stands-spec = tie.close (tie.spec returns (λ c κs. search needs) (λ c κs. search needs) returns-2)
+unfolding inSlot _&&_
+stands-spec =
+    tie.close
+    (tie.spec
+    (λ c. rw (le-ltb (c .before .args .i) (c .before .args .n) (c .if1 .taken)))
+    (λ c κs. search needs)
+    (λ c κs. search needs)
+    returns-2)

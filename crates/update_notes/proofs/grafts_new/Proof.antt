@@ -6,8 +6,11 @@ use borrow.Author.Needs.{needs}
 use Rattle.update_notes.proofs.grafts_new.Statement.{statement}
 use Rattle.update_notes.proofs.grafts_new.Tie as tie
 
-returns : tie.Need-returns
-returns c = c .is-graft .ensures ∙ ap (bit 8) (c .before .flags .ensures) ∙ graft-flag _
-
 pub grafts-new-spec : {M : Type 1} → statement M
-grafts-new-spec = tie.close (tie.spec (λ c κs. search needs) (λ c. search needs) (λ c κs. search needs) returns)
+grafts-new-spec =
+    tie.close
+    (tie.spec
+    (λ c κs. search needs)
+    (λ c. search needs)
+    (λ c κs. search needs)
+    (λ c. c .is-graft .ensures ∙ ap (bit 8) (c .before .flags .ensures) ∙ graft-flag _))

@@ -1,48 +1,31 @@
 -- `update_notes::position_in` meets its contract: no word passed is x. Assumes nothing.
-use mathlib.Core.Bool.{false}
-use mathlib.Core.Path.{_≡_}
-use Prim.Native.Nat.{ℕ, _+_, _-_, _≤_, _<_}
-use native.Mathlib.Omega.{arith}
+use Prim.Native.Nat.{_+_, _-_}
 use lib.Dec.{eqb}
 use lib.ListN.{getD}
-use borrow.Author.Count.{below-more}
 use borrow.Author.Needs.{needs}
 use borrow.Author.Tests.{eq-eqb, ne-eqb}
-use Rattle.base.proofs.Search.{first-here, first-end}
+use Rattle.base.proofs.Scan.{Missed, scan}
 use Rattle.update_notes.proofs.position_in.Statement.{statement}
 use Rattle.update_notes.proofs.position_in.Tie as tie
 
 abbrev Inv-loop : tie.InvT-loop
-Inv-loop notes from n x i₀ i = (i ≤ n) × ((k : ℕ) → k < i → eqb (getD notes (from + k) 0) x ≡ false)
+Inv-loop notes from n x i₀ i = Missed (λ k. eqb (getD notes (from + k) 0) x) n i
 
 abbrev μ-loop : tie.MeasureT-loop
 μ-loop notes from n x i₀ i = n - i
 
-loop-holds : tie.Need-loop-holds Inv-loop μ-loop
-loop-holds c = (omega arith, λ k h. absurd (omega arith))
-
-add-if1 : tie.Need-add-if1 Inv-loop μ-loop
-add-if1 c = omega arith
-
-element-copy-out-if1 : tie.Need-element-copy-out-if1 Inv-loop μ-loop
-element-copy-out-if1 c = omega arith
-
-returns : tie.Need-returns Inv-loop μ-loop
-returns c = let l = c .before .before .before in first-here _ _ _ (l .loop .inv .1) (omega arith) (eq-eqb _ _ (c .if1 .taken))
-
-add-i : tie.Need-add-i Inv-loop μ-loop
-add-i c = omega arith
-
-loop-less : tie.Need-loop-less Inv-loop μ-loop
-loop-less c = omega arith
-
-loop-again : tie.Need-loop-again Inv-loop μ-loop
-loop-again c = let l = c .before .before .before .loop in (omega arith, below-more _ _ (l .inv .1) (ne-eqb _ _ (c .if1 .left)))
-
-returns-2 : tie.Need-returns-2 Inv-loop μ-loop
-returns-2 c = first-end _ _ _ (c .before .loop .inv .1) (omega arith)
-
 pub position-in-spec : {M : Type 1} → statement M
 position-in-spec =
     tie.close
-    (tie.spec Inv-loop μ-loop loop-holds add-if1 (λ c. search needs) element-copy-out-if1 returns add-i loop-less loop-again returns-2)
+    (tie.spec
+    Inv-loop
+    μ-loop
+    (λ c. search scan)
+    (λ c. search needs)
+    (λ c. search needs)
+    (λ c. search needs)
+    (λ c. search (scan, eq-eqb))
+    (λ c. search needs)
+    (λ c. search needs)
+    (λ c. search (scan, ne-eqb))
+    (λ c. search scan))

@@ -20,7 +20,8 @@ add-nexts c =
 loop-again-2 : tie.Need-loop-again-2 Inv-loop μ-loop
 loop-again-2 c =
     let l = c .before .before .before .before .before .before in
-    going-on (l .before .loop .inv) (l .loop-test .taken) (c .before .before .before .before .before .kid-at .ensures) (c .before .before .before .id .given .1) (c .before .met-at .ensures) (c .if1 .left)
+    going-on (l .before .loop .inv) (l .loop-test .taken) (c .before .before .before .before .before .kid-at .ensures)
+    (c .before .before .before .id .given .1) (c .before .met-at .ensures) (c .if1 .left)
 
 pub goes-down-spec : {M : Type 1} → statement M
 goes-down-spec =
