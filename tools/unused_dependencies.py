@@ -18,11 +18,11 @@ def listed():
 
 
 def named(crate, libraries):
-    """The libraries that a crate's files name."""
+    """The libraries that a crate's files name; a module of its own hides one of the same name."""
     files = [f for f in (ROOT / "crates" / crate).rglob("*") if f.suffix in (".rt", ".antt")]
     text = re.sub(r"^ *(//|--).*", "", "\n".join(f.read_text() for f in files), flags=re.M)
     words = set(re.findall(r"\b(\w+)::|Rattle·(\w+)", text))
-    return {word for pair in words for word in pair} & libraries - {crate}
+    return {word for pair in words for word in pair} & libraries - {crate} - set(re.findall(r"\bmod (\w+);", text))
 
 
 def main():
