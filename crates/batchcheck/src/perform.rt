@@ -118,14 +118,14 @@ fn start<'a>(
     roles: &'a [u8; 4096],
 ) {
     let before = *state;
-    let reply = cartgravel::cartgravel_start(state, batch, host_focused);
+    let reply = calls::start(state, batch, host_focused);
     say::tell(seen, &before, state, reply, batch, &[], roles);
 }
 
 // A host focus change.
 fn host_focus(seen: Seen, state: &mut State, host_focused: u32, roles: &[u8; 4096]) {
     let before = *state;
-    let reply = cartgravel::cartgravel_host_focus(state, host_focused);
+    let reply = calls::host_focus(state, host_focused);
     say::tell(seen, &before, state, reply, &[], &[], roles);
 }
 
@@ -154,6 +154,6 @@ fn lent<'a>(
     roles: &'a [u8; 4096],
 ) {
     let before = *state;
-    let reply = cartgravel::cartgravel_update(state, batch, changes);
+    let reply = calls::update(state, batch, changes);
     say::tell(seen, &before, state, reply, batch, changes, roles);
 }

@@ -242,7 +242,7 @@ fn because<'a>(kind: u8, before: &'a State, n: u8, batch: &'a [u8], room: usize)
 fn too_short<'a>(before: &'a State, batch: &'a [u8], room: usize) {
     let mut again = *before;
     let mut lists = [0u64; 2048];
-    let r = cartgravel::cartgravel_update(&mut again, batch, &mut lists);
+    let r = calls::update(&mut again, batch, &mut lists);
     print::of_number(
         b"the lists take # elements, two a node, and ",
         taken_by(r.lengths),

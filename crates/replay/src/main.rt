@@ -113,18 +113,18 @@ fn answer(f: &[u8; 98304], state: &mut State, lent: &mut [u64; 1024]) -> Reply {
     let host = frame::host(f);
     let kind = frame::field(f, 0);
     match kind {
-        0 => cartgravel::cartgravel_start(state, frame::record(f), host),
+        0 => calls::start(state, frame::record(f), host),
         1 => update(state, frame::record(f), lent, frame::field(f, 10)),
-        _ => cartgravel::cartgravel_host_focus(state, host),
+        _ => calls::host_focus(state, host),
     }
 }
 
 // A batch with the first `room` elements for the lists.
 fn update(state: &mut State, batch: &[u8], lent: &mut [u64], room: usize) -> Reply {
     if room <= lent.len() {
-        return cartgravel::cartgravel_update(state, batch, &mut lent[0..room]);
+        return calls::update(state, batch, &mut lent[0..room]);
     }
-    cartgravel::cartgravel_update(state, batch, lent)
+    calls::update(state, batch, lent)
 }
 
 // ## Comparing
