@@ -2,6 +2,7 @@ pub mod Computed
 pub mod LinkCases
 pub mod FilterCases
 pub mod WalkCases
+pub mod KeptCases
 pub mod Links
 pub mod Flat
 pub mod Walks

@@ -10,4 +10,5 @@ pub mod ExampleQuestions
 pub mod LinkCases
 pub mod FilterCases
 pub mod WalkCases
+pub mod KeptCases
 pub mod Kept
