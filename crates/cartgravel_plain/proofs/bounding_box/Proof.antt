@@ -1,15 +1,7 @@
+-- `cartgravel_plain::bounding_box` meets its contract: by the variant. Assumes nothing.
 use borrow.Author.Needs.{needs}
 use Rattle.cartgravel_plain.proofs.bounding_box.Statement.{statement}
 use Rattle.cartgravel_plain.proofs.bounding_box.Tie as tie
-
-cast-number : tie.Need-cast-number
-cast-number c = search needs
-
-enum-known-b : tie.Need-enum-known-b
-enum-known-b c = search needs
-
-enum-told : tie.Need-enum-told
-enum-told c = search needs
 
 returns : tie.Need-returns
 returns c = rw (c .before .b .given .1)
@@ -18,4 +10,4 @@ returns-2 : tie.Need-returns-2
 returns-2 c = rw (c .enum-told .given .1)
 
 pub bounding-box-spec : {M : Type 1} → statement M
-bounding-box-spec = tie.close (tie.spec cast-number enum-known-b enum-told returns returns-2)
+bounding-box-spec = tie.close (tie.spec (λ c. search needs) (λ c. search needs) (λ c. search needs) returns returns-2)

@@ -1,18 +1,10 @@
+-- `cartgravel_plain::counts` meets its contract: what the inner question says, as plain values. Assumes nothing.
 use borrow.Author.Needs.{needs}
 use Rattle.cartgravel_plain.proofs.counts.Statement.{statement}
 use Rattle.cartgravel_plain.proofs.counts.Tie as tie
-
-weighed-requires : tie.Need-weighed-requires
-weighed-requires c κs = search needs
-
-cast-t3 : tie.Need-cast-t3
-cast-t3 c = search needs
-
-cast-t4 : tie.Need-cast-t4
-cast-t4 c = search needs
 
 returns : tie.Need-returns
 returns c = cc
 
 pub counts-spec : {M : Type 1} → statement M
-counts-spec = tie.close (tie.spec weighed-requires cast-t3 cast-t4 returns)
+counts-spec = tie.close (tie.spec (λ c κs. search needs) (λ c. search needs) (λ c. search needs) returns)

@@ -1,3 +1,4 @@
+-- `cartgravel_plain::filter_of` meets its contract: what the inner question says, as plain values. Assumes nothing.
 use mathlib.Core.Path.{refl}
 use native.Mathlib.Omega.{arith}
 use Rattle.questions.specs.Kept.{filterChoice}

@@ -1,19 +1,8 @@
+-- `cartgravel_plain::filter_result` meets its contract: by the variant. Assumes nothing.
 use mathlib.Core.Path.{refl}
 use borrow.Author.Needs.{needs}
 use Rattle.cartgravel_plain.proofs.filter_result.Statement.{statement}
 use Rattle.cartgravel_plain.proofs.filter_result.Tie as tie
-
-enum-known-a : tie.Need-enum-known-a
-enum-known-a c = search needs
-
-cast-t5 : tie.Need-cast-t5
-cast-t5 c = search needs
-
-enum-known-a-2 : tie.Need-enum-known-a-2
-enum-known-a-2 c = search needs
-
-result-number-requires : tie.Need-result-number-requires
-result-number-requires c κs = search needs
 
 returns : tie.Need-returns
 returns c = rw (c .before .a .given .1)
@@ -24,4 +13,4 @@ returns-2 c = rw (c .before .before .a2 .given .1, c .result-number .ensures) re
 pub filter-result-spec : {M : Type 1} → statement M
 filter-result-spec =
     tie.close
-    (tie.spec enum-known-a cast-t5 enum-known-a-2 result-number-requires returns returns-2)
+    (tie.spec (λ c. search needs) (λ c. search needs) (λ c. search needs) (λ c κs. search needs) returns returns-2)

@@ -1,29 +1,9 @@
+-- `cartgravel_plain::tree_ends` meets its contract: by the variant. Assumes nothing.
 use mathlib.Core.Path.{refl}
 use Rattle.state_focus.specs.Focus.{foundOf}
 use borrow.Author.Needs.{needs}
 use Rattle.cartgravel_plain.proofs.tree_ends.Statement.{statement}
 use Rattle.cartgravel_plain.proofs.tree_ends.Tie as tie
-
-cast-number : tie.Need-cast-number
-cast-number c = search needs
-
-enum-known-ends : tie.Need-enum-known-ends
-enum-known-ends c = search needs
-
-plain-id-requires : tie.Need-plain-id-requires
-plain-id-requires c κs = search needs
-
-plain-id-requires-2 : tie.Need-plain-id-requires-2
-plain-id-requires-2 c κs = search needs
-
-enum-told : tie.Need-enum-told
-enum-told c = search needs
-
-plain-id-requires-3 : tie.Need-plain-id-requires-3
-plain-id-requires-3 c κs = search needs
-
-plain-id-requires-4 : tie.Need-plain-id-requires-4
-plain-id-requires-4 c κs = search needs
 
 returns : tie.Need-returns
 unfolding foundOf
@@ -37,12 +17,12 @@ pub tree-ends-spec : {M : Type 1} → statement M
 tree-ends-spec =
     tie.close
     (tie.spec
-    cast-number
-    enum-known-ends
-    plain-id-requires
-    plain-id-requires-2
-    enum-told
-    plain-id-requires-3
-    plain-id-requires-4
+    (λ c. search needs)
+    (λ c. search needs)
+    (λ c κs. search needs)
+    (λ c κs. search needs)
+    (λ c. search needs)
+    (λ c κs. search needs)
+    (λ c κs. search needs)
     returns
     returns-2)

@@ -1,26 +1,9 @@
+-- `cartgravel::asking::cartgravel_deepest_first_filtered_child` meets its contract: by the number, as the question does, or 1 or 2 alone. Assumes nothing.
 use mathlib.Core.Path.{refl}
 use Rattle.cartgravel.specs.Questions.{nodeReply}
 use borrow.Author.Needs.{needs}
 use Rattle.cartgravel.proofs.asking.cartgravel_deepest_first_filtered_child.Statement.{statement}
 use Rattle.cartgravel.proofs.asking.cartgravel_deepest_first_filtered_child.Tie as tie
-
-filter-of-requires : tie.Need-filter-of-requires
-filter-of-requires c κs = search needs
-
-enum-known-f : tie.Need-enum-known-f
-enum-known-f c = search needs
-
-deepest-first-filtered-child-requires : tie.Need-deepest-first-filtered-child-requires
-deepest-first-filtered-child-requires c κs = search needs
-
-found-requires : tie.Need-found-requires
-found-requires c κs = search needs
-
-enum-told : tie.Need-enum-told
-enum-told c = search needs
-
-no-node-requires : tie.Need-no-node-requires
-no-node-requires c κs = search needs
 
 returns : tie.Need-returns
 unfolding nodeReply
@@ -34,11 +17,11 @@ pub cartgravel-deepest-first-filtered-child-spec : {M : Type 1} → statement M
 cartgravel-deepest-first-filtered-child-spec =
     tie.close
     (tie.spec
-    filter-of-requires
-    enum-known-f
-    deepest-first-filtered-child-requires
-    found-requires
-    enum-told
-    no-node-requires
+    (λ c κs. search needs)
+    (λ c. search needs)
+    (λ c κs. search needs)
+    (λ c κs. search needs)
+    (λ c. search needs)
+    (λ c κs. search needs)
     returns
     returns-2)

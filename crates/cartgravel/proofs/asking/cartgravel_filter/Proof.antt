@@ -1,29 +1,9 @@
+-- `cartgravel::asking::cartgravel_filter` meets its contract: by the number, as the question does, or 1 or 2 alone. Assumes nothing.
 use mathlib.Core.Path.{refl}
 use Rattle.cartgravel.specs.Questions.{filterReply}
 use borrow.Author.Needs.{needs}
 use Rattle.cartgravel.proofs.asking.cartgravel_filter.Statement.{statement}
 use Rattle.cartgravel.proofs.asking.cartgravel_filter.Tie as tie
-
-filter-of-requires : tie.Need-filter-of-requires
-filter-of-requires c κs = search needs
-
-enum-known-f : tie.Need-enum-known-f
-enum-known-f c = search needs
-
-filter-requires : tie.Need-filter-requires
-filter-requires c κs = search needs
-
-filter-result-requires : tie.Need-filter-result-requires
-filter-result-requires c κs = search needs
-
-enum-told : tie.Need-enum-told
-enum-told c = search needs
-
-unknown-requires : tie.Need-unknown-requires
-unknown-requires c κs = search needs
-
-cast-t9 : tie.Need-cast-t9
-cast-t9 c = search needs
 
 returns : tie.Need-returns
 unfolding filterReply
@@ -41,12 +21,12 @@ pub cartgravel-filter-spec : {M : Type 1} → statement M
 cartgravel-filter-spec =
     tie.close
     (tie.spec
-    filter-of-requires
-    enum-known-f
-    filter-requires
-    filter-result-requires
-    enum-told
-    unknown-requires
-    cast-t9
+    (λ c κs. search needs)
+    (λ c. search needs)
+    (λ c κs. search needs)
+    (λ c κs. search needs)
+    (λ c. search needs)
+    (λ c κs. search needs)
+    (λ c. search needs)
     returns
     returns-2)

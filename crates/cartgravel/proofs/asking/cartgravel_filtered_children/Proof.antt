@@ -1,29 +1,9 @@
+-- `cartgravel::asking::cartgravel_filtered_children` meets its contract: by the number, as the question does, or 1 or 2 alone. Assumes nothing.
 use mathlib.Core.Path.{refl, ap, _∙_}
 use Rattle.cartgravel_plain.specs.Plain.{plainList}
 use borrow.Author.Needs.{needs}
 use Rattle.cartgravel.proofs.asking.cartgravel_filtered_children.Statement.{statement}
 use Rattle.cartgravel.proofs.asking.cartgravel_filtered_children.Tie as tie
-
-filter-of-requires : tie.Need-filter-of-requires
-filter-of-requires c κs = search needs
-
-enum-known-f : tie.Need-enum-known-f
-enum-known-f c = search needs
-
-filtered-children-requires : tie.Need-filtered-children-requires
-filtered-children-requires c κs = search needs
-
-list-requires : tie.Need-list-requires
-list-requires c κs = search needs
-
-enum-told : tie.Need-enum-told
-enum-told c = search needs
-
-no-list-requires : tie.Need-no-list-requires
-no-list-requires c κs = search needs
-
-same-length : tie.Need-same-length
-same-length c = search needs
 
 returns : tie.Need-returns
 returns c =
@@ -38,12 +18,12 @@ pub cartgravel-filtered-children-spec : {M : Type 1} → statement M
 cartgravel-filtered-children-spec =
     tie.close
     (tie.spec
-    filter-of-requires
-    enum-known-f
-    filtered-children-requires
-    list-requires
-    enum-told
-    no-list-requires
-    same-length
+    (λ c κs. search needs)
+    (λ c. search needs)
+    (λ c κs. search needs)
+    (λ c κs. search needs)
+    (λ c. search needs)
+    (λ c κs. search needs)
+    (λ c. search needs)
     returns
     returns-2)

@@ -1,17 +1,9 @@
+-- `cartgravel::asking::cartgravel_label` meets its contract: the inner question says both. Assumes nothing.
 use mathlib.Core.Path.{ap, _∙_}
 use Rattle.cartgravel_plain.specs.Plain.{plainList}
 use borrow.Author.Needs.{needs}
 use Rattle.cartgravel.proofs.asking.cartgravel_label.Statement.{statement}
 use Rattle.cartgravel.proofs.asking.cartgravel_label.Tie as tie
-
-label-requires : tie.Need-label-requires
-label-requires c κs = search needs
-
-list-requires : tie.Need-list-requires
-list-requires c κs = search needs
-
-same-length : tie.Need-same-length
-same-length c = search needs
 
 returns : tie.Need-returns
 returns c =
@@ -19,4 +11,4 @@ returns c =
     record { answer-is = c .list .ensures ∙ ap plainList (l .answer-is); slice-is = l .slice-is }
 
 pub cartgravel-label-spec : {M : Type 1} → statement M
-cartgravel-label-spec = tie.close (tie.spec label-requires list-requires same-length returns)
+cartgravel-label-spec = tie.close (tie.spec (λ c κs. search needs) (λ c κs. search needs) (λ c. search needs) returns)

@@ -1,3 +1,4 @@
+-- `cartgravel::asking::no_node` meets its contract: what the inner question says, as plain values. Assumes nothing.
 use mathlib.Core.Option.{none}
 use mathlib.Core.Path.{_≡_, refl}
 use Prim.Native.Nat.{ℕ, zero, suc}
@@ -10,15 +11,6 @@ use borrow.Author.Needs.{needs}
 use Rattle.cartgravel.proofs.asking.no_node.Statement.{statement}
 use Rattle.cartgravel.proofs.asking.no_node.Tie as tie
 
-plain-id-requires : tie.Need-plain-id-requires
-plain-id-requires c κs = search needs
-
-unknown-requires : tie.Need-unknown-requires
-unknown-requires c κs = search needs
-
-cast-t5 : tie.Need-cast-t5
-cast-t5 c = search needs
-
 -- no node after any number
 none-found : (k : ℕ) → record { id = plainId none; number = k } ≡ plainFound (nodeAnswer k none)
 unfolding foundOf nodeAnswer after foundNode
@@ -30,4 +22,4 @@ unfolding foundOf
 returns c = rw (c .unknown .ensures, c .before .plain-id .ensures) (none-found _)
 
 pub no-node-spec : {M : Type 1} → statement M
-no-node-spec = tie.close (tie.spec plain-id-requires unknown-requires cast-t5 returns)
+no-node-spec = tie.close (tie.spec (λ c κs. search needs) (λ c κs. search needs) (λ c. search needs) returns)
