@@ -44,6 +44,8 @@ pub enum Of {
 pub fn rows() -> Vec<Row> {
     let row = |words, question, of| Row { words, question, of };
     let sides = [
+        row("siblings after a node", Question::Siblings(FOLLOWING), Of::Middle),
+        row("siblings before it", Question::Siblings(PRECEDING), Of::Middle),
         row("filtered siblings after a node", Question::FilteredSiblings(COMMON, FOLLOWING), Of::Middle),
         row("filtered siblings before it", Question::FilteredSiblings(COMMON, PRECEDING), Of::Middle),
     ];

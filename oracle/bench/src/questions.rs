@@ -32,6 +32,7 @@ pub enum Question {
     LastChild(Filter),
     DeepestFirst(Filter),
     DeepestLast(Filter),
+    Siblings(Side),
     FilteredChildren(Filter),
     FilteredSiblings(Filter, Side),
 }
@@ -84,6 +85,7 @@ pub fn ours(state: &sys::State, question: Question, id: Id, room: &mut Room) -> 
         Question::LastChild(f) => found(state.last_filtered_child(id, f)),
         Question::DeepestFirst(f) => found(state.deepest_first_filtered_child(id, f)),
         Question::DeepestLast(f) => found(state.deepest_last_filtered_child(id, f)),
+        Question::Siblings(side) => listed(state.siblings(id, side, room)),
         Question::FilteredChildren(f) => listed(state.filtered_children(id, f, room)),
         Question::FilteredSiblings(f, side) => listed(state.filtered_siblings(id, f, side, room)),
     }
@@ -122,6 +124,8 @@ pub fn theirs(state: &TreeState, question: Question, id: Id, room: &mut Room) ->
         Question::LastChild(f) => name(last_filtered_child(&node, &filter(f))),
         Question::DeepestFirst(f) => name(node.deepest_first_filtered_child(&filter(f))),
         Question::DeepestLast(f) => name(node.deepest_last_filtered_child(&filter(f))),
+        Question::Siblings(FOLLOWING) => list(node.following_siblings(), room),
+        Question::Siblings(_) => list(node.preceding_siblings(), room),
         Question::FilteredChildren(f) => list(node.filtered_children(filter(f)), room),
         Question::FilteredSiblings(f, FOLLOWING) => list(node.following_filtered_siblings(filter(f)), room),
         Question::FilteredSiblings(f, _) => list(node.preceding_filtered_siblings(filter(f)), room),
