@@ -15,7 +15,7 @@ use Rattle.base.specs.Tests.{if_then_else_}
 use Rattle.base.specs.Bytes.{listOf}
 use Rattle.base.proofs.Tests.{both}
 use Rattle.base.proofs.Bytes.{length-list-of, list-of-at}
-use Rattle.base.specs.Regions.{fill, Region, fills, row, laid, Part, part, wordsOf, image, startOf, withPart}
+use Rattle.base.specs.Regions.{fill, Region, fills, row, laid, Part, part, wordsOf, image, partStart, withPart}
 
 -- ## One region
 
@@ -112,7 +112,7 @@ pub part-rest : (p : Part) (i : ℕ) → i < p .size → p .used ≤ i → getD 
 unfolding wordsOf
 part-rest p i l h = list-of-at (p .size) i (λ i. if ltb i (p .used) then p .word i else 0) 0 l ∙ rw (le-ltb i (p .used) h)
 
--- a blank part that is filled
+-- an unused part that is filled
 part-filled : (p : Part) (n : ℕ) (f : ℕ → ℕ) → p .used ≡ 0 → n ≤ p .size → fill 0 n f (wordsOf p) ≡ wordsOf (part (p .size) n f)
 part-filled p n f e l =
     ext-getD 0 (fill 0 n f (wordsOf p)) (wordsOf (part (p .size) n f)) (size ∙ sym (part-length (part (p .size) n f)))
@@ -155,26 +155,26 @@ Free (p ∷ ps) zero n = (p .used ≡ 0) × (n ≤ p .size)
 Free (p ∷ ps) (suc j) n = Free ps j n
 
 -- filling a region of an image is using a part of it
-pub image-filled : (ps : List Part) (j n : ℕ) (f : ℕ → ℕ) → Free ps j n → fill (startOf ps j) n f (image ps) ≡ image (withPart ps j n f)
+pub image-filled : (ps : List Part) (j n : ℕ) (f : ℕ → ℕ) → Free ps j n → fill (partStart ps j) n f (image ps) ≡ image (withPart ps j n f)
 unfolding image
 image-filled [] j n f h = absurd h
 image-filled (p ∷ ps) zero n f h =
     fill-left n f (wordsOf p) (image ps) (omega (arith, part-length p))
     ∙ ap (λ s. s ++ image ps) (part-filled p n f (h .0) (h .1))
 image-filled (p ∷ ps) (suc j) n f h =
-    ap (λ a. fill (a + startOf ps j) n f (wordsOf p ++ image ps)) (sym (part-length p))
-    ∙ fill-right (startOf ps j) n f (wordsOf p) (image ps)
+    ap (λ a. fill (a + partStart ps j) n f (wordsOf p ++ image ps)) (sym (part-length p))
+    ∙ fill-right (partStart ps j) n f (wordsOf p) (image ps)
     ∙ ap (λ s. wordsOf p ++ s) (image-filled ps j n f h)
 
--- a list of zeros, cut off a blank part at a time
+-- a list of zeros, cut off an unused part at a time
 zeros-list : (n : ℕ) (f : ℕ → ℕ) → ((i : ℕ) → f i ≡ 0) → listOf n f ≡ replicate n 0
 unfolding listOf
 zeros-list zero f h = refl
 zeros-list (suc n) f h = rw (h 0, zeros-list n (λ i. f (suc i)) (λ i. h (suc i)))
 
-blank-zeros : (n : ℕ) → wordsOf (part n 0 (λ i. 0)) ≡ replicate n 0
+unused-zeros : (n : ℕ) → wordsOf (part n 0 (λ i. 0)) ≡ replicate n 0
 unfolding wordsOf
-blank-zeros n = zeros-list n (λ i. if ltb i 0 then 0 else 0) (λ i. rw (le-ltb i 0 (omega arith)))
+unused-zeros n = zeros-list n (λ i. if ltb i 0 then 0 else 0) (λ i. rw (le-ltb i 0 (omega arith)))
 
 abbrev pub blanks : List ℕ → List Part
 blanks [] = []
@@ -187,4 +187,4 @@ total (n ∷ ns) = n + total ns
 pub zeros-image : (ns : List ℕ) → replicate (total ns) 0 ≡ image (blanks ns)
 unfolding image
 zeros-image [] = refl
-zeros-image (n ∷ ns) = sym (replicate-append-replicate n (total ns) 0) ∙ rw (← blank-zeros n, zeros-image ns)
+zeros-image (n ∷ ns) = sym (replicate-append-replicate n (total ns) 0) ∙ rw (← unused-zeros n, zeros-image ns)

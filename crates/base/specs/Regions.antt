@@ -50,8 +50,8 @@ abbrev pub part : ℕ → ℕ → (ℕ → ℕ) → Part
 part size used f = record { size = size; used = used; word = f }
 
 -- no word used
-abbrev pub blank : ℕ → Part
-blank size = part size 0 (λ i. 0)
+abbrev pub unusedPart : ℕ → Part
+unusedPart size = part size 0 (λ i. 0)
 
 unfoldable pub wordsOf : Part → List ℕ
 wordsOf p = listOf (p .size) (λ i. if ltb i (p .used) then p .word i else 0)
@@ -62,10 +62,10 @@ image [] = []
 image (p ∷ ps) = wordsOf p ++ image ps
 
 -- where part j starts
-abbrev pub startOf : List Part → ℕ → ℕ
-startOf [] j = 0
-startOf (p ∷ ps) zero = 0
-startOf (p ∷ ps) (suc j) = p .size + startOf ps j
+abbrev pub partStart : List Part → ℕ → ℕ
+partStart [] j = 0
+partStart (p ∷ ps) zero = 0
+partStart (p ∷ ps) (suc j) = p .size + partStart ps j
 
 -- part j's words, put in its place
 abbrev pub withPart : List Part → ℕ → ℕ → (ℕ → ℕ) → List Part
@@ -75,6 +75,6 @@ withPart (p ∷ ps) (suc j) n f = p ∷ withPart ps j n f
 
 -- part j
 abbrev pub partOf : List Part → ℕ → Part
-partOf [] j = blank 0
+partOf [] j = unusedPart 0
 partOf (p ∷ ps) zero = p
 partOf (p ∷ ps) (suc j) = partOf ps j

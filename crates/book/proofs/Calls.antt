@@ -21,7 +21,7 @@ use Rattle.state.specs.State.{Forest, State, present, SubtreeState, subtreeOf}
 use Rattle.state.specs.Down.{rootOf}
 use Rattle.state.specs.Sound.{sound}
 use Rattle.state.proofs.Sound.{shape-parts, Sound, sound-parts, Root, root-of-shape}
-use Rattle.update.specs.Words.{number, withTreeData}
+use Rattle.update.specs.Words.{treeNumber, withTreeData}
 use Rattle.update.specs.Outcome.{outcome}
 use Rattle.update.specs.Reports.{removed, added, noChanges, changesWith, changesOf}
 use Rattle.update.specs.Numbers.{batchNumber}
@@ -29,7 +29,7 @@ use Rattle.update.specs.Calls.{Answer, refused, accepted, judged, updateNumber,
 use Rattle.update.proofs.Sound.{Passed, passed, outcome-sound}
 use Rattle.update.proofs.Reports.{has-added, has-removed}
 use Rattle.update.proofs.Calls.{updateOf, update-is}
-use Rattle.book.specs.Book.{Entry, Book, enterAll, strike, linesAfter, numberIn, newLine, enterBatch, Call, batch, host, answerTo, entered, treesIn, entryOfNode}
+use Rattle.book.specs.Book.{Entry, Book, enterAll, strike, linesAfter, numberIn, newLine, enterBatch, Call, batch, host, answerTo, entered, treesOfLines, entryOfNode}
 use Rattle.book.specs.Demand.{Counted}
 use Rattle.book.proofs.Nodes.{nodes-after}
 use Rattle.book.proofs.Trees.{same-number, trees-after}
@@ -38,7 +38,7 @@ use Rattle.book.proofs.Trees.{same-number, trees-after}
 pub record Held (s : Forest) (k : Book) : Type 0 where
   pub is-sound : sound s ≡ true
   pub nodes : map entryOfNode (s .nodes) ≡ k .nodes
-  pub trees : s .trees ≡ treesIn (k .nodes) 0 (k .trees)
+  pub trees : s .trees ≡ treesOfLines (k .nodes) 0 (k .trees)
 
 -- ## An accepted batch
 
@@ -67,8 +67,8 @@ module _ (s : Forest) (b : Batch) where
     trees =
         trees-after s b (k .trees) trees-in (shape-parts (outcome s b) (not-false (p .row19)) .held)
         (tree-exists s b p (root-of-shape s (shape-parts s (parts .shape))))
-        ∙ ap (λ (ks : List Entry). treesIn ks 0 (linesAfter b (number s b .0) 0 (k .trees) ++ newLine b (k .trees))) same-nodes
-        ∙ ap (λ (t : ℕ). treesIn (strike (removed s (outcome s b)) (enterAll (record { 0 = numberIn b (k .trees) }) (b .nodes) (k .nodes))) 0
+        ∙ ap (λ (ks : List Entry). treesOfLines ks 0 (linesAfter b (treeNumber s b .0) 0 (k .trees) ++ newLine b (k .trees))) same-nodes
+        ∙ ap (λ (t : ℕ). treesOfLines (strike (removed s (outcome s b)) (enterAll (record { 0 = numberIn b (k .trees) }) (b .nodes) (k .nodes))) 0
         (linesAfter b t 0 (k .trees) ++ newLine b (k .trees)))
         number-in;
   }
@@ -79,10 +79,10 @@ module _ (s : Forest) (b : Batch) where
       p : Passed s b
       p = passed s b v
 
-      trees-in : s .trees ≡ treesIn (map entryOfNode (s .nodes)) 0 (k .trees)
-      trees-in = i .trees ∙ ap (λ (ks : List Entry). treesIn ks 0 (k .trees)) (sym (i .nodes))
+      trees-in : s .trees ≡ treesOfLines (map entryOfNode (s .nodes)) 0 (k .trees)
+      trees-in = i .trees ∙ ap (λ (ks : List Entry). treesOfLines ks 0 (k .trees)) (sym (i .nodes))
 
-      number-in : number s b .0 ≡ numberIn b (k .trees)
+      number-in : treeNumber s b .0 ≡ numberIn b (k .trees)
       number-in = same-number s b (k .trees) trees-in
 
       same-nodes : map entryOfNode (outcome s b .nodes) ≡ strike (removed s (outcome s b)) (enterAll (record { 0 = numberIn b (k .trees) }) (b .nodes) (k .nodes))

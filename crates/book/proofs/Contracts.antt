@@ -7,11 +7,12 @@ use native.Mathlib.Omega.{arith}
 use lib.ListN.{length, drop, getD, length-append}
 use lib.Seq.{getD-append-add}
 use Rattle.base.proofs.Columns.{list-of-each}
-use Rattle.update_reports.proofs.Slice.{words-append}
+use Rattle.ids.specs.Ids.{idWords}
 use Rattle.ids.specs.declared.FullNodeId.{FullNodeId}
+use Rattle.ids.proofs.Ids.{id-words-length, id-words-append}
 use Rattle.state.specs.State.{State}
 use Rattle.state_array.specs.View.{view}
-use Rattle.update.specs.Reports.{Changes, lengthsOf, words, changeWords, lent}
+use Rattle.update.specs.Reports.{Changes, lengthsOf, changeWords, sliceAfter}
 use Rattle.update.specs.Calls as definition
 use Rattle.update.specs.Calls.{update}
 use Rattle.calls.specs.declared.Reply.{Reply}
@@ -48,14 +49,9 @@ none = record { tree = record { 0 = 0 }; node = record { 0 = 0 } }
 abbrev idOf : List ℕ → ℕ → FullNodeId
 idOf slice k = record { tree = record { 0 = getD slice k 0 }; node = record { 0 = getD slice (k + 1) 0 } }
 
-words-length : (xs : List FullNodeId) → length (words xs) ≡ 2 * length xs
-unfolding words
-words-length [] = refl
-words-length (x ∷ xs) = omega (arith, words-length xs)
-
 -- the words of a list say its ids
-words-at : (xs : List FullNodeId) (rest : List ℕ) (i : ℕ) → i < length xs → idOf (words xs ++ rest) (2 * i) ≡ getD xs i none
-unfolding words
+words-at : (xs : List FullNodeId) (rest : List ℕ) (i : ℕ) → i < length xs → idOf (idWords xs ++ rest) (2 * i) ≡ getD xs i none
+unfolding idWords
 words-at [] rest i h = absurd (omega arith)
 words-at (x ∷ xs) rest zero h = refl
 words-at (x ∷ xs) rest (suc i) h =
@@ -64,76 +60,76 @@ words-at (x ∷ xs) rest (suc i) h =
     rw (node, tree) (words-at xs rest i (omega arith))
 
 -- a list that stands in a slice behind other words
-ids-in : (ws : List ℕ) (xs : List FullNodeId) (rest : List ℕ) → idsIn (ws ++ (words xs ++ rest)) (length ws) (length xs) ≡ xs
+ids-in : (ws : List ℕ) (xs : List FullNodeId) (rest : List ℕ) → idsIn (ws ++ (idWords xs ++ rest)) (length ws) (length xs) ≡ xs
 unfolding idsIn
 ids-in ws xs rest = list-of-each none xs _ at
   where
-    at : (i : ℕ) → i < length xs → idOf (ws ++ (words xs ++ rest)) (length ws + 2 * i) ≡ getD xs i none
+    at : (i : ℕ) → i < length xs → idOf (ws ++ (idWords xs ++ rest)) (length ws + 2 * i) ≡ getD xs i none
     at i h =
         let e : length ws + 2 * i + 1 ≡ length ws + (2 * i + 1) = omega arith in
-        let tree = getD-append-add ws (words xs ++ rest) (2 * i) 0 in
-        let node = ap (λ k. getD (ws ++ (words xs ++ rest)) k 0) e ∙ getD-append-add ws (words xs ++ rest) (2 * i + 1) 0 in
+        let tree = getD-append-add ws (idWords xs ++ rest) (2 * i) 0 in
+        let node = ap (λ k. getD (ws ++ (idWords xs ++ rest)) k 0) e ∙ getD-append-add ws (idWords xs ++ rest) (2 * i + 1) 0 in
         rw (tree, node) (words-at xs rest i h)
 
 -- the slice of four lists: the added ids, and the removed ids
-module _ (c : Changes) (was : List ℕ) where
+module _ (c : Changes) (lent : List ℕ) where
   abbrev rest : List ℕ
-  rest = drop (length (changeWords c)) was
+  rest = drop (length (changeWords c)) lent
 
   -- what stands before the removed list, and behind it
   abbrev ahead : List ℕ
-  ahead = words (c .added) ++ words (c .updated)
+  ahead = idWords (c .added) ++ idWords (c .updated)
 
   abbrev behind : List ℕ
-  behind = words (c .relinked) ++ rest
+  behind = idWords (c .relinked) ++ rest
 
-  split : lent was c ≡ ahead ++ (words (c .removed) ++ behind)
-  unfolding lent changeWords
+  split : sliceAfter lent c ≡ ahead ++ (idWords (c .removed) ++ behind)
+  unfolding sliceAfter changeWords
   split =
       ap (λ (l : List ℕ). l ++ rest)
-      (words-append (c .added ++ c .updated ++ c .removed) (c .relinked)
-      ∙ ap (λ (l : List ℕ). l ++ words (c .relinked))
-      (words-append (c .added ++ c .updated) (c .removed) ∙ ap (λ (l : List ℕ). l ++ words (c .removed)) (words-append (c .added) (c .updated))))
-      ∙ append-assoc (ahead ++ words (c .removed)) (words (c .relinked)) rest
-      ∙ append-assoc ahead (words (c .removed)) behind
+      (id-words-append (c .added ++ c .updated ++ c .removed) (c .relinked)
+      ∙ ap (λ (l : List ℕ). l ++ idWords (c .relinked))
+      (id-words-append (c .added ++ c .updated) (c .removed) ∙ ap (λ (l : List ℕ). l ++ idWords (c .removed)) (id-words-append (c .added) (c .updated))))
+      ∙ append-assoc (ahead ++ idWords (c .removed)) (idWords (c .relinked)) rest
+      ∙ append-assoc ahead (idWords (c .removed)) behind
 
-  added-lent : idsIn (lent was c) 0 (length (c .added)) ≡ c .added
-  added-lent =
-      ap (λ (l : List ℕ). idsIn l 0 (length (c .added))) (split ∙ append-assoc (words (c .added)) (words (c .updated)) (words (c .removed) ++ behind))
-      ∙ ids-in [] (c .added) (words (c .updated) ++ (words (c .removed) ++ behind))
+  slice-after-added : idsIn (sliceAfter lent c) 0 (length (c .added)) ≡ c .added
+  slice-after-added =
+      ap (λ (l : List ℕ). idsIn l 0 (length (c .added))) (split ∙ append-assoc (idWords (c .added)) (idWords (c .updated)) (idWords (c .removed) ++ behind))
+      ∙ ids-in [] (c .added) (idWords (c .updated) ++ (idWords (c .removed) ++ behind))
 
-  removed-lent : idsIn (lent was c) (2 * (length (c .added) + length (c .updated))) (length (c .removed)) ≡ c .removed
-  removed-lent =
+  slice-after-removed : idsIn (sliceAfter lent c) (2 * (length (c .added) + length (c .updated))) (length (c .removed)) ≡ c .removed
+  slice-after-removed =
       let from : 2 * (length (c .added) + length (c .updated)) ≡ length ahead =
-      omega (arith, length-append (words (c .added)) (words (c .updated)), words-length (c .added), words-length (c .updated)) in
+      omega (arith, length-append (idWords (c .added)) (idWords (c .updated)), id-words-length (c .added), id-words-length (c .updated)) in
       rw (split, from) (ids-in ahead (c .removed) behind)
 
 -- ## Each accepted batch
 
 -- an accepted batch's slice has its lists, and its lengths are theirs
-record Listed (a : definition.Answer) (was : List ℕ) : Type 0 where
-  slice-is : a .slice ≡ lent was (a .changes)
+record Listed (a : definition.Answer) (lent : List ℕ) : Type 0 where
+  slice-is : a .slice ≡ sliceAfter lent (a .changes)
   added-is : a .lengths .added ≡ length (a .changes .added)
   updated-is : a .lengths .updated ≡ length (a .changes .updated)
   removed-is : a .lengths .removed ≡ length (a .changes .removed)
 
-listed-update : (s : State) (bytes was : List ℕ) → update s bytes was .number ≡ 0 → Listed (update s bytes was) was
+listed-update : (s : State) (bytes lent : List ℕ) → update s bytes lent .number ≡ 0 → Listed (update s bytes lent) lent
 unfolding definition.accepted lengthsOf
-listed-update s bytes was =
-    accepted-update s bytes was (λ a. Listed a was) (λ b. record { slice-is = refl; added-is = refl; updated-is = refl; removed-is = refl })
+listed-update s bytes lent =
+    accepted-update s bytes lent (λ a. Listed a lent) (λ b. record { slice-is = refl; added-is = refl; updated-is = refl; removed-is = refl })
 
 -- what holds of the definition's answer holds of the words and of the ids that stand in the slice
-counted-code : (u bytes was kept v : List ℕ) (r : Reply) (slice : List ℕ) → Answers (update (view u) bytes was) u kept v r slice → r .number ≡ 0
+counted-code : (u bytes lent kept v : List ℕ) (r : Reply) (slice : List ℕ) → Answers (update (view u) bytes lent) u kept v r slice → r .number ≡ 0
     → Counted (view u .forest) (view v .forest) r slice
 unfolding replyTo
-counted-code u bytes was kept v r slice a accepted =
-    let d = update (view u) bytes was in
+counted-code u bytes lent kept v r slice a accepted =
+    let d = update (view u) bytes lent in
     let zero : d .number ≡ 0 = sym (ap (λ (q : Reply). q .number) (a .reply-is)) ∙ accepted in
-    let l = listed-update (view u) bytes was zero in
-    let n = counted-update (view u) bytes was zero in
-    let joined : addedIn r slice ≡ d .changes .added = rw (a .reply-is, a .slice-is, l .slice-is, l .added-is) (added-lent (d .changes) was) in
+    let l = listed-update (view u) bytes lent zero in
+    let n = counted-update (view u) bytes lent zero in
+    let joined : addedIn r slice ≡ d .changes .added = rw (a .reply-is, a .slice-is, l .slice-is, l .added-is) (slice-after-added (d .changes) lent) in
     let taken : removedIn r slice ≡ d .changes .removed =
-    rw (a .reply-is, a .slice-is, l .slice-is, l .added-is, l .updated-is, l .removed-is) (removed-lent (d .changes) was) in
+    rw (a .reply-is, a .slice-is, l .slice-is, l .added-is, l .updated-is, l .removed-is) (slice-after-removed (d .changes) lent) in
     record {
       nodes-after = λ x. rw (a .state-is, joined, taken) (n .nodes-after x);
       added-new = λ x e. n .added-new x (rw joined at e);
@@ -146,6 +142,6 @@ demand3-code bytes flag s r said accepted calls t chain = record {
   after-the-list = subst (λ (u : State). Kept (u .forest) (bookAfter (view s) (book.opened bytes) (map meant calls))) (chain-view s calls t chain)
       (subst (λ (u : State). Kept (stateAfter u (map meant calls) .forest) (bookAfter u (book.opened bytes) (map meant calls))) (sym (said .state-is))
       (demand3 bytes (isSet flag) (sym (ap (λ (q : Reply). q .number) (said .reply-is)) ∙ accepted) (map meant calls) .after-the-list));
-  each-accepted-batch = λ earlier record-bytes was later _ u _ v q slice allowed zero.
-      counted-code u record-bytes was _ v q slice allowed zero;
+  each-accepted-batch = λ earlier record-bytes lent later _ u _ v q slice allowed zero.
+      counted-code u record-bytes lent _ v q slice allowed zero;
 }

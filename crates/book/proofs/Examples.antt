@@ -8,11 +8,11 @@ use Rattle.ids.specs.Ids.{ROOT, sameTree, sameIndex, sameNode, sameId, before}
 use Rattle.record.specs.Batch.{graft?, Batch}
 use Rattle.record.specs.ExampleNodes.{node, T, parent, leaf, grafts, lists, batchFor, batch}
 use Rattle.state.specs.ExampleStates.{id, root, tree}
-use Rattle.book.specs.Book.{entryOf, enter, enterAll, strike, lineAfter, linesAfter, numberIn, newLine, enterBatch, openedBy, isEntered, treeIn, treesIn}
+use Rattle.book.specs.Book.{entryOf, enter, enterAll, strike, lineAfter, linesAfter, numberIn, newLine, enterBatch, openedBy, isEntered, treeOfLine, treesOfLines}
 
 -- `unfolding computed` unfolds the definitions of the book
 computed : Unit {0}
-unfolding _&&_ sameTree sameIndex sameNode sameId before graft? entryOf enter enterAll strike lineAfter linesAfter numberIn newLine enterBatch openedBy isEntered treeIn treesIn
+unfolding _&&_ sameTree sameIndex sameNode sameId before graft? entryOf enter enterAll strike lineAfter linesAfter numberIn newLine enterBatch openedBy isEntered treeOfLine treesOfLines
 computed = tt
 
 -- S, with root 1 over 2 and 3
@@ -43,9 +43,9 @@ enters = refl
 joins :
     (enterBatch (openedBy startS) (batchFor T (some 1) 9 (lists 1 leaf ∷ [])) [] .trees
     ≡ record { id = ROOT; root = some (node 1); focus = node 2 } ∷ record { id = T; root = some (node 1); focus = node 9 } ∷ [])
-    × (treesIn (enterBatch (openedBy startS) (batchFor T (some 1) 9 (lists 1 leaf ∷ [])) [] .nodes) 0
+    × (treesOfLines (enterBatch (openedBy startS) (batchFor T (some 1) 9 (lists 1 leaf ∷ [])) [] .nodes) 0
     (enterBatch (openedBy startS) (batchFor T (some 1) 9 (lists 1 leaf ∷ [])) [] .trees)
     ≡ tree ROOT 1 2 ∷ tree T 1 9 ∷ [])
-    × (treesIn (openedBy startS .nodes) 0 (record { id = ROOT; root = some (node 4); focus = node 2 } ∷ []) ≡ record { id = ROOT; subtree = none } ∷ [])
+    × (treesOfLines (openedBy startS .nodes) 0 (record { id = ROOT; root = some (node 4); focus = node 2 } ∷ []) ≡ record { id = ROOT; subtree = none } ∷ [])
 unfolding computed
 joins = (refl, refl, refl)

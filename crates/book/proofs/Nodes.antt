@@ -13,7 +13,7 @@ use Rattle.ids.specs.declared.FullNodeId.{FullNodeId}
 use Rattle.record.specs.Batch.{NodeData, graft?, sameData, Listed, Batch}
 use Rattle.state.specs.State.{NodeState, idsOf, Forest, present}
 use Rattle.state.proofs.State.{present-has}
-use Rattle.update.specs.Words.{number}
+use Rattle.update.specs.Words.{treeNumber}
 use Rattle.update.specs.Gone.{gone}
 use Rattle.update.specs.Outcome.{renewed, write, writeAll, written, relink, outcome}
 use Rattle.update.specs.Reports.{removed}
@@ -73,13 +73,13 @@ entries-keep q ns = map-keep entryOfNode (λ k. q (k .id)) ns
 
 -- the nodes are entered and the removed ones struck
 pub nodes-after : (s : Forest) (b : Batch)
-    → map entryOfNode (outcome s b .nodes) ≡ strike (removed s (outcome s b)) (enterAll (number s b) (b .nodes) (map entryOfNode (s .nodes)))
+    → map entryOfNode (outcome s b .nodes) ≡ strike (removed s (outcome s b)) (enterAll (treeNumber s b) (b .nodes) (map entryOfNode (s .nodes)))
 unfolding outcome written strike
 nodes-after s b =
     entries-relink s b (keep (λ n. not (gone s b (n .id))) (written s b))
     ∙ entries-keep (λ x. not (gone s b x)) (written s b)
-    ∙ ap (λ (ks : List Entry). keep (λ k. not (gone s b (k .id))) ks) (entries-write-all (number s b) (b .nodes) (s .nodes))
-    ∙ ap (λ (q : FullNodeId → Bool). keep (λ k. not (q (k .id))) (enterAll (number s b) (b .nodes) (map entryOfNode (s .nodes))))
+    ∙ ap (λ (ks : List Entry). keep (λ k. not (gone s b (k .id))) ks) (entries-write-all (treeNumber s b) (b .nodes) (s .nodes))
+    ∙ ap (λ (q : FullNodeId → Bool). keep (λ k. not (q (k .id))) (enterAll (treeNumber s b) (b .nodes) (map entryOfNode (s .nodes))))
     (fun-ext (λ x. sym (removed-gone s b x)))
 
 entered-has : (ns : List NodeState) (x : FullNodeId) → isEntered (map entryOfNode ns) x ≡ has sameId (idsOf ns) x

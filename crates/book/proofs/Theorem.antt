@@ -15,17 +15,17 @@ use Rattle.ids.specs.declared.NodeId.{NodeId}
 use Rattle.record.specs.Batch.{fieldsOk, Batch}
 use Rattle.record.specs.Parse.{parse}
 use Rattle.record.proofs.Parse.{batch-facts}
-use Rattle.state.specs.State.{idsOf, TreeEntry, Forest, State}
+use Rattle.state.specs.State.{idsOf, TreeEntry, Forest, State, blank}
 use Rattle.state.specs.Sound.{grafted, allGrafted}
 use Rattle.state.proofs.Sound.{shape-parts, sound-parts, root-of-shape, focus-of-sound}
 use Rattle.state.proofs.Down.{descent}
-use Rattle.update.specs.Words.{known, number}
+use Rattle.update.specs.Words.{known, treeNumber}
 use Rattle.update.specs.Outcome.{subtreeHere, entryAfter, entriesAfter, newEntry, outcome}
 use Rattle.update.specs.Reports.{removed}
 use Rattle.update.specs.Numbers.{batchNumber}
-use Rattle.update.specs.Calls.{Answer, refused, judged, blank, seed, withoutTreeData, startNumber, started, startBatch, start}
+use Rattle.update.specs.Calls.{Answer, refused, judged, seed, withoutTreeData, startNumber, started, startBatch, start}
 use Rattle.update.proofs.Sound.{passed, outcome-sound}
-use Rattle.book.specs.Book.{Entry, Book, enterAll, strike, openedBy, opened, Call, answerTo, entered, isEntered, treeIn, treesIn, entryOfNode}
+use Rattle.book.specs.Book.{Entry, Book, enterAll, strike, openedBy, opened, Call, answerTo, entered, isEntered, treeOfLine, treesOfLines, entryOfNode}
 use Rattle.book.specs.Demand.{stateAfter, bookAfter, Kept, Demand3}
 use Rattle.book.proofs.Nodes.{nodes-after, entered-present}
 use Rattle.book.proofs.Calls.{Held, leaves-call, counted-update}
@@ -72,12 +72,12 @@ strike-none [] = refl
 strike-none (k ∷ ks) = ap {B = List Entry} (λ l. k ∷ l) (strike-none ks)
 
 module _ (b : Batch) (for-ROOT : b .tree ≡ ROOT) (r : NodeId) (has-root : b .root ≡ some r) where
-  first-number : number (seed b) (withoutTreeData b) ≡ record { 0 = 0 }
-  unfolding number seed withoutTreeData sameTree _&&_
+  first-number : treeNumber (seed b) (withoutTreeData b) ≡ record { 0 = 0 }
+  unfolding treeNumber seed withoutTreeData sameTree _&&_
   first-number = rw for-ROOT refl
 
   first-trees : outcome (seed b) (withoutTreeData b) .trees ≡ record { id = ROOT; subtree = some (record { root = r; focus = b .focus }) } ∷ []
-  unfolding outcome entriesAfter entryAfter subtreeHere newEntry known number seed withoutTreeData sameTree _&&_
+  unfolding outcome entriesAfter entryAfter subtreeHere newEntry known treeNumber seed withoutTreeData sameTree _&&_
   first-trees = rw (for-ROOT, has-root) refl
 
   none-removed : strike (removed (seed b) (outcome (seed b) (withoutTreeData b))) (enterAll (record { 0 = 0 }) (b .nodes) []) ≡ enterAll (record { 0 = 0 }) (b .nodes) []
@@ -101,12 +101,12 @@ module _ (b : Batch) (for-ROOT : b .tree ≡ ROOT) (r : NodeId) (has-root : b .r
       ∙ both (both (subst (λ (ts : List TreeEntry). allGrafted (outcome (seed b) (withoutTreeData b) .nodes) 0 ts ≡ true) first-trees e) .0) .0
 
   trees-opened : isEntered (openedBy b .nodes) (record { tree = record { 0 = 0 }; node = r }) ≡ true
-      → treesIn (openedBy b .nodes) 0 (openedBy b .trees) ≡ record { id = ROOT; subtree = some (record { root = r; focus = b .focus }) } ∷ []
-  unfolding openedBy treesIn treeIn
+      → treesOfLines (openedBy b .nodes) 0 (openedBy b .trees) ≡ record { id = ROOT; subtree = some (record { root = r; focus = b .focus }) } ∷ []
+  unfolding openedBy treesOfLines treeOfLine
   trees-opened e = rw (has-root, e) refl
 
   first-standing : allGrafted (outcome (seed b) (withoutTreeData b) .nodes) 0 (outcome (seed b) (withoutTreeData b) .trees) ≡ true
-      → outcome (seed b) (withoutTreeData b) .trees ≡ treesIn (openedBy b .nodes) 0 (openedBy b .trees)
+      → outcome (seed b) (withoutTreeData b) .trees ≡ treesOfLines (openedBy b .nodes) 0 (openedBy b .trees)
   first-standing e = first-trees ∙ sym (trees-opened (root-entered e))
 
   held-start : all (λ l. fieldsOk (l .body)) (b .nodes) ≡ true → batchNumber (seed b) (withoutTreeData b) ≡ 0

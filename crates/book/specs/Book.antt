@@ -122,8 +122,8 @@ unfoldable pub isEntered : List Entry → FullNodeId → Bool
 isEntered ks x = any (λ k. sameId x (k .id)) ks
 
 -- a tree exists while its root is entered
-unfoldable pub treeIn : List Entry → ℕ → Line → TreeEntry
-treeIn ks i l = record {
+unfoldable pub treeOfLine : List Entry → ℕ → Line → TreeEntry
+treeOfLine ks i l = record {
   id = l .id;
   subtree = elim (l .root) [
     | none ↦ none
@@ -132,9 +132,9 @@ treeIn ks i l = record {
 }
 
 -- the table of trees, as the book says it; i is the first number
-unfoldable pub treesIn : List Entry → ℕ → List Line → List TreeEntry
-treesIn ks i [] = []
-treesIn ks i (l ∷ ls) = treeIn ks i l ∷ treesIn ks (suc i) ls
+unfoldable pub treesOfLines : List Entry → ℕ → List Line → List TreeEntry
+treesOfLines ks i [] = []
+treesOfLines ks i (l ∷ ls) = treeOfLine ks i l ∷ treesOfLines ks (suc i) ls
 
 -- a state's node, as the book holds it
 unfoldable pub entryOfNode : NodeState → Entry

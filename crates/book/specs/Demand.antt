@@ -14,7 +14,7 @@ use Rattle.state.specs.Down.{Met, down, rootOf, wayDown, climb}
 use Rattle.state.specs.Focus.{effectiveFocus}
 use Rattle.state.specs.Sound.{sound}
 use Rattle.update.specs.Calls.{Answer, start, update}
-use Rattle.book.specs.Book.{Book, opened, Call, batch, answerTo, entered, treesIn, entryOfNode}
+use Rattle.book.specs.Book.{Book, opened, Call, batch, answerTo, entered, treesOfLines, entryOfNode}
 
 -- ## After a list of calls
 
@@ -35,7 +35,7 @@ pub record Kept (s : Forest) (k : Book) : Type 0 where
   -- the state's nodes with their children and grafts are exactly the book's
   pub nodes-are-the-books : map entryOfNode (s .nodes) ≡ k .nodes
   -- and so are the roots and focuses of existing trees
-  pub trees-are-the-books : s .trees ≡ treesIn (k .nodes) 0 (k .trees)
+  pub trees-are-the-books : s .trees ≡ treesOfLines (k .nodes) 0 (k .trees)
   -- the root, and the way down from it
   pub root : FullNodeId
   pub is-root : rootOf s ≡ some root

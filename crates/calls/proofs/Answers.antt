@@ -7,7 +7,7 @@ use borrow.Author.Tests.{ne-eqb}
 use Rattle.state.specs.State.{State}
 use Rattle.state.specs.Focus.{stateFocus}
 use Rattle.state_array.specs.View.{view}
-use Rattle.update.specs.Reports.{Changes, noChanges, lengthsOf, lent}
+use Rattle.update.specs.Reports.{Changes, noChanges, lengthsOf, sliceAfter}
 use Rattle.update.specs.Calls as definition
 use Rattle.update_reports.specs.declared.Report as reports
 use Rattle.update_reports.specs.Reported.{Reported, OnlyAfter}
@@ -28,11 +28,11 @@ abbrev lengthsIn : Changes → Lengths
 lengthsIn c = lengthsAre (length (c .added)) (length (c .updated)) (length (c .removed)) (length (c .relinked))
 
 -- an accepted batch or host focus change
-pub accepted-answers : (s s′ : State) (c : Changes) (was kept written t : List ℕ) → t ≡ written → view t ≡ s′ → (d : definition.Answer) → d ≡ definition.accepted s s′ c was
-    → (p : reports.Report) → Reported s s′ c p → (l : Lengths) → l ≡ lengthsIn c → (r : Reply) → r ≡ acceptedReply l p → (slice : List ℕ) → slice ≡ lent was c
+pub accepted-answers : (s s′ : State) (c : Changes) (lent kept written t : List ℕ) → t ≡ written → view t ≡ s′ → (d : definition.Answer) → d ≡ definition.accepted s s′ c lent
+    → (p : reports.Report) → Reported s s′ c p → (l : Lengths) → l ≡ lengthsIn c → (r : Reply) → r ≡ acceptedReply l p → (slice : List ℕ) → slice ≡ sliceAfter lent c
     → Answers d kept written t r slice
 unfolding definition.accepted replyTo acceptedReply plainReport lengthsOf
-accepted-answers s s′ c was kept written t same shown d e p said l long r q slice lists =
+accepted-answers s s′ c lent kept written t same shown d e p said l long r q slice lists =
     rw e (record {
       reply-is = q ∙ rw (long, said .before-is, said .after-is, said .extra-before-is, said .extra-after-is);
       state-is = shown;

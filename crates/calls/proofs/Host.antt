@@ -12,13 +12,14 @@ use Rattle.base.specs.Tests.{_&&_, if_then_else_}
 use Rattle.base.specs.Bytes.{listOf}
 use Rattle.base.proofs.Indexed.{list-of-cong}
 use Rattle.base.proofs.Tests.{bit-set}
+use Rattle.ids.specs.Ids.{idWords}
 use Rattle.state_array.specs.Layout.{WORDS, COUNT, TREE-COUNT, HOST, entryPlace, entry, place, word, childPlace, child, TREE-HIGH, TREE-LOW, TREE-ROOT, TREE-FOCUS, TREE-EXISTS, TREE, NODE, PARENT-TREE, PARENT-NODE, INDEX, LINKED, GRAFT-HIGH, GRAFT-LOW, FLAGS, FIRST-CHILD, CHILD-COUNT, ACTIVE, ROLE, LABEL-LENGTH, LABEL, FLOATS}
-use Rattle.state_array.specs.View.{slotsOf, treesOf, view, treeIn, entryIn, idIn, linkIn, linkOf, shapeIn, labelByte, labelIn, boundsIn, transformIn, childrenOf, bodyIn, nodeIn}
+use Rattle.state_array.specs.View.{slotsOf, treesOf, view, treeIn, entryIn, idIn, linkIn, linkOf, shapeIn, labelByte, labelIn, boundsIn, transformIn, childrenIn, bodyIn, nodeIn}
 use Rattle.state.specs.Focus.{stateFocus}
 use Rattle.state.specs.Sound.{sound}
 use Rattle.state_focus.specs.declared.FoundNode.{FoundNode}
 use Rattle.state_focus.specs.Focus.{foundOf}
-use Rattle.update.specs.Reports.{noChanges, words, changeWords, lent}
+use Rattle.update.specs.Reports.{noChanges, changeWords, sliceAfter}
 use Rattle.update.specs.Calls as definition
 use Rattle.update_reports.specs.declared.Report as reports
 use Rattle.update_reports.specs.Reported.{HostReported}
@@ -29,7 +30,7 @@ use Rattle.calls.proofs.Answers.{refused-answers, accepted-answers}
 
 -- a node is what its words and the child entries say
 node-same : (s t : List ℕ) (i j : ℕ) → ((f : ℕ) → word s f i ≡ word t f j) → ((own k : ℕ) → child s own k ≡ child t own k) → nodeIn s i ≡ nodeIn t j
-unfolding idIn linkIn shapeIn labelByte labelIn boundsIn transformIn childrenOf bodyIn nodeIn
+unfolding idIn linkIn shapeIn labelByte labelIn boundsIn transformIn childrenIn bodyIn nodeIn
 node-same s t i j same kids = λ z. record {
   id = record { tree = record { 0 = min (same TREE z) 4294967295 }; node = record { 0 = same NODE z } };
   parentAndIndex = linkOf (record {
@@ -107,7 +108,7 @@ host-refused s host e r q =
 pub host-accepted : (s : List ℕ) (host : ℕ) → sound (view s .forest) ≡ true → (t : List ℕ) → HostPut s host t
     → (before after : FoundNode) → foundOf before ≡ stateFocus (view s) → foundOf after ≡ stateFocus (view t)
     → (p : reports.Report) → HostReported before after p → (r : Reply) → r ≡ acceptedReply (lengthsAre 0 0 0 0) p → HostFocuses s host t r
-unfolding definition.hostFocus definition.withHostFocus noChanges lent changeWords words
+unfolding definition.hostFocus definition.withHostFocus noChanges sliceAfter changeWords idWords
 host-accepted s host e t h before after b a p said r q =
     let shown : view t ≡ definition.withHostFocus (view s) (isSet host) =
     ap view (h .put) ∙ view-set-host s (if isSet host then 1 else 0) (h .long) ∙ rw (bit-set (isSet host)) in

@@ -10,7 +10,7 @@ use Rattle.base.specs.Bytes.{listOf}
 use Rattle.base.proofs.Tests.{bit-set}
 use Rattle.ids.specs.declared.NodeId.{NodeId}
 use Rattle.record_reader.specs.Reader.{batchIn, rootOrZero}
-use Rattle.state.specs.State.{State}
+use Rattle.state.specs.State.{State, blank}
 use Rattle.state.specs.Focus.{stateFocus}
 use Rattle.state_array.specs.Layout.{entry}
 use Rattle.state_array.specs.Stored.{stored}
@@ -54,8 +54,8 @@ seed-shows bytes host flag root focus passed f r o = go (batchIn bytes .root) re
     go (some x) e = rw (f, r, o, e, bit-set (isSet host))
 
 -- the blank words show the blank state
-pub blank-shows : view blankWords ≡ definition.blank
-unfolding view listOf definition.blank
+pub blank-shows : view blankWords ≡ blank
+unfolding view listOf blank
 blank-shows = refl
 
 -- a number of rows 2 to 5
@@ -63,8 +63,8 @@ pub first-refused : (bytes : List ℕ) (host : ℕ) (t : List ℕ) → t ≡ bla
     → (r : Reply) → r ≡ refusedReply (k .number) → Starts bytes host t r
 first-refused bytes host t b k e more r q =
     let n : k .number ≡ startRows bytes = ap (λ (j : Refusal). j .number) e in
-    rw b (refused-answers (k .number) more definition.blank blankWords _ [] blank-shows _
-    (start-first bytes (isSet host) (λ z. more (n ∙ z)) ∙ ap (λ j. definition.refused j definition.blank []) (sym n)) r q)
+    rw b (refused-answers (k .number) more blank blankWords _ [] blank-shows _
+    (start-first bytes (isSet host) (λ z. more (n ∙ z)) ∙ ap (λ j. definition.refused j blank []) (sym n)) r q)
 
 module _ (s bytes : List ℕ) (host : ℕ) (c : Scope) (passed : startRows bytes ≡ 0) (begun : view s ≡ seeded bytes host)
     (scoped : Scoped (seed (batchIn bytes)) (withoutTreeData (batchIn bytes)) c) (k : Refusal) (e : k ≡ refusal (laterRows (forest s) (asked bytes c))) where
@@ -81,8 +81,8 @@ module _ (s bytes : List ℕ) (host : ℕ) (c : Scope) (passed : startRows bytes
   -- a number of rows 9 to 20
   pub later-refused : (k .number ≡ 0 → ⊥) → (t : List ℕ) → t ≡ blankWords → (r : Reply) → r ≡ refusedReply (k .number) → Starts bytes host t r
   later-refused more t b r q =
-      rw b (refused-answers (k .number) more definition.blank blankWords _ [] blank-shows _
-      (start-later bytes (isSet host) passed (λ z. more (number ∙ z)) ∙ ap (λ j. definition.refused j definition.blank []) (sym number)) r q)
+      rw b (refused-answers (k .number) more blank blankWords _ [] blank-shows _
+      (start-later bytes (isSet host) passed (λ z. more (number ∙ z)) ∙ ap (λ j. definition.refused j blank []) (sym number)) r q)
 
   -- no number
   pub start-accepted : k .number ≡ 0 → (notes next : List ℕ) → Written s bytes c notes next → (p : reports.Report) → OnlyAfter (stateFocus (view next)) p

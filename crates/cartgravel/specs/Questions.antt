@@ -4,9 +4,10 @@ use mathlib.Core.Option.{Option, none}
 use mathlib.Core.Path.{_≡_}
 use Prim.Native.Nat.{ℕ}
 use lib.ListN.{length}
+use Rattle.ids.specs.Ids.{idWords}
 use Rattle.ids.specs.declared.FullNodeId.{FullNodeId}
 use Rattle.state.specs.State.{Forest, State}
-use Rattle.questions.specs.Answers.{after, idWords, written}
+use Rattle.questions.specs.Answers.{after, written}
 use Rattle.node.specs.Reading.{labelAt}
 use Rattle.node.specs.Answers.{numberFor, listAnswer, nodeAnswer}
 use Rattle.questions.specs.declared.Filter.{Filter}

@@ -95,14 +95,14 @@ module _ (v : State) where
   unfolding ownFilter
   own-node x e = go (isFocused v x) (hiddenAt f x) (isTransparent f x) e
     where
-      number : FilterResult → Bool
-      number Include = false
-      number ExcludeNode = true
-      number ExcludeSubtree = false
+      excludesNode : FilterResult → Bool
+      excludesNode Include = false
+      excludesNode ExcludeNode = true
+      excludesNode ExcludeSubtree = false
 
       go : (a b c : Bool) → (if a then Include else if b then ExcludeSubtree else if c then ExcludeNode else Include) ≡ ExcludeNode → b ≡ false
-      go true b c e = absurd (false≢true (ap number e))
-      go false true c e = absurd (false≢true (ap number e))
+      go true b c e = absurd (false≢true (ap excludesNode e))
+      go false true c e = absurd (false≢true (ap excludesNode e))
       go false false c e = refl
 
   -- of a node that is not hidden: included, or its children stand in its place

@@ -10,15 +10,16 @@ use lib.ListN.{length, take, drop}
 use lib.Seq.{length-take-le, take-at, paste}
 use borrow.Author.Tests.{lt-ltb, le-ltb, ltb-true, ltb-false}
 use Rattle.base.specs.Tests.{if_then_else_}
+use Rattle.ids.specs.Ids.{idWords}
 use Rattle.ids.specs.declared.FullNodeId.{FullNodeId}
+use Rattle.ids.proofs.Ids.{id-words-length}
 use Rattle.state.specs.State.{Forest}
 use Rattle.state_array.specs.View.{idIn, slotsOf, view}
 use Rattle.state_focus.specs.declared.FoundNode.the-variants as found
 use Rattle.questions.specs.declared.Side.the-variants.{Following}
 use Rattle.questions.specs.declared.FilterResult.{FilterResult}
 use Rattle.questions.specs.Walks.{turned, filteredChildren}
-use Rattle.questions.specs.Answers.{askNumber, after, idWords, written}
-use Rattle.questions.proofs.Slices.{words-length}
+use Rattle.questions.specs.Answers.{askNumber, after, written}
 use Rattle.node.specs.declared.ListAnswer.{ListAnswer}
 use Rattle.node.specs.declared.NodeAnswer.{NodeAnswer}
 use Rattle.node.specs.Answers.{foundNode, nodeAnswer}
@@ -70,7 +71,7 @@ pub puts-collected : (xs : List FullNodeId) (before ids : List ℕ) (n : ℕ) (l
     → Puts (take (2 * n) ids) n lent r slice → PutsList xs lent r slice
 unfolding written
 puts-collected xs before ids n lent r slice c p =
-    let long : length (idWords xs) ≡ 2 * n = omega (arith, words-length xs, c .count-is) in
+    let long : length (idWords xs) ≡ 2 * n = omega (arith, id-words-length xs, c .count-is) in
     let same : take (2 * n) ids ≡ idWords xs = ap (take (2 * n)) (c .words-are) ∙ take-at (idWords xs) (drop (length (idWords xs)) before) (2 * n) long in
     rw (same, c .count-is) at p
 

@@ -6,13 +6,14 @@ use Prim.Native.Nat.{ℕ}
 use lib.Dec.{ltb}
 use lib.ListN.{length}
 use Rattle.base.specs.Tests.{if_then_else_}
+use Rattle.ids.specs.Ids.{idWords}
 use Rattle.ids.specs.declared.FullNodeId.{FullNodeId}
 use Rattle.state.specs.State.{Forest, State}
 use Rattle.state_focus.specs.declared.FoundNode.the-variants as found
 use Rattle.questions.specs.declared.Side.{Side}
 use Rattle.questions.specs.declared.Filter.{Filter}
 use Rattle.questions.specs.declared.FilterResult.{FilterResult}
-use Rattle.questions.specs.Answers.{askNumber, idWords, written}
+use Rattle.questions.specs.Answers.{askNumber, written}
 use Rattle.questions.specs.Filters.{filterOf}
 use Rattle.questions.specs.Walks.{filteredChildren, filteredSiblings}
 use Rattle.node.specs.declared.ListAnswer.{ListAnswer}

@@ -3,8 +3,9 @@
 ghost use mathlib.Core.Path.{_≡_};
 ghost use Prim.Native.Nat.{_*_, _≤_};
 ghost use lib.ListN.{length, take};
+ghost use Rattle.ids.specs.Ids.{idWords};
 ghost use Rattle.state_array.specs.View.{view};
-ghost use Rattle.questions.specs.Answers.{askNumber, idWords};
+ghost use Rattle.questions.specs.Answers.{askNumber};
 ghost use Rattle.questions.specs.Filters.{filterOf};
 ghost use Rattle.questions.specs.Links as links;
 ghost use Rattle.questions.specs.Walks.{filteredChildren, filteredSiblings, filteredParent, firstFilteredChild, lastFilteredChild};

@@ -8,7 +8,9 @@ use native.Mathlib.Omega.{arith}
 use lib.ListN.{length, getD, getElem?, set, take, length-append}
 use lib.Seq.{take-all}
 use borrow.Author.Tests.{leb-true}
+use Rattle.ids.specs.Ids.{idWords}
 use Rattle.ids.specs.declared.FullNodeId.{FullNodeId}
+use Rattle.ids.proofs.Ids.{id-words-length}
 use Rattle.state.specs.State.{Forest, linkAt, parentAt}
 use Rattle.state.proofs.Sound.{sound-parts}
 use Rattle.state_array.specs.declared.LinkRow.{LinkRow}
@@ -16,12 +18,11 @@ use Rattle.state_array.specs.View.{idIn, linkIn, slotsOf, view}
 use Rattle.questions.specs.declared.Side.{Side}
 use Rattle.questions.specs.Links.{childIds, siblings}
 use Rattle.questions.specs.Ahead.{countBeside, placeBeside}
-use Rattle.questions.specs.Answers.{idWords}
 use Rattle.questions.proofs.Links.{link-child}
 use Rattle.questions.proofs.Ahead.{siblings-of, siblings-none}
 use Rattle.questions.proofs.Few.{siblings-few, kids-few}
 use Rattle.questions.proofs.Places.{beside-length, beside-at, take-more}
-use Rattle.questions.proofs.Slices.{words-length, ids-none, ids-length, ids-more}
+use Rattle.questions.proofs.Slices.{ids-none, ids-length, ids-more}
 use Rattle.node_links.specs.Slots.{Sound, slotId}
 use Rattle.node_links.proofs.Slots.{slot-id-at, slot-shape, slot-present}
 use Rattle.node_links.proofs.Links.{link-none, link-some}
@@ -120,7 +121,7 @@ module _ (xs : List FullNodeId) (before : List ℕ) where
 
   module _ (few : length xs ≤ 256) (room : 512 ≤ length before) (k : ℕ) (now : List ℕ) (h : CollectedTo k now) where
     pub collected-length : length now ≡ length before
-    collected-length = ap length (h .words-are) ∙ ids-length (idWords (take k xs)) before (omega (arith, words-length (take k xs), h .count-is, h .few))
+    collected-length = ap length (h .words-are) ∙ ids-length (idWords (take k xs)) before (omega (arith, id-words-length (take k xs), h .count-is, h .few))
 
     module _ (y : FullNodeId) (q : getElem? xs k ≡ some y) where
       -- there is room for one more

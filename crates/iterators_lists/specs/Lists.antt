@@ -4,11 +4,12 @@ use mathlib.Core.Option.{some}
 use mathlib.Core.Path.{_≡_}
 use Prim.Native.Nat.{ℕ, _≤_, _<_}
 use lib.ListN.{length, getD, getElem?}
+use Rattle.ids.specs.Ids.{idWords}
 use Rattle.ids.specs.declared.FullNodeId.{FullNodeId}
 use Rattle.state_array.specs.View.{idIn, slotsOf, view}
 use Rattle.questions.specs.declared.Side.{Side}
 use Rattle.questions.specs.Links.{childIds}
-use Rattle.questions.specs.Answers.{idWords, written}
+use Rattle.questions.specs.Answers.{written}
 use Rattle.questions.specs.Ahead.{countBeside, placeBeside}
 use Rattle.iterators_lists.specs.declared.Run.{Run}
 

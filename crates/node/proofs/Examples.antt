@@ -8,7 +8,7 @@ use lib.ListN.{length}
 use Rattle.base.specs.Tests.{_&&_}
 use Rattle.base.specs.Tables.{first}
 use Rattle.base.specs.Floats.{zeroBytes}
-use Rattle.ids.specs.Ids.{ROOT, sameTree, sameIndex, sameNode, sameId, before}
+use Rattle.ids.specs.Ids.{ROOT, sameTree, sameIndex, sameNode, sameId, before, idWords}
 use Rattle.ids.specs.declared.TreeIndex.{TreeIndex}
 use Rattle.geometry.specs.Geometry.{rectTest, affineTest}
 use Rattle.record.specs.Batch.{NodeData, activeDescendant?, graft?, bounds?, transform?, fieldsOk}
@@ -20,7 +20,7 @@ use Rattle.state.specs.Sound.{metOnce, recorded, graftIsBare, soundLinks, graft
 use Rattle.state.specs.ExampleStates.{id, root, under, tree, noTree, state}
 use Rattle.state_lookup.specs.declared.FoundTree.the-variants as ends
 use Rattle.state_focus.specs.declared.FoundNode.the-variants as found
-use Rattle.questions.specs.Answers.{askNumber, stateNumber, listNumber, after, idWords, written}
+use Rattle.questions.specs.Answers.{askNumber, stateNumber, listNumber, after, written}
 use Rattle.questions.specs.Links.{childIds}
 use Rattle.node.specs.declared.OptionalRect.the-variants as rect
 use Rattle.node.specs.declared.OptionalAffine.the-variants as affine

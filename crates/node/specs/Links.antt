@@ -3,12 +3,13 @@ use mathlib.Core.Bool.{false}
 use mathlib.Core.List.{List}
 use Prim.Native.Nat.{ℕ}
 use lib.ListN.{length}
+use Rattle.ids.specs.Ids.{idWords}
 use Rattle.ids.specs.declared.FullNodeId.{FullNodeId}
 use Rattle.geometry.specs.declared.Affine.{Affine}
 use Rattle.geometry_box.specs.Boxes.{nought}
 use Rattle.geometry_box.specs.declared.BoundingBox.the-variants as box
 use Rattle.state.specs.State.{Forest, parentAt}
-use Rattle.questions.specs.Answers.{askNumber, after, idWords}
+use Rattle.questions.specs.Answers.{askNumber, after}
 use Rattle.questions.specs.Links.{childIds, isHidden}
 use Rattle.questions.specs.Boxes.{transform, boundingBox}
 use Rattle.node.specs.declared.NodeAnswer.{NodeAnswer}

@@ -20,7 +20,7 @@ use Rattle.state.proofs.Family.{parent-present}
 use Rattle.state_array.specs.declared.LinkRow.{LinkRow}
 use Rattle.state_array.specs.declared.ShapeRow.{ShapeRow}
 use Rattle.state_array.specs.Layout.{child}
-use Rattle.state_array.specs.View.{idIn, linkIn, linkOf, shapeIn, childrenOf, bodyIn, nodeIn, slotsOf, view}
+use Rattle.state_array.specs.View.{idIn, linkIn, linkOf, shapeIn, childrenIn, bodyIn, nodeIn, slotsOf, view}
 use Rattle.state_lookup.specs.declared.Ends.{Ends}
 use Rattle.state_lookup.specs.declared.FoundTree.{FoundTree}
 use Rattle.state_lookup.specs.declared.FoundTree.the-variants as tree
@@ -126,7 +126,7 @@ module _ (s : List ℕ) (h : Sound s) (i : ℕ) (there : i < slotsOf s) where
 
   -- by what the row says
   abbrev kids : ShapeRow → List FullNodeId
-  kids d = if bit 8 (d .flags) then rootsOf (subtreeOf f (d .graft)) else map (inTree x) (childrenOf s (x .node) d)
+  kids d = if bit 8 (d .flags) then rootsOf (subtreeOf f (d .graft)) else map (inTree x) (childrenIn s (x .node) d)
 
   slot-kids : childIds f x ≡ kids (shapeIn s i)
   unfolding childIds below nodeIn bodyIn graft?
@@ -134,10 +134,10 @@ module _ (s : List ℕ) (h : Sound s) (i : ℕ) (there : i < slotsOf s) where
     where
       go : (b : Bool)
           → map (λ (m : Met). m .id) (elim (if b then some (shapeIn s i .graft) else none) as (λ _. List Met) [
-            | none ↦ childrenMet x 0 (childrenOf s (x .node) (shapeIn s i))
+            | none ↦ childrenMet x 0 (childrenIn s (x .node) (shapeIn s i))
             | some t ↦ metAt x (subtreeOf f t)
-          ]) ≡ (if b then rootsOf (subtreeOf f (shapeIn s i .graft)) else map (inTree x) (childrenOf s (x .node) (shapeIn s i)))
-      go false = ids-met x 0 (childrenOf s (x .node) (shapeIn s i))
+          ]) ≡ (if b then rootsOf (subtreeOf f (shapeIn s i .graft)) else map (inTree x) (childrenIn s (x .node) (shapeIn s i)))
+      go false = ids-met x 0 (childrenIn s (x .node) (shapeIn s i))
       go true = ids-graft x (subtreeOf f (shapeIn s i .graft))
 
   module _ (d : ShapeRow) (read : d ≡ shapeIn s i) where
@@ -147,7 +147,7 @@ module _ (s : List ℕ) (h : Sound s) (i : ℕ) (there : i < slotsOf s) where
 
     -- the children of a node that grafts nothing, and of a graft
     kids-plain : bit 8 (d .flags) ≡ false → childIds f x ≡ listOf (d .«child_count») kidAt
-    unfolding childrenOf
+    unfolding childrenIn
     kids-plain e = slot-kids ∙ ap kids (sym read) ∙ rw e (map-list-of (inTree x) (d .«child_count») (λ k. record { 0 = child s (x .node .0) (d .«first_child» + k) }))
 
     kids-graft : bit 8 (d .flags) ≡ true → (r : FoundTree) → endsOf r ≡ subtreeOf f (d .graft) → childIds f x ≡ rootsOf (endsOf r)

@@ -15,10 +15,12 @@ use Rattle.base.specs.Tables.{row, first}
 use Rattle.base.specs.Bytes.{listOf}
 use Rattle.base.proofs.Bytes.{length-list-of, list-of-more}
 use Rattle.base.proofs.Tables.{first-holds, first-passes, first-none, first-append, first-append-none}
+use Rattle.ids.specs.Ids.{idWords}
 use Rattle.ids.specs.declared.FullNodeId.{FullNodeId}
+use Rattle.ids.proofs.Ids.{id-words-length, id-words-append}
 use Rattle.state.specs.State.{Forest, present}
 use Rattle.state.specs.Sound.{sound}
-use Rattle.questions.specs.Answers.{askNumber, stateNumber, listNumber, after, idWords, written}
+use Rattle.questions.specs.Answers.{askNumber, stateNumber, listNumber, after, written}
 
 -- ## The number
 
@@ -84,17 +86,6 @@ module _ (f : ℕ → ℕ) (slice : List ℕ) where
   written-length j h = simp (length-append, length-list-of, length-drop) (omega arith)
 
 -- ## Ids in the slice
-
--- two words an id
-pub id-words-length : (xs : List FullNodeId) → length (idWords xs) ≡ 2 * length xs
-unfolding idWords
-id-words-length [] = refl
-id-words-length (x ∷ xs) = let h = id-words-length xs in omega arith
-
-id-words-append : (xs ys : List FullNodeId) → idWords (xs ++ ys) ≡ idWords xs ++ idWords ys
-unfolding idWords
-id-words-append [] ys = refl
-id-words-append (x ∷ xs) ys = ap (λ (l : List ℕ). x .tree .0 ∷ x .node .0 ∷ l) (id-words-append xs ys)
 
 -- two stores after what is written
 two-written : (ws slice : List ℕ) (m a b : ℕ) → length ws ≡ m → m + 2 ≤ length slice

@@ -5,20 +5,10 @@ use Prim.Native.Nat.{ℕ, suc, _+_, _*_, _≤_}
 use native.Mathlib.Omega.{arith}
 use lib.ListN.{length, set, drop, length-append, length-drop}
 use lib.Seq.{take-append-seam, drop-append-add, drop-drop, sets-eq}
+use Rattle.ids.specs.Ids.{idWords}
 use Rattle.ids.specs.declared.FullNodeId.{FullNodeId}
-use Rattle.questions.specs.Answers.{idWords, written}
-
--- ## Ids as words
-
-pub words-length : (xs : List FullNodeId) → length (idWords xs) ≡ 2 * length xs
-unfolding idWords
-words-length [] = refl
-words-length (x ∷ xs) = omega (arith, words-length xs)
-
-pub words-append : (xs ys : List FullNodeId) → idWords (xs ++ ys) ≡ idWords xs ++ idWords ys
-unfolding idWords
-words-append [] ys = refl
-words-append (x ∷ xs) ys = ap (λ (l : List ℕ). x .tree .0 ∷ x .node .0 ∷ l) (words-append xs ys)
+use Rattle.ids.proofs.Ids.{id-words-length, id-words-append}
+use Rattle.questions.specs.Answers.{written}
 
 -- ## A list in a slice
 
@@ -37,11 +27,11 @@ unfolding written idWords
 ids-more xs x slice k e h =
     let w = idWords xs in
     let two : List ℕ = x .tree .0 ∷ x .node .0 ∷ [] in
-    let here : 2 * k ≡ length w = omega (arith, words-length xs) in
-    let next : 2 * k + 1 ≡ suc (length w) = omega (arith, words-length xs) in
-    let room : length w + 2 ≤ length (w ++ drop (length w) slice) = omega (arith, words-length xs, length-append w (drop (length w) slice), length-drop (length w) slice) in
-    let all : length w + 2 ≡ length (idWords (xs ++ x ∷ [])) = omega (arith, ap length (words-append xs (x ∷ [])), length-append w two) in
+    let here : 2 * k ≡ length w = omega (arith, id-words-length xs) in
+    let next : 2 * k + 1 ≡ suc (length w) = omega (arith, id-words-length xs) in
+    let room : length w + 2 ≤ length (w ++ drop (length w) slice) = omega (arith, id-words-length xs, length-append w (drop (length w) slice), length-drop (length w) slice) in
+    let all : length w + 2 ≡ length (idWords (xs ++ x ∷ [])) = omega (arith, ap length (id-words-append xs (x ∷ [])), length-append w two) in
     ap₂ (λ (i j : ℕ). set (set (w ++ drop (length w) slice) i (x .tree .0)) j (x .node .0)) here next
     ∙ sets-eq two (w ++ drop (length w) slice) (length w) room
     ∙ ap₂ (λ (p q : List ℕ). p ++ two ++ q) (take-append-seam w (drop (length w) slice)) (drop-append-add w (drop (length w) slice) 2 ∙ drop-drop 2 (length w) slice)
-    ∙ ap₂ (λ (p : List ℕ) (n : ℕ). p ++ drop n slice) (sym (words-append xs (x ∷ []))) all
+    ∙ ap₂ (λ (p : List ℕ) (n : ℕ). p ++ drop n slice) (sym (id-words-append xs (x ∷ []))) all

@@ -27,11 +27,6 @@ unfoldable pub after : {A : Type 0} → ℕ → A → A → A
 after zero nothing answer = answer
 after (suc k) nothing answer = nothing
 
--- two u64 for an id
-unfoldable pub idWords : List FullNodeId → List ℕ
-idWords [] = []
-idWords (x ∷ xs) = x .tree .0 ∷ x .node .0 ∷ idWords xs
-
 -- a slice after a list is written to it: elements beyond the list keep what they held
 unfoldable pub written : List ℕ → List ℕ → List ℕ
 written words slice = words ++ drop (length words) slice

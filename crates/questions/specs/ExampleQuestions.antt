@@ -41,16 +41,16 @@ pub data Question : Type 0 where
   DeepestLastFilteredChild : Filter → Question
 
 -- a node or none, nodes in order, a flag, a transform, a box or none, what a filter says
-pub data Answer : Type 0 where
-  one : Option FullNodeId → Answer
-  many : List FullNodeId → Answer
-  flag : Bool → Answer
-  affine : Affine → Answer
-  box : BoundingBox → Answer
-  result : FilterResult → Answer
+pub data Said : Type 0 where
+  one : Option FullNodeId → Said
+  many : List FullNodeId → Said
+  flag : Bool → Said
+  affine : Affine → Said
+  box : BoundingBox → Said
+  result : FilterResult → Said
 
 -- what the definitions answer
-unfoldable pub answer : State → FullNodeId → Question → Answer
+unfoldable pub answer : State → FullNodeId → Question → Said
 answer s x Parent = one (parentAt (s .forest .nodes) x)
 answer s x Children = many (childIds (s .forest) x)
 answer s x (Siblings side) = many (siblings side (s .forest) x)
@@ -67,10 +67,10 @@ answer s x (DeepestFirstFilteredChild f) = one (deepestFirstFilteredChild (filte
 answer s x (DeepestLastFilteredChild f) = one (deepestLastFilteredChild (filterOf f s) (s .forest) x)
 
 -- a node, or none
-abbrev pub is : FullNodeId → Answer
+abbrev pub is : FullNodeId → Said
 is x = one (some x)
 
-abbrev pub nothing : Answer
+abbrev pub nothing : Said
 nothing = one none
 
 -- ## Cases
@@ -79,10 +79,10 @@ nothing = one none
 pub record Case : Type 0 where
   pub node : FullNodeId
   pub asked : Question
-  pub says : Answer
+  pub says : Said
 
 infix 70 _asked_says_
-abbrev pub _asked_says_ : FullNodeId → Question → Answer → Case
+abbrev pub _asked_says_ : FullNodeId → Question → Said → Case
 x asked q says a = record { node = x; asked = q; says = a }
 
 -- a state, and cases about its nodes

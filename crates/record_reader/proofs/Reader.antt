@@ -18,7 +18,7 @@ use Rattle.record.specs.Layout.{nodeCount, entryCount, hasTreeData, treeRoot, r
 use Rattle.record.specs.Parse.{nodeOf, wellFormed, parse}
 use Rattle.record.proofs.Batch.{named-at}
 use Rattle.record.proofs.Parse.{parsed, nodes-length, entries-named, first-child-named}
-use Rattle.record_reader.specs.Reader.{batchIn, noNode, blank, listedAt, fieldAt, entriesOf, rootOrZero}
+use Rattle.record_reader.specs.Reader.{batchIn, noNode, noListed, listedAt, fieldAt, entriesOf, rootOrZero}
 
 -- ## The batch
 
@@ -52,11 +52,11 @@ module _ (s : List ℕ) (i : ℕ) where
   -- the node listed at a position is the one that its record says
   pub listed-here : i < nodeCount s → listedAt (batchIn s) i ≡ nodeOf s i
   unfolding batchIn listedAt
-  listed-here h = list-of-at (nodeCount s) i (nodeOf s) blank h
+  listed-here h = list-of-at (nodeCount s) i (nodeOf s) noListed h
 
-  pub listed-past : nodeCount s ≤ i → listedAt (batchIn s) i ≡ blank
+  pub listed-past : nodeCount s ≤ i → listedAt (batchIn s) i ≡ noListed
   unfolding batchIn listedAt
-  listed-past h = List·getD-eq-default (batchIn s .nodes) blank (rw (length-list-of (nodeCount s) (nodeOf s)) h)
+  listed-past h = List·getD-eq-default (batchIn s .nodes) noListed (rw (length-list-of (nodeCount s) (nodeOf s)) h)
 
   -- a number of its record, where as many nodes are counted
   pub field-here : {n : ℕ} (w offset : ℕ) → n ≡ nodeCount s → i < n → fieldAt w s i offset ≡ le w s (recordAt i + offset)
@@ -68,7 +68,7 @@ module _ (s : List ℕ) (i : ℕ) where
   field-past w offset e h = rw (← e, le-ltb i _ h)
 
   -- the node's field that the number stands for
-  pub field-is : {A : Type 0} (w offset : ℕ) (g : ℕ → A) (f : Listed → A) → g 0 ≡ f blank → g (le w s (recordAt i + offset)) ≡ f (nodeOf s i)
+  pub field-is : {A : Type 0} (w offset : ℕ) (g : ℕ → A) (f : Listed → A) → g 0 ≡ f noListed → g (le w s (recordAt i + offset)) ≡ f (nodeOf s i)
       → g (fieldAt w s i offset) ≡ f (listedAt (batchIn s) i)
   unfolding fieldAt
   field-is w offset g f z e =
@@ -77,7 +77,7 @@ module _ (s : List ℕ) (i : ℕ) where
 
   -- so of a float
   pub float-is : {w : ℕ} {r : Float} (offset : ℕ) (f : Listed → Float) → w ≡ fieldAt 8 s i offset → r ≡ ofBits binary64 w
-      → ofBits binary64 0 ≡ f blank → ofBits binary64 (le 8 s (recordAt i + offset)) ≡ f (nodeOf s i) → r ≡ f (listedAt (batchIn s) i)
+      → ofBits binary64 0 ≡ f noListed → ofBits binary64 (le 8 s (recordAt i + offset)) ≡ f (nodeOf s i) → r ≡ f (listedAt (batchIn s) i)
   float-is offset f word read z e = read ∙ ap (ofBits binary64) word ∙ field-is 8 offset (ofBits binary64) f z e
 
   -- ## Children and labels
@@ -132,4 +132,4 @@ module _ (s : List ℕ) (h : wellFormed s ≡ true) where
   pub entry-is-child : (i k : ℕ) → i < length (batchIn s .nodes) → k < length (listedAt (batchIn s) i .body .children)
       → getD (entriesOf s) (fieldAt 2 s i 32 + k) noNode ≡ getD (listedAt (batchIn s) i .body .children) k noNode
   unfolding listedAt
-  entry-is-child i k l m = rw (entries-are, first-child-is i l) (named-at (batchIn s .nodes) i k noNode blank l m)
+  entry-is-child i k l m = rw (entries-are, first-child-is i l) (named-at (batchIn s .nodes) i k noNode noListed l m)

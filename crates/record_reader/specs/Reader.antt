@@ -29,8 +29,8 @@ abbrev pub noNode : NodeId
 noNode = record { 0 = 0 }
 
 -- what stands past the last node: all zeros
-abbrev pub blank : Listed
-blank =
+abbrev pub noListed : Listed
+noListed =
     record {
       id = noNode;
       body = record {
@@ -47,7 +47,7 @@ blank =
 
 -- the node listed at position i
 unfoldable pub listedAt : Batch → ℕ → Listed
-listedAt b i = getD (b .nodes) i blank
+listedAt b i = getD (b .nodes) i noListed
 
 -- the number of w bytes at an offset within node record i, 0 past the last node
 unfoldable pub fieldAt : ℕ → List ℕ → ℕ → ℕ → ℕ

@@ -14,13 +14,13 @@ use Rattle.geometry.specs.Geometry.{rectTest, affineTest}
 use Rattle.record.specs.Batch.{fieldsOk}
 use Rattle.record.proofs.Batch.{field-rules}
 use Rattle.state_array.specs.Layout.{word, child}
-use Rattle.state_array.specs.View.{idIn, shapeIn, childrenOf, labelByte, labelIn, floatIn, boundsIn, transformIn, bodyIn}
+use Rattle.state_array.specs.View.{idIn, shapeIn, childrenIn, labelByte, labelIn, floatIn, boundsIn, transformIn, bodyIn}
 use Rattle.state_array.specs.Stored.{labelWord}
 use Rattle.state_array.proofs.Labels.{shift-bytes, le-cut}
 
 module _ (s : List ℕ) (i : ℕ) where
   pub children-length : length (bodyIn s i .children) ≡ word s 10 i
-  unfolding bodyIn childrenOf shapeIn
+  unfolding bodyIn childrenIn shapeIn
   children-length = length-list-of (word s 10 i) (λ j. record { 0 = child s (idIn s i .node .0) (word s 9 i + j) })
 
   pub label-length : length (bodyIn s i .label) ≡ word s 13 i

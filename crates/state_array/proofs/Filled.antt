@@ -9,7 +9,7 @@ use lib.ListN.{length, getD, replicate}
 use borrow.Author.Tests.{eqb-true, leb-true, le-leb, ltb-true}
 use Rattle.base.specs.Tests.{_&&_, all}
 use Rattle.base.specs.Bytes.{listOf}
-use Rattle.base.specs.Regions.{fill, Region, region, fills, Part, image, startOf, withPart, partOf}
+use Rattle.base.specs.Regions.{fill, Region, region, fills, Part, image, partStart, withPart, partOf}
 use Rattle.base.proofs.Tests.{both}
 use Rattle.base.proofs.Regions.{Free, image-filled, blanks, zeros-image}
 use Rattle.state.specs.State.{NodeState, TreeEntry, State}
@@ -21,7 +21,7 @@ use Rattle.state_array.specs.Stored.{noNode, noTree, nodeWord, treeWord,
 -- the regions of the parts js of qs, filled one after another
 abbrev pub inOrder : List Part → List ℕ → List ℕ → List ℕ
 inOrder qs [] s = s
-inOrder qs (j ∷ js) s = inOrder qs js (fill (startOf qs j) (partOf qs j .used) (partOf qs j .word) s)
+inOrder qs (j ∷ js) s = inOrder qs js (fill (partStart qs j) (partOf qs j .used) (partOf qs j .word) s)
 
 -- the parts then
 abbrev pub usedIn : List Part → List ℕ → List Part → List Part
@@ -56,7 +56,7 @@ startIn [] j = 0
 startIn (n ∷ ns) zero = 0
 startIn (n ∷ ns) (suc j) = n + startIn ns j
 
-start-in : (ps : List Part) (j : ℕ) → startOf ps j ≡ startIn (sizes ps) j
+start-in : (ps : List Part) (j : ℕ) → partStart ps j ≡ startIn (sizes ps) j
 start-in [] j = refl
 start-in (p ∷ ps) zero = refl
 start-in (p ∷ ps) (suc j) = rw (start-in ps j)

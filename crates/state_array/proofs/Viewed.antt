@@ -17,7 +17,7 @@ use Rattle.ids.specs.declared.NodeId.{NodeId}
 use Rattle.record.proofs.Batch.{field-rules}
 use Rattle.state.specs.State.{ParentAndIndex, NodeState, Subtree, TreeEntry, State}
 use Rattle.state_array.specs.Layout.{word, child, entry}
-use Rattle.state_array.specs.View.{idIn, linkIn, linkOf, shapeIn, childrenOf, labelByte, labelIn, floatIn, boundsIn, transformIn, bodyIn, nodeIn, treeIn, entryIn, view}
+use Rattle.state_array.specs.View.{idIn, linkIn, linkOf, shapeIn, childrenIn, labelByte, labelIn, floatIn, boundsIn, transformIn, bodyIn, nodeIn, treeIn, entryIn, view}
 use Rattle.state_array.specs.Stored.{noNode, noState, noTree, linkRow, labelWord, floatsOf, bodyOf, childrenBefore, rowOf, nodeWord, treeRow, treeWord, stored, Fits}
 use Rattle.state_array.proofs.Labels.{float-forth, le-byte}
 use Rattle.state_array.proofs.Entries.{entries-within, entries-at}
@@ -76,8 +76,8 @@ module _ (a : State) (fit : Fits a) where
           linked = at 5 (omega arith) z;
         }
 
-    children-stored : (own : NodeId) → childrenOf (stored a) own (shapeIn (stored a) i) ≡ n .body .children
-    unfolding childrenOf shapeIn nodeWord rowOf bodyOf
+    children-stored : (own : NodeId) → childrenIn (stored a) own (shapeIn (stored a) i) ≡ n .body .children
+    unfolding childrenIn shapeIn nodeWord rowOf bodyOf
     children-stored own =
         ap (λ m. listOf m (λ j. record { 0 = child (stored a) (own .0) (word (stored a) 9 i + j) })) (at 10 (omega arith))
         ∙ ap (λ m. listOf (length (n .body .children)) (λ j. record { 0 = child (stored a) (own .0) (m + j) })) (at 9 (omega arith))

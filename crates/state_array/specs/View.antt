@@ -5,8 +5,8 @@
 -- so no sound state has a child range that leaves the entries. A label longer than its room is shown with that length. A float is its bit
 -- pattern's: a NaN's pattern is shown as NaN, which is not finite.
 -- Assumes nothing.
-use mathlib.Core.Bool.{false, not}
-use mathlib.Core.List.{List, []}
+use mathlib.Core.Bool.{not}
+use mathlib.Core.List.{List}
 use mathlib.Core.Option.{Option, none, some}
 use Prim.Native.Nat.{ℕ, _+_, _*_, _/_, _%_, _^_, min}
 use lib.Dec.{eqb, ltb}
@@ -87,8 +87,8 @@ unfoldable pub linkOf : LinkRow → Option ParentAndIndex
 linkOf r = if eqb (r .linked) 0 then none else some (record { parent = r .parent; index = r .index })
 
 -- the child entries that a row names; `own` is the node's number
-unfoldable pub childrenOf : List ℕ → NodeId → ShapeRow → List NodeId
-childrenOf s own r = listOf (r .«child_count») (λ j. record { 0 = child s (own .0) (r .«first_child» + j) })
+unfoldable pub childrenIn : List ℕ → NodeId → ShapeRow → List NodeId
+childrenIn s own r = listOf (r .«child_count») (λ j. record { 0 = child s (own .0) (r .«first_child» + j) })
 
 unfoldable pub labelIn : List ℕ → ℕ → List ℕ
 labelIn s i = listOf (word s LABEL-LENGTH i) (labelByte s i)
@@ -97,7 +97,7 @@ unfoldable pub bodyIn : List ℕ → ℕ → NodeData
 bodyIn s i = record {
   activeDescendant = record { 0 = word s ACTIVE i };
   graft = shapeIn s i .graft;
-  children = childrenOf s (idIn s i .node) (shapeIn s i);
+  children = childrenIn s (idIn s i .node) (shapeIn s i);
   label = labelIn s i;
   role = word s ROLE i;
   flags = shapeIn s i .flags;
@@ -133,7 +133,3 @@ forestOf s = record { nodes = nodesOf s; trees = listOf (treesOf s) (entryIn s) 
 
 unfoldable pub view : List ℕ → State
 view s = record { forest = forestOf s; hostFocused = not (eqb (hostOf s) 0) }
-
--- no node and no tree, without host focus: what a refused start hands back
-unfoldable pub emptyState : State
-emptyState = record { forest = record { nodes = []; trees = [] }; hostFocused = false }

@@ -7,9 +7,10 @@ ghost use lib.Ieee.{toBits, binary64};
 ghost use lib.ListN.{length};
 ghost use Rattle.base.specs.Bytes.{bit, listOf};
 ghost use Rattle.base.specs.Floats.{isFinite};
+ghost use Rattle.state.specs.State.{blank};
 ghost use Rattle.state_array.specs.Layout as at;
 ghost use Rattle.state_array.specs.Layout.{hostOf, entry, word, child};
-ghost use Rattle.state_array.specs.View.{view, slotsOf, treesOf, emptyState, idIn, linkIn, shapeIn, labelByte, labelIn, floatIn, boundsIn, transformIn, treeIn};
+ghost use Rattle.state_array.specs.View.{view, slotsOf, treesOf, idIn, linkIn, shapeIn, labelByte, labelIn, floatIn, boundsIn, transformIn, treeIn};
 ghost use Rattle.state_array.specs.Stored.{labelWord, BodyAt, FloatsAt};
 use geometry::Affine;
 use geometry::Rect;
@@ -126,7 +127,7 @@ pub struct TreeRow {
 
 // No node and no tree: what a refused start hands back. It is not sound.
 pub fn blank() -> State
-    ensures { λ r. ⌜ view r ≡ emptyState ⌝ }
+    ensures { λ r. ⌜ view r ≡ blank ⌝ }
 {
     [0u64; WORDS]
 }

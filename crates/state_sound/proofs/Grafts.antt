@@ -26,7 +26,7 @@ use Rattle.state_array.specs.declared.ShapeRow.{ShapeRow}
 use Rattle.state_array.specs.Layout.{child}
 use Rattle.state.specs.State.{holder}
 use Rattle.state.specs.Sound.{graftIsBare, graftsDiffer}
-use Rattle.state_array.specs.View.{graftIn, idIn, shapeIn, childrenOf, bodyIn, nodeIn, slotsOf, view}
+use Rattle.state_array.specs.View.{graftIn, idIn, shapeIn, childrenIn, bodyIn, nodeIn, slotsOf, view}
 use Rattle.state_sound.specs.Parts.{bareIn, graftsTree, noneGrafts, markOf, Marked}
 
 -- sameness of tree ids goes both ways
@@ -161,7 +161,7 @@ module _ (s : List ℕ) where
 
   -- a node is bare by its row
   bare-at : (i : ℕ) → graftIsBare (nodeIn s i) ≡ bareIn s i
-  unfolding graftIsBare nodeIn bodyIn childrenOf graft? bareIn
+  unfolding graftIsBare nodeIn bodyIn childrenIn graft? bareIn
   bare-at i =
       by-test (bit 8 (shapeIn s i .flags))
       (λ e. rw e (nil-of (shapeIn s i .«child_count») (λ j. record { 0 = child s (idIn s i .node .0) (shapeIn s i .«first_child» + j) }))) (λ e. rw e)

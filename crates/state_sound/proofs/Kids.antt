@@ -18,7 +18,7 @@ use Rattle.record.specs.Batch.{graft?}
 use Rattle.state_array.specs.Layout.{child}
 use Rattle.state.specs.State.{SubtreeState, subtreeOf}
 use Rattle.state.specs.Down.{Met, metUnder, childrenMet, below}
-use Rattle.state_array.specs.View.{graftIn, idIn, shapeIn, childrenOf, bodyIn, nodeIn, view}
+use Rattle.state_array.specs.View.{graftIn, idIn, shapeIn, childrenIn, bodyIn, nodeIn, view}
 use Rattle.state_lookup.specs.declared.Ends.{Ends}
 use Rattle.state_lookup.specs.declared.FoundTree.{FoundTree}
 use Rattle.state_lookup.specs.declared.FoundTree.the-variants as tree
@@ -65,7 +65,7 @@ module _ (s : List ℕ) (p j : ℕ) {d : ShapeRow} (is : d ≡ shapeIn s p) {g :
   x = idIn s p
 
   abbrev step : Option TreeId → List Met
-  step o = elim o [ none ↦ childrenMet x 0 (childrenOf s (x .node) (shapeIn s p)) | some t ↦ onGraft x (subtreeOf (view s .forest) t) ]
+  step o = elim o [ none ↦ childrenMet x 0 (childrenIn s (x .node) (shapeIn s p)) | some t ↦ onGraft x (subtreeOf (view s .forest) t) ]
 
   steps : belowIn s p ≡ step (graftIn s p)
   unfolding below nodeIn bodyIn graft? graftIn
@@ -74,7 +74,7 @@ module _ (s : List ℕ) (p j : ℕ) {d : ShapeRow} (is : d ≡ shapeIn s p) {g :
   steps-graft : not g ≡ false → belowIn s p ≡ onGraft x (subtreeOf (view s .forest) (d .graft))
   steps-graft e = steps ∙ rw (graft-some s p (rw is at (call-true test e)), step, is)
 
-  steps-children : not g ≡ true → belowIn s p ≡ childrenMet x 0 (childrenOf s (x .node) d)
+  steps-children : not g ≡ true → belowIn s p ≡ childrenMet x 0 (childrenIn s (x .node) d)
   steps-children e = steps ∙ rw (graft-none s p (rw is at (call-false test e)), step, is)
 
   -- a graft has one place
@@ -94,13 +94,13 @@ module _ (s : List ℕ) (p j : ℕ) {d : ShapeRow} (is : d ≡ shapeIn s p) {g :
 
   -- past the last child
   pub kid-end : not g ≡ true → d .«child_count» ≤ j → KidSays (belowIn s p) j x kid.Nothing
-  unfolding KidSays childrenOf
+  unfolding KidSays childrenIn
   kid-end e h = rw (steps-children e) (children-past x 0 (d .«child_count») (λ i. record { 0 = child s (x .node .0) (d .«first_child» + i) }) j h)
 
   -- the child entry, or the node itself
   pub kid-child : not g ≡ true → j < d .«child_count» → {own : FullNodeId} {met : NodeId} → own ≡ x
       → met ≡ record { 0 = child s (own .node .0) (d .«first_child» + j) } → KidSays (belowIn s p) j x (kid.At (record { tree = own .tree; node = met }))
-  unfolding KidSays childrenOf
+  unfolding KidSays childrenIn
   kid-child e h q r =
       rw (r, q, steps-children e)
       (children-at x 0 (d .«child_count») (λ i. record { 0 = child s (x .node .0) (d .«first_child» + i) }) j h ∙ rw (zero-add j, add-one j))

@@ -12,13 +12,13 @@ use Rattle.base.specs.Tables.{row, first}
 use Rattle.ids.specs.declared.TreeId.{TreeId}
 use Rattle.record.specs.Batch.{Batch}
 use Rattle.record.specs.Parse.{parse}
-use Rattle.state.specs.State.{TreeEntry, Forest, State, subtreeFrom, subtreeOf}
+use Rattle.state.specs.State.{TreeEntry, Forest, State, blank, subtreeFrom, subtreeOf}
 use Rattle.state.specs.Down.{rootOf, wayDown}
 use Rattle.state.specs.Sound.{soundLinks, graftsDiffer, rootFirst, soundTrees, soundShape, sound}
 use Rattle.update.specs.Outcome.{entryAfter, entriesAfter, newEntry, outcome}
 use Rattle.update.specs.Reports.{changesOf, changeWords}
-use Rattle.update.specs.Calls.{Answer, refused, accepted, judged, updateNumber, updateBatch, update, blank}
-use Rattle.update.proofs.Reports.{length-lent}
+use Rattle.update.specs.Calls.{Answer, refused, accepted, judged, updateNumber, updateBatch, update}
+use Rattle.update.proofs.Reports.{length-slice-after}
 
 -- ## What the bytes decide
 
@@ -47,7 +47,7 @@ update-keeps-length s bytes slice = go (parse bytes)
         → length (judged n s slice (accepted s (after b) (changesOf (s .forest) b) slice) .slice) ≡ length slice
     on b zero e =
         let z = simp (first-row, first-found) at e in
-        length-lent slice (changesOf (s .forest) b) (ltb-false (length slice) (length (changeWords (changesOf (s .forest) b))) (z .1 .1 .0))
+        length-slice-after slice (changesOf (s .forest) b) (ltb-false (length slice) (length (changeWords (changesOf (s .forest) b))) (z .1 .1 .0))
     on b (suc n) e = refl
 
     go : (o : Option Batch) → length (updateOf s slice o .slice) ≡ length slice

@@ -18,7 +18,7 @@ use Rattle.state.specs.State.{NodeState, idsOf, Forest, find, present}
 use Rattle.state.specs.Sound.{ascending}
 use Rattle.state.proofs.State.{present-has, present-keep}
 use Rattle.state.proofs.Order.{find-keep, ascending-keep, find-map, ascending-map}
-use Rattle.update.specs.Words.{listing, number, mine, listed}
+use Rattle.update.specs.Words.{listing, treeNumber, mine, listed}
 use Rattle.update.specs.Gone.{gone}
 use Rattle.update.specs.Outcome.{renewed, write, writeAll, written, linkAfter, relink, outcome}
 use Rattle.update.proofs.Write.{merged, listing-some, ascending-write-all, length-write-all, find-write-all, write-cases, all-write}
@@ -65,7 +65,7 @@ ids-relink s b (n ∷ ns) = ap {B = List FullNodeId} (λ xs. n .id ∷ xs) (ids-
 module _ (s : Forest) (b : Batch) where
   pub old-written : (x : FullNodeId) → present (s .nodes) x ≡ true → has sameId (idsOf (written s b)) x ≡ true
   unfolding written
-  old-written x e = has-write-all (number s b) (b .nodes) (s .nodes) x (sym (present-has (s .nodes) x) ∙ e)
+  old-written x e = has-write-all (treeNumber s b) (b .nodes) (s .nodes) x (sym (present-has (s .nodes) x) ∙ e)
 
   -- the outcome holds what was there or is listed, and does not go
   pub present-outcome : (x : FullNodeId) → present (outcome s b .nodes) x ≡ (has sameId (idsOf (written s b)) x && not (gone s b x))
@@ -105,7 +105,7 @@ module _ (s : Forest) (b : Batch) where
   find-outcome e u x =
       find-map (relink s b) relink-id (keep (λ n. not (gone s b (n .id))) (written s b)) x
       ∙ ap relinked (find-keep (λ y. not (gone s b y)) (written s b) x)
-      ∙ go (gone s b x) (find-write-all (number s b) (b .nodes) (s .nodes) e u x)
+      ∙ go (gone s b x) (find-write-all (treeNumber s b) (b .nodes) (s .nodes) e u x)
     where
       go : (c : Bool) → find x (written s b) ≡ foundWritten x
           → relinked (if not c then find x (written s b) else none) ≡ (if c then none else relinked (foundWritten x))
@@ -160,7 +160,7 @@ module _ (s : Forest) (b : Batch) where
   unfolding outcome written
   ascending-outcome e =
       ascending-map (relink s b) relink-id (keep (λ n. not (gone s b (n .id))) (written s b))
-      (ascending-keep (λ n. not (gone s b (n .id))) (written s b) (ascending-write-all (number s b) (b .nodes) (s .nodes) e))
+      (ascending-keep (λ n. not (gone s b (n .id))) (written s b) (ascending-write-all (treeNumber s b) (b .nodes) (s .nodes) e))
 
   pub length-outcome : length (outcome s b .nodes) ≤ length (s .nodes) + length (b .nodes)
   unfolding outcome written
@@ -169,7 +169,7 @@ module _ (s : Forest) (b : Batch) where
         arith,
         length-map (keep (λ n. not (gone s b (n .id))) (written s b)) (relink s b),
         count-rest (λ n. gone s b (n .id)) (written s b),
-        length-write-all (number s b) (b .nodes) (s .nodes),
+        length-write-all (treeNumber s b) (b .nodes) (s .nodes),
       )
 
 -- ## Data
@@ -206,4 +206,4 @@ module _ (p : NodeData → Bool) where
   unfolding outcome written relink
   all-outcome s b e f =
       all-map (λ n. p (n .body)) (relink s b) (keep (λ n. not (gone s b (n .id))) (written s b))
-      ∙ all-keep (λ n. p (n .body)) (λ n. not (gone s b (n .id))) (written s b) (holds-write-all (number s b) (b .nodes) (s .nodes) f e)
+      ∙ all-keep (λ n. p (n .body)) (λ n. not (gone s b (n .id))) (written s b) (holds-write-all (treeNumber s b) (b .nodes) (s .nodes) f e)

@@ -19,7 +19,7 @@ use Rattle.ids.specs.declared.TreeId.{TreeId}
 use Rattle.ids.specs.declared.NodeId.{NodeId}
 use Rattle.record.specs.Batch.{NodeData, graft?, Listed, Batch, listedIds, namedIds}
 use Rattle.state.specs.State.{Forest}
-use Rattle.update.specs.Words.{listing, number, here, mine, naming, named, claim}
+use Rattle.update.specs.Words.{listing, treeNumber, here, mine, naming, named, claim}
 use Rattle.update.specs.Pass.{Event, names, places, placedAtTurn, namings, events, fault, pass}
 use Rattle.update.specs.Numbers.{placeless}
 
@@ -62,7 +62,7 @@ any-named (l ∷ ls) n =
 named-has : (s : Forest) (b : Batch) (n : NodeId) → named s b (here s b n) ≡ has sameNode (namedIds (b .nodes)) n
 unfolding named naming mine here
 named-has s b n =
-    rw (same-index-refl (number s b))
+    rw (same-index-refl (treeNumber s b))
     (first-given-some (λ l. has sameNode (l .body .children) n) (λ l. record { parent = here s b (l .id); index = position sameNode (l .body .children) n }) (b .nodes) ∙ any-named (b .nodes) n)
 
 module _ (s : Forest) (b : Batch) where

@@ -22,7 +22,7 @@ use Rattle.state.proofs.Sound.{shape-parts, sound-parts}
 use Rattle.update.specs.Words.{listing, mine, listed}
 use Rattle.update.specs.Gone.{gone}
 use Rattle.update.specs.Outcome.{renewed, written, linkAfter, outcome}
-use Rattle.update.specs.Reports.{Changes, sorted, added, removed, isUpdated, updated, isRelinked, relinked, changesWith, changesOf, changeWords, lent}
+use Rattle.update.specs.Reports.{Changes, sorted, added, removed, isUpdated, updated, isRelinked, relinked, changesWith, changesOf, changeWords, sliceAfter}
 use Rattle.update.proofs.Gone.{gone-old}
 use Rattle.update.proofs.Outcome.{old-written, present-outcome, bodyAfter, nodeAfter, find-old-outcome}
 use Rattle.update.proofs.Write.{listing-some}
@@ -210,6 +210,6 @@ lists-sorted s b e f =
 
 -- ## The lent slice keeps its length
 
-pub length-lent : (slice : List ℕ) (c : Changes) → length (changeWords c) ≤ length slice → length (lent slice c) ≡ length slice
-unfolding lent
-length-lent slice c h = simp (length-append, length-drop) (omega arith)
+pub length-slice-after : (slice : List ℕ) (c : Changes) → length (changeWords c) ≤ length slice → length (sliceAfter slice c) ≡ length slice
+unfolding sliceAfter
+length-slice-after slice c h = simp (length-append, length-drop) (omega arith)

@@ -1,6 +1,6 @@
 -- What a start, a batch and a host focus change answer: the number, the state and every other part. Document 01, modules 3 to 5.
 -- Assumes nothing.
-use mathlib.Core.Bool.{Bool, true, false, not}
+use mathlib.Core.Bool.{Bool, true, not}
 use mathlib.Core.List.{List, [], _∷_}
 use mathlib.Core.Option.{Option, none, some}
 use Prim.Native.Nat.{ℕ, zero, suc}
@@ -12,11 +12,11 @@ use Rattle.ids.specs.Ids.{ROOT, sameTree}
 use Rattle.ids.specs.declared.FullNodeId.{FullNodeId}
 use Rattle.record.specs.Batch.{Batch}
 use Rattle.record.specs.Parse.{parse}
-use Rattle.state.specs.State.{Forest, State}
+use Rattle.state.specs.State.{Forest, State, blank}
 use Rattle.state.specs.Focus.{stateFocus}
 use Rattle.state.specs.Sound.{sound}
 use Rattle.update.specs.Outcome.{outcome}
-use Rattle.update.specs.Reports.{Changes, noChanges, changesOf, Lengths, lengthsOf, changeWords, lent, extraBefore, extraAfter}
+use Rattle.update.specs.Reports.{Changes, noChanges, changesOf, Lengths, lengthsOf, changeWords, sliceAfter, extraBefore, extraAfter}
 use Rattle.update.specs.Numbers.{batchNumber}
 
 -- ## Answers
@@ -58,7 +58,7 @@ accepted s s′ c slice = record {
   focusAfter = stateFocus s′;
   extraBefore = extraBefore s s′ c;
   extraAfter = extraAfter s s′ c;
-  slice = lent slice c;
+  slice = sliceAfter slice c;
 }
 
 -- a number and, if it is 0, the answer
@@ -93,10 +93,6 @@ update s bytes slice =
     ]
 
 -- ## A start
-
--- the blank state, which a refused start hands back and which is not sound
-unfoldable pub blank : State
-blank = record { forest = record { nodes = []; trees = [] }; hostFocused = false }
 
 -- As in `Tree::new`, a start is a batch without tree data on a forest that has ROOT's root from the tree data, and no node yet.
 unfoldable pub seed : Batch → Forest

@@ -9,7 +9,7 @@ use Rattle.record.specs.ExampleNodes.{T, parent, leaf, labelled, grafts, graftO
 use Rattle.state.specs.ExampleStates.{id, root, under, tree, state}
 use Rattle.state.specs.State.{NodeState, TreeEntry, State}
 use Rattle.update.specs.Calls.{Answer}
-use Rattle.update.specs.ExampleCalls.{startOf, then, refuses, starts, accepts, changes, Case, _gives_}
+use Rattle.update.specs.ExampleCalls.{startWith, then, refuses, starts, accepts, changes, Case, _gives_}
 
 -- root 1 with children 2 and 3, focus 2, host focused
 abbrev pub startS : Batch
@@ -34,8 +34,8 @@ S = state (one ∷ two ∷ three ∷ []) (main ∷ [])
 abbrev pub threeGrafts : NodeState
 threeGrafts = under (id 0 1) 1 (id 0 3) (grafts T)
 
-abbrev pub grafted : State
-grafted = state (one ∷ two ∷ threeGrafts ∷ []) (main ∷ [])
+abbrev pub withGraft : State
+withGraft = state (one ∷ two ∷ threeGrafts ∷ []) (main ∷ [])
 
 abbrev pub withT : State
 withT = state (one ∷ two ∷ threeGrafts ∷ under (id 0 3) 0 (id 1 1) leaf ∷ []) (main ∷ tree T 1 1 ∷ [])
@@ -46,7 +46,7 @@ afterS ls = then S (batch 2 ls)
 
 -- 1. S: three nodes
 unfoldable pub startAccepted : Case
-startAccepted = startOf startS gives
+startAccepted = startWith startS gives
     starts S (id 0 2)
 
 -- 2. 1 has [2, 2]: 9
@@ -91,16 +91,16 @@ graftWithChild = afterS (lists 3 (graftOver T (2 ∷ [])) ∷ []) gives
 -- 9. 3 grafts T (accepted); then T, root 1, focus 1, its node 1: adds (1, 1), focus still (0, 2)
 unfoldable pub graftMade : Case
 graftMade = afterS (lists 3 (grafts T) ∷ []) gives
-    accepts grafted (changes [] (id 0 3 ∷ []) [] []) (id 0 2) (id 0 2) none none (0 ∷ 3 ∷ [])
+    accepts withGraft (changes [] (id 0 3 ∷ []) [] []) (id 0 2) (id 0 2) none none (0 ∷ 3 ∷ [])
 
 unfoldable pub paneStarted : Case
-paneStarted = then grafted (batchFor T (some 1) 1 (lists 1 leaf ∷ [])) gives
+paneStarted = then withGraft (batchFor T (some 1) 1 (lists 1 leaf ∷ [])) gives
     accepts withT (changes (id 1 1 ∷ []) [] [] []) (id 0 2) (id 0 2) none none (1 ∷ 1 ∷ [])
 
 -- 10. after the first half of 9, T without tree data: 7
 unfoldable pub paneWithoutTreeData : Case
-paneWithoutTreeData = then grafted (batchFor T none 1 (lists 1 leaf ∷ [])) gives
-    refuses 7 grafted
+paneWithoutTreeData = then withGraft (batchFor T none 1 (lists 1 leaf ∷ [])) gives
+    refuses 7 withGraft
 
 -- 11. 2 and 3 both graft T: 12
 unfoldable pub graftTwice : Case

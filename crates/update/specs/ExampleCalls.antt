@@ -18,8 +18,8 @@ slice = replicate 16 99
 abbrev pub filled : List ℕ → List ℕ
 filled ws = ws ++ replicate (16 - length ws) 99
 
-abbrev pub startOf : Batch → Answer
-startOf b = startBatch b true
+abbrev pub startWith : Batch → Answer
+startWith b = startBatch b true
 
 abbrev pub then : State → Batch → Answer
 then s b = updateBatch s b slice

@@ -11,14 +11,14 @@ use Rattle.ids.specs.declared.TreeIndex.{TreeIndex}
 use Rattle.ids.specs.declared.FullNodeId.{FullNodeId}
 use Rattle.record.specs.Batch.{NodeData, sameData, Listed, Batch}
 use Rattle.state.specs.State.{ParentAndIndex, NodeState, Subtree, TreeEntry, Forest, holder}
-use Rattle.update.specs.Words.{known, number, mine, old, listed, turn, naming, withTreeData, isRoot, claimedFrom}
+use Rattle.update.specs.Words.{known, treeNumber, mine, old, listed, turn, naming, withTreeData, isRoot, claimedFrom}
 use Rattle.update.specs.Gone.{gone}
 
 -- ## Writing
 
 -- data that is equal by value leaves the old bits
 unfoldable pub renewed : NodeData → NodeData → NodeData
-renewed was new = if sameData was new then was else new
+renewed body new = if sameData body new then body else new
 
 -- a node is written in its place by id, over the data that stood there
 unfoldable pub write : FullNodeId → NodeData → List NodeState → List NodeState
@@ -40,7 +40,7 @@ underGraft g = some (record { parent = g; index = 0 })
 module _ (s : Forest) (b : Batch) where
   -- the old nodes and the listed ones
   unfoldable pub written : List NodeState
-  written = writeAll (number s b) (b .nodes) (s .nodes)
+  written = writeAll (treeNumber s b) (b .nodes) (s .nodes)
 
   -- ## Links
 
@@ -85,10 +85,10 @@ module _ (s : Forest) (b : Batch) where
 
   -- the batch's tree: the root of the tree data or, without, the root that it had; and the batch's focus
   unfoldable pub subtreeHere : Option Subtree → Option Subtree
-  subtreeHere was =
+  subtreeHere subtree =
       elim (b .root) [
         | some r ↦ some (record { root = r; focus = b .focus })
-        | none ↦ elim was [ none ↦ none | some u ↦ some (record { root = u .root; focus = b .focus }) ]
+        | none ↦ elim subtree [ none ↦ none | some u ↦ some (record { root = u .root; focus = b .focus }) ]
       ]
 
   -- any other tree, of number k, stays while its root does
@@ -99,7 +99,7 @@ module _ (s : Forest) (b : Batch) where
   -- of the batch's tree or of another; k is the tree's number
   unfoldable pub entryAfter : ℕ → TreeEntry → TreeEntry
   entryAfter k e =
-      record { id = e .id; subtree = if eqb k (number s b .0) then subtreeHere (e .subtree) else subtreeElsewhere k (e .subtree) }
+      record { id = e .id; subtree = if eqb k (treeNumber s b .0) then subtreeHere (e .subtree) else subtreeElsewhere k (e .subtree) }
 
   -- the trees that have a number already; k is the first number
   unfoldable pub entriesAfter : ℕ → List TreeEntry → List TreeEntry

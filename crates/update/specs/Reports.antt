@@ -6,7 +6,7 @@ use mathlib.Core.Option.{Option, none, some}
 use Prim.Native.Nat.{ℕ}
 use lib.ListN.{length, drop}
 use Rattle.base.specs.Tests.{_&&_, if_then_else_, isSome, all, keep, sameOption, has}
-use Rattle.ids.specs.Ids.{sameId, before}
+use Rattle.ids.specs.Ids.{sameId, before, idWords}
 use Rattle.ids.specs.declared.FullNodeId.{FullNodeId}
 use Rattle.record.specs.Batch.{sameData, Batch}
 use Rattle.state.specs.State.{sameLink, NodeState, idsOf, Forest, State, find, present, parentAt}
@@ -87,18 +87,13 @@ lengthsOf c =
 
 -- ## The lent slice
 
--- two u64 for an id
-unfoldable pub words : List FullNodeId → List ℕ
-words [] = []
-words (x ∷ xs) = x .tree .0 ∷ x .node .0 ∷ words xs
-
 -- the four lists, one after another
 unfoldable pub changeWords : Changes → List ℕ
-changeWords c = words (c .added ++ c .updated ++ c .removed ++ c .relinked)
+changeWords c = idWords (c .added ++ c .updated ++ c .removed ++ c .relinked)
 
 -- the slice afterwards: elements beyond the lists keep what they held
-unfoldable pub lent : List ℕ → Changes → List ℕ
-lent slice c = changeWords c ++ drop (length (changeWords c)) slice
+unfoldable pub sliceAfter : List ℕ → Changes → List ℕ
+sliceAfter slice c = changeWords c ++ drop (length (changeWords c)) slice
 
 -- ## The extra `node_updated` ids of `process_changes`, if the focus moved
 

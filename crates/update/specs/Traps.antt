@@ -9,10 +9,10 @@ use Rattle.ids.specs.Ids.{ROOT}
 use Rattle.record.specs.Encode.{encode}
 use Rattle.record.specs.ExampleNodes.{T, U, parent, leaf, labelled, grafts, graftOver, active, boxed, lists, batchFor, batch}
 use Rattle.state.specs.ExampleStates.{id, root, under, tree, noTree, state}
-use Rattle.state.specs.State.{State}
-use Rattle.update.specs.Calls.{refused, blank, start, update, updateBatch, hostFocus}
-use Rattle.update.specs.ExampleCalls.{slice, startOf, then, refuses, accepts, changes, Case, _gives_}
-use Rattle.update.specs.Cases.{startS, one, two, three, main, S, grafted, threeGrafts, withT, afterS}
+use Rattle.state.specs.State.{State, blank}
+use Rattle.update.specs.Calls.{refused, start, update, updateBatch, hostFocus}
+use Rattle.update.specs.ExampleCalls.{slice, startWith, then, refuses, accepts, changes, Case, _gives_}
+use Rattle.update.specs.Cases.{startS, one, two, three, main, S, withGraft, threeGrafts, withT, afterS}
 
 -- T's tree 1 → 2, and 1 → 2 → 3, under 3
 abbrev pub twoInT : State
@@ -109,7 +109,7 @@ droppedThenUnchanged = afterS (lists 1 (parent (2 ∷ [])) ∷ lists 3 leaf ∷ 
 -- 4 goes with its graft, so 3 may graft T; listed after its old parent, 4 keeps the graft, and 3 clashes: 12
 unfoldable pub graftGoesAndClaimed : Case
 graftGoesAndClaimed = then fourGrafts (batch 2 (lists 4 (grafts T) ∷ lists 2 leaf ∷ lists 3 (grafts T) ∷ [])) gives
-    accepts grafted (changes [] (id 0 2 ∷ id 0 3 ∷ []) (id 0 4 ∷ []) []) (id 0 2) (id 0 2) none none (0 ∷ 2 ∷ 0 ∷ 3 ∷ 0 ∷ 4 ∷ [])
+    accepts withGraft (changes [] (id 0 2 ∷ id 0 3 ∷ []) (id 0 4 ∷ []) []) (id 0 2) (id 0 2) none none (0 ∷ 2 ∷ 0 ∷ 3 ∷ 0 ∷ 4 ∷ [])
 
 unfoldable pub graftKeptAndClaimed : Case
 graftKeptAndClaimed = then fourGrafts (batch 2 (lists 2 leaf ∷ lists 4 (grafts T) ∷ lists 3 (grafts T) ∷ [])) gives
@@ -136,12 +136,12 @@ rootGraftPlacedFirst = afterS (lists 1 (parent (2 ∷ 3 ∷ 4 ∷ [])) ∷ lists
 
 -- 3 holds T and 2 claims it: 12; a child that is nowhere comes before that: 14
 unfoldable pub childNowhereAndGraftHeld : Case
-childNowhereAndGraftHeld = then grafted (batch 2 (lists 2 (grafts T) ∷ lists 1 (parent (2 ∷ 3 ∷ 9 ∷ [])) ∷ [])) gives
-    refuses 14 grafted
+childNowhereAndGraftHeld = then withGraft (batch 2 (lists 2 (grafts T) ∷ lists 1 (parent (2 ∷ 3 ∷ 9 ∷ [])) ∷ [])) gives
+    refuses 14 withGraft
 
 unfoldable pub graftHeld : Case
-graftHeld = then grafted (batch 2 (lists 2 (grafts T) ∷ [])) gives
-    refuses 12 grafted
+graftHeld = then withGraft (batch 2 (lists 2 (grafts T) ∷ [])) gives
+    refuses 12 withGraft
 
 -- 2 holds T, and 3, which goes, claims it: 3 releases T by its new graft, so 18 and not 12
 unfoldable pub graftReleasedByGone : Case
@@ -209,8 +209,8 @@ newRootListedThenNamed = then chain (batchFor ROOT (some 3) 3 (lists 3 leaf ∷ 
 
 -- T does not exist, and its root 1 and its node 2 name each other: 19
 unfoldable pub rootsInCircle : Case
-rootsInCircle = then grafted (batchFor T (some 1) 1 (lists 1 (parent (2 ∷ [])) ∷ lists 2 (parent (1 ∷ [])) ∷ [])) gives
-    refuses 19 grafted
+rootsInCircle = then withGraft (batchFor T (some 1) 1 (lists 1 (parent (2 ∷ [])) ∷ lists 2 (parent (1 ∷ [])) ∷ [])) gives
+    refuses 19 withGraft
 
 -- 1 has [3, 2]: all three are updated, none is relinked
 unfoldable pub childrenSwapped : Case
@@ -314,11 +314,11 @@ startBroken = start (encode startS ++ 0 ∷ []) true gives
 
 -- 3 and 4: a start without tree data, and one for another tree
 unfoldable pub startWithoutTreeData : Case
-startWithoutTreeData = startOf (batch 2 (lists 1 leaf ∷ [])) gives
+startWithoutTreeData = startWith (batch 2 (lists 1 leaf ∷ [])) gives
     refused 3 blank []
 
 unfoldable pub startOfPane : Case
-startOfPane = startOf (batchFor T (some 1) 1 (lists 1 leaf ∷ [])) gives
+startOfPane = startWith (batchFor T (some 1) 1 (lists 1 leaf ∷ [])) gives
     refused 4 blank []
 
 abbrev pub traps : List Case

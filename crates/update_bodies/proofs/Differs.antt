@@ -24,7 +24,7 @@ use Rattle.record_reader.specs.Reader.{batchIn, noNode, listedAt, fieldAt, entr
 use Rattle.record_reader.proofs.Reader.{node-count-is, field-here, children-count, entries-are, entry-is-child}
 use Rattle.state.specs.State.{NodeState, find}
 use Rattle.state_array.specs.Layout.{child}
-use Rattle.state_array.specs.View.{idIn, shapeIn, childrenOf, bodyIn, nodeIn, slotsOf, view}
+use Rattle.state_array.specs.View.{idIn, shapeIn, childrenIn, bodyIn, nodeIn, slotsOf, view}
 use Rattle.state_array.specs.Stored.{bodyOf}
 use Rattle.state_array.specs.declared.Body.{Body}
 use Rattle.state_array.specs.declared.ShapeRow.{ShapeRow}
@@ -101,8 +101,8 @@ module _ {state bytes : List ℕ} {c : Scope} {notes : List ℕ} (told : Told GO
   -- a run of child entries and the run of its children
   children-same : length state ≡ 9640 → (own : NodeId) (d : ShapeRow) → d .«child_count» ≡ length (listedAt (batchIn bytes) i .body .children)
       → sameRun state (9128 + min (d .«first_child») 512) notes (NAMED + fieldAt 2 bytes i 32) (own .0) (d .«child_count»)
-      ≡ sameList sameNode (childrenOf state own d) (listedAt (batchIn bytes) i .body .children)
-  unfolding sameRun childrenOf sameNode
+      ≡ sameList sameNode (childrenIn state own d) (listedAt (batchIn bytes) i .body .children)
+  unfolding sameRun childrenIn sameNode
   children-same long own d e =
       let n = d .«child_count» in
       let kids = listedAt (batchIn bytes) i .body .children in
@@ -175,7 +175,7 @@ module _ {state bytes : List ℕ} {c : Scope} {notes : List ℕ} (told : Told GO
         → own ≡ idIn state slot → d ≡ shapeIn state slot → from ≡ min (d .«first_child») 512 → to ≡ fieldAt 2 bytes i 32
         → w ≡ sameRun state (9128 + from) notes (NAMED + to) (own .node .0) (d .«child_count»)
         → w ≡ sameData (nodeIn state slot .body) (listedAt (batchIn bytes) i .body)
-    unfolding nodeIn bodyIn childrenOf
+    unfolding nodeIn bodyIn childrenIn
     same-data long e same id shape first start run =
         let d = nodeIn state slot .body in
         let f = listedAt (batchIn bytes) i .body in

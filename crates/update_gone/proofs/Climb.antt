@@ -12,7 +12,7 @@ use Rattle.state_array.specs.View.{slotsOf}
 use Rattle.update.specs.Gone.{Fate, stays, goes, asParent, goesIf, replaced, fares, fate, goneWithin, gone}
 use Rattle.update.proofs.Gone.{within-parent, gone-top}
 use Rattle.update_notes.specs.declared.Scope.{Scope}
-use Rattle.update_notes.specs.Setting.{asked, forest, Kept}
+use Rattle.update_notes.specs.Setting.{asked, forest, KeptForest}
 use Rattle.update_notes.specs.Codes.{idAt, flag}
 use Rattle.update_notes.specs.Says.{slotAbove, aboveWord, goesWord, Told, GONE}
 use Rattle.update_notes.proofs.Places.{present-at, forest-length}
@@ -82,7 +82,7 @@ module _ (state bytes : List ℕ) (c : Scope) where
   unfolding goesWord
   climb-same i room at climb = ap (λ (t : Bool). flag t) (sym (climb .fares-as))
 
-  module _ (kept : Kept (forest state)) where
+  module _ (kept : KeptForest (forest state)) where
     -- a node whose fate is settled
     pub fate-settled : (at : ℕ) → at < slotsOf state → (fateWord state bytes c at ≡ 2 → ⊥) → fateWord state bytes c at ≡ goesWord state bytes c at
     unfolding fateWord fateMark fateBy goesWord

@@ -6,7 +6,7 @@ use native.Mathlib.Omega.{arith}
 use lib.ListN.{length, set, length-set}
 use lib.Seq.{getD-set-other}
 use Rattle.base.proofs.Cases.{by-last}
-use Rattle.base.specs.Regions.{fill, Part, startOf, partOf}
+use Rattle.base.specs.Regions.{fill, Part, partStart, partOf}
 use Rattle.update_notes.specs.Columns.{Holds, Column, Fit, Below}
 use Rattle.base.proofs.Regions.{fill-length, fill-kept, fill-put}
 
@@ -35,7 +35,7 @@ holds-fill start n f s h i l = fill-put start f n s h i l
 -- ## Columns of a table
 
 -- a column ends where a later one starts, or before
-before : (ps : List Part) → Fit ps → (j k : ℕ) → j < k → startOf ps j + partOf ps j .used ≤ startOf ps k
+before : (ps : List Part) → Fit ps → (j k : ℕ) → j < k → partStart ps j + partOf ps j .used ≤ partStart ps k
 before [] fit j k h = omega arith
 before (p ∷ ps) fit j zero h = absurd (omega arith)
 before (p ∷ ps) fit zero (suc k) h = omega (arith, fit 0)
@@ -43,8 +43,8 @@ before (p ∷ ps) fit (suc j) (suc k) h = omega (arith, before ps (λ i. fit (su
 
 module _ (ps : List Part) (fit : Fit ps) (s : List ℕ) (k : ℕ) (told : (j : ℕ) → j < k → Column ps s j) where
   -- the first k columns stay while the words past them change
-  pub columns-below : (t : List ℕ) → Below (startOf ps k) s t → (j : ℕ) → j < k → Column ps t j
-  columns-below t b j h = holds-below (startOf ps k) (startOf ps j) (partOf ps j .used) (partOf ps j .word) s t (before ps fit j k h) b (told j h)
+  pub columns-below : (t : List ℕ) → Below (partStart ps k) s t → (j : ℕ) → j < k → Column ps t j
+  columns-below t b j h = holds-below (partStart ps k) (partStart ps j) (partOf ps j .used) (partOf ps j .word) s t (before ps fit j k h) b (told j h)
 
   -- one column more
   pub columns-more : Column ps s k → (j : ℕ) → j < k + 1 → Column ps s j

@@ -18,7 +18,7 @@ use Rattle.ids.specs.Ids.{sameTree}
 use Rattle.ids.specs.declared.TreeId.{TreeId}
 use Rattle.ids.specs.declared.FullNodeId.{FullNodeId}
 use Rattle.record.specs.Batch.{NodeData, graft?, Listed, Batch}
-use Rattle.record_reader.specs.Reader.{batchIn, blank, listedAt}
+use Rattle.record_reader.specs.Reader.{batchIn, noListed, listedAt}
 use Rattle.state.specs.State.{Forest, graftAt}
 use Rattle.state_array.specs.View.{graftIn, shapeIn, bodyIn, nodeIn, slotsOf}
 use Rattle.update.specs.Words.{here, listed, claim, claimer, claimedFrom, letsGo}
@@ -94,13 +94,13 @@ module _ (d : NodeData) (state : List ℕ) (i : ℕ) where
 module _ (b : Batch) (notes : List ℕ) (k : ℕ) (state : List ℕ) (i : ℕ) {g : Bool} (test : g ≡ isSome (graftBelow state i)) where
   -- a slot that grafts nothing
   pub claimed-none : not g ≡ true → ClaimedFromIs b notes k (graftBelow state i) k
-  claimed-none e = record { ungrafted = λ _. refl; grafted = λ t q. absurd (clash (call-false test e) (ap isSome q)) }
+  claimed-none e = record { ungrafted = λ _. refl; of-graft = λ t q. absurd (clash (call-false test e) (ap isSome q)) }
 
   -- one that grafts a tree
   pub claimed-some : not g ≡ false → {d : ShapeRow} → d ≡ shapeIn state i → {r : ℕ} → ClaimerIs b notes k (d .graft) r → ClaimedFromIs b notes k (graftBelow state i) r
   claimed-some e {d} is h = record {
     ungrafted = λ q. absurd (clash (ap isSome q) (call-true test e));
-    grafted = λ t q. let same : d .graft ≡ t = cc (graft-below-given state i (call-true test e)) in rw same at h;
+    of-graft = λ t q. let same : d .graft ≡ t = cc (graft-below-given state i (call-true test e)) in rw same at h;
   }
 
 -- ## Grafts of the forest of a state
@@ -147,7 +147,7 @@ module _ (s : Forest) (b : Batch) where
         let test : (i : ℕ) → i < k
         → (eqb (getD notes (CLAIMS + i) 0) 1 && sameTree (listedAt (batchIn bytes) i .body .graft) t) ≡ sameOption sameTree (claim s b (listedAt b i)) (some t) =
         λ i l. rw (batched-at bytes b batched i, say i l) (claim-test (listedAt b i) t) in
-        first-given-at (λ l. sameOption sameTree (claim s b l) (some t)) (λ l. here s b (l .id)) blank (b .nodes) r (rw (← count) (first-cong _ _ k r test h))
+        first-given-at (λ l. sameOption sameTree (claim s b l) (some t)) (λ l. here s b (l .id)) noListed (b .nodes) r (rw (← count) (first-cong _ _ k r test h))
         ∙ rw (← count)
 
     -- the listed node that claims the tree that p grafted
@@ -156,4 +156,4 @@ module _ (s : Forest) (b : Batch) where
     unfolding claimedFrom
     claimed-from-is p r h =
         by-option (graftAt (s .nodes) p) (λ q. rw (q, claimedFrom, le-ltb r k (omega (arith, h .ungrafted q))))
-        (λ t q. rw (q, claimedFrom) (claimer-is t r (h .grafted t q)))
+        (λ t q. rw (q, claimedFrom) (claimer-is t r (h .of-graft t q)))

@@ -10,10 +10,10 @@ use Rattle.state.proofs.Sound.{shape-parts, sound-parts}
 use Rattle.state.proofs.Family.{parent-present}
 use Rattle.state.proofs.Pool.{children-few}
 use Rattle.update.proofs.Gone.{gone-parent}
-use Rattle.update_notes.specs.Setting.{Kept}
+use Rattle.update_notes.specs.Setting.{KeptForest}
 
 -- a sound forest
-pub kept-sound : (s : Forest) → sound.sound s ≡ true → Kept s
+pub kept-sound : (s : Forest) → sound.sound s ≡ true → KeptForest s
 kept-sound s e =
     let p = sound-parts s e in
     let h = shape-parts s (p .shape) in

@@ -20,10 +20,10 @@ use Rattle.ids.specs.declared.NodeId.{NodeId}
 use Rattle.ids.specs.declared.FullNodeId.{FullNodeId}
 use Rattle.record.specs.Batch.{Listed, Batch, listedIds, namedIds}
 use Rattle.record.proofs.Batch.{listed-length, listed-at, listed-position, listed-has}
-use Rattle.record_reader.specs.Reader.{noNode, blank, listedAt}
+use Rattle.record_reader.specs.Reader.{noNode, noListed, listedAt}
 use Rattle.state.specs.State.{ParentAndIndex, Forest}
 use Rattle.state.specs.Sound.{ascending}
-use Rattle.update.specs.Words.{listing, number, here, mine, listed, turn, naming, named}
+use Rattle.update.specs.Words.{listing, treeNumber, here, mine, listed, turn, naming, named}
 use Rattle.update_notes.specs.Codes.{idAt, slotAt}
 use Rattle.update_notes.specs.Says.{turnMark, namingMark}
 use Rattle.update_notes.proofs.Positions.{first-unique, first-cong, position-first, has-position, position-append, position-self, first-given-at}
@@ -49,11 +49,11 @@ module _ (s : Forest) (b : Batch) where
   -- a node of the batch's tree, by its number
   pub mine-here : (x : FullNodeId) → mine s b x ≡ true → here s b (x .node) ≡ x
   unfolding mine here
-  mine-here x e = let p = sym (same-index→≡ (x .tree) (number s b) e) in λ i. record { tree = p i; node = x .node }
+  mine-here x e = let p = sym (same-index→≡ (x .tree) (treeNumber s b) e) in λ i. record { tree = p i; node = x .node }
 
   pub here-mine : (n : NodeId) → mine s b (here s b n) ≡ true
   unfolding mine here
-  here-mine n = same-index-refl (number s b)
+  here-mine n = same-index-refl (treeNumber s b)
 
   -- ## Turns
 
@@ -62,7 +62,7 @@ module _ (s : Forest) (b : Batch) where
   unfolding turn listedAt
   turn-first x =
       let h = position-first sameNode (x .node) noNode (listedIds (b .nodes)) in
-      first-cong _ _ (length (b .nodes)) (turn s b x) (λ i l. ap (sameNode (x .node)) (listed-at (b .nodes) i blank)) (rw (listed-length (b .nodes)) at h)
+      first-cong _ _ (length (b .nodes)) (turn s b x) (λ i l. ap (sameNode (x .node)) (listed-at (b .nodes) i noListed)) (rw (listed-length (b .nodes)) at h)
 
   module _ (x : FullNodeId) where
     pub turn-listed : listed s b x ≡ ltb 0 (turnMark s b x)
@@ -101,18 +101,18 @@ module _ (s : Forest) (b : Batch) where
       unfolding listing listedAt
       turn-listing =
           let first = rw (turn-is k e) at (turn-first x) in
-          first-given-at (λ l. sameNode (x .node) (l .id)) (λ l. l .body) blank (b .nodes) k first ∙ rw (lt-ltb k (length (b .nodes)) turn-within)
+          first-given-at (λ l. sameNode (x .node) (l .id)) (λ l. l .body) noListed (b .nodes) k first ∙ rw (lt-ltb k (length (b .nodes)) turn-within)
 
   -- the listed node i is listed
   pub listed-self : (i : ℕ) → i < length (b .nodes) → listed s b (here s b (listedAt b i .id)) ≡ true
   unfolding listed here mine listedAt
-  listed-self i h = joined (same-index-refl (number s b)) (listed-has (b .nodes) i blank h)
+  listed-self i h = joined (same-index-refl (treeNumber s b)) (listed-has (b .nodes) i noListed h)
 
   -- at turn i, where no number is listed twice
   pub turn-self : distinct sameNode (listedIds (b .nodes)) ≡ true → (i : ℕ) → i < length (b .nodes) → turn s b (here s b (listedAt b i .id)) ≡ i
   unfolding turn here listedAt
   turn-self u i h =
-      rw (← listed-at (b .nodes) i blank)
+      rw (← listed-at (b .nodes) i noListed)
       (position-self sameNode same-node→≡ same-node-refl (listedIds (b .nodes)) noNode u i (rw (listed-length (b .nodes)) h))
 
 -- ## Namings
@@ -151,7 +151,7 @@ module _ (s : Forest) (b : Batch) (x : FullNodeId) where
   -- a number that stands among the children of listed node i, and of none before it, is named by it
   namer-at : (ls : List Listed) (i : ℕ) → i < length ls → length (namedIds (take i ls)) ≤ position sameNode (namedIds ls) (x .node)
       → position sameNode (namedIds ls) (x .node) < length (namedIds (take (suc i) ls))
-      → namer ls ≡ some (record { parent = here s b (getD ls i blank .id); index = position sameNode (namedIds ls) (x .node) - length (namedIds (take i ls)) })
+      → namer ls ≡ some (record { parent = here s b (getD ls i noListed .id); index = position sameNode (namedIds ls) (x .node) - length (namedIds (take i ls)) })
   unfolding namedIds
   namer-at [] i h l m = absurd (omega arith)
   namer-at (k ∷ ks) zero h l m =

@@ -3,7 +3,7 @@ use mathlib.Core.List.{List}
 use mathlib.Core.Path.{_≡_}
 use Prim.Native.Nat.{ℕ, _+_, _≤_, _<_}
 use lib.ListN.{length, getD}
-use Rattle.base.specs.Regions.{Part, startOf, partOf}
+use Rattle.base.specs.Regions.{Part, partStart, partOf}
 
 -- the first n words from `start` on are f's
 abbrev pub Holds : List ℕ → ℕ → ℕ → (ℕ → ℕ) → Type 0
@@ -11,7 +11,7 @@ Holds notes start n f = (i : ℕ) → i < n → getD notes (start + i) 0 ≡ f i
 
 -- column j of a table holds its words
 abbrev pub Column : List Part → List ℕ → ℕ → Type 0
-Column ps notes j = Holds notes (startOf ps j) (partOf ps j .used) (partOf ps j .word)
+Column ps notes j = Holds notes (partStart ps j) (partOf ps j .used) (partOf ps j .word)
 
 -- no column uses more words than it has
 abbrev pub Fit : List Part → Type 0

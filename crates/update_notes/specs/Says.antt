@@ -48,7 +48,7 @@ ClaimerIs b notes k t r = First (λ i. eqb (getD notes (CLAIMS + i) 0) 1 && same
 -- the first of k listed nodes that claims the tree that a node grafted, or k
 pub record ClaimedFromIs (b : Batch) (notes : List ℕ) (k : ℕ) (graft : Option TreeId) (r : ℕ) : Type 0 where
   pub ungrafted : graft ≡ none → r ≡ k
-  pub grafted : (t : TreeId) → graft ≡ some t → ClaimerIs b notes k t r
+  pub of-graft : (t : TreeId) → graft ≡ some t → ClaimerIs b notes k t r
 
 -- ## Searches
 

@@ -17,7 +17,7 @@ use Rattle.state.specs.State.{ParentAndIndex, Forest, present, linkAt}
 use Rattle.state.specs.Sound as sound
 use Rattle.state_array.specs.View.{view}
 use Rattle.state.proofs.Pool.{childTotal}
-use Rattle.update.specs.Words.{known, number, withTreeData, rootAfter}
+use Rattle.update.specs.Words.{known, treeNumber, withTreeData, rootAfter}
 use Rattle.update.specs.Gone.{fares, fate, gone}
 use Rattle.update_notes.specs.declared.Refusal.{Refusal}
 use Rattle.update_notes.specs.declared.Scope.{Scope}
@@ -33,7 +33,7 @@ rootIn c = if c .rooted then some (record { tree = c .tree; node = c .root }) el
 
 -- c is the scope of b over s
 pub record Scoped (s : Forest) (b : Batch) (c : Scope) : Type 0 where
-  pub tree : c .tree ≡ number s b
+  pub tree : c .tree ≡ treeNumber s b
   pub root-tree : c .«is_root_tree» ≡ sameTree (b .tree) ROOT
   pub listed : c .listed ≡ length (b .nodes)
   pub named : c .named ≡ length (namedIds (b .nodes))
@@ -54,7 +54,7 @@ abbrev pub forest : List ℕ → Forest
 forest state = view state .forest
 
 -- what holds of a sound forest, and of the forest that a start begins with
-pub record Kept (s : Forest) : Type 0 where
+pub record KeptForest (s : Forest) : Type 0 where
   pub ascending : sound.ascending (s .nodes) ≡ true
   pub few-nodes : length (s .nodes) ≤ 256
   pub few-trees : length (s .trees) ≤ 32
@@ -66,7 +66,7 @@ pub record Kept (s : Forest) : Type 0 where
 
 -- What every phase is given: the words of a state that is kept, the bytes of a record that passed rows 5 to 8, and its scope.
 pub record Given (state bytes : List ℕ) (c : Scope) : Type 0 where
-  pub kept : Kept (forest state)
+  pub kept : KeptForest (forest state)
   pub formed : wellFormed bytes ≡ true
   pub scoped : Scoped (forest state) (asked bytes c) c
   pub once : distinct sameNode (listedIds (asked bytes c .nodes)) ≡ true

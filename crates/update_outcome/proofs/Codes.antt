@@ -18,7 +18,7 @@ use Rattle.update.specs.Gone.{gone}
 use Rattle.update.specs.Outcome.{outcome}
 use Rattle.update.proofs.Gone.{gone-old}
 use Rattle.update.proofs.Outcome.{present-after}
-use Rattle.update_notes.specs.Setting.{Kept}
+use Rattle.update_notes.specs.Setting.{KeptForest}
 use Rattle.update_notes.specs.Codes.{idAt, slotAt, codeId, Coded, codeOf}
 use Rattle.update_notes.specs.Says.{turnMark}
 use Rattle.update_notes.proofs.Places.{slot-old, slot-id, present-at}
@@ -66,7 +66,7 @@ module _ (s : Forest) (b : Batch) where
   unfolding turnMark
   listed-mark x q = rw q
 
-module _ (s : Forest) (b : Batch) (kept : Kept s) (few : length (b .nodes) ≤ 64) (u : distinct sameNode (listedIds (b .nodes)) ≡ true) where
+module _ (s : Forest) (b : Batch) (kept : KeptForest s) (few : length (b .nodes) ≤ 64) (u : distinct sameNode (listedIds (b .nodes)) ≡ true) where
   -- ## A node of the outcome
 
   module _ (x : FullNodeId) (there : present (outcome s b .nodes) x ≡ true) where

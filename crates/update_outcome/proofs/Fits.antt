@@ -22,12 +22,12 @@ use Rattle.ids.specs.declared.FullNodeId.{FullNodeId}
 use Rattle.record.specs.Batch.{NodeData, graft?, fieldsOk, Batch}
 use Rattle.record.specs.Parse.{nodeOf}
 use Rattle.record.specs.Layout.{nodeCount, recordAt, labelLength, labelStart, labelAt}
-use Rattle.record_reader.specs.Reader.{blank, batchIn, listedAt}
+use Rattle.record_reader.specs.Reader.{noListed, batchIn, listedAt}
 use Rattle.state.specs.State.{ParentAndIndex, Forest, graftAt, holder}
 use Rattle.state_array.specs.Layout.{word, LABEL-LENGTH}
 use Rattle.state_array.specs.View.{idIn, linkIn, linkOf, labelByte, labelIn, boundsIn, transformIn, bodyIn, nodeIn, slotsOf, view}
 use Rattle.state_array.specs.Stored.{noState, floatsOf, NodeFits, Fits}
-use Rattle.update.specs.Words.{number, here, mine, naming, claim, claimer, claimedFrom}
+use Rattle.update.specs.Words.{treeNumber, here, mine, naming, claim, claimer, claimedFrom}
 use Rattle.update.specs.Outcome.{underGraft, paneRoot, linkIsCut, linkHere, linkElsewhere, linkAfter, outcome}
 use Rattle.update.proofs.Outcome.{all-outcome}
 use Rattle.update_notes.specs.declared.Scope.{Scope}
@@ -101,7 +101,7 @@ asked-bytes bytes c h =
 pub asked-labels : (bytes : List ℕ) (c : Scope) → ((i : ℕ) → getD bytes i 0 < 256) → (i : ℕ) → i < length (asked bytes c .nodes)
     → all (λ x. ltb x 256) (listedAt (asked bytes c) i .body .label) ≡ true
 unfolding listedAt
-asked-labels bytes c h i l = all-at (λ k. bytesFit (k .body)) (asked bytes c .nodes) blank (asked-bytes bytes c h) i l
+asked-labels bytes c h i l = all-at (λ k. bytesFit (k .body)) (asked bytes c .nodes) noListed (asked-bytes bytes c h) i l
 
 -- ## Tree numbers
 
@@ -126,10 +126,10 @@ view-links state =
 module _ (s : Forest) (b : Batch) (few : length (s .trees) ≤ 32) (ids : all (λ n. small (n .id)) (s .nodes) ≡ true) where
   -- of the batch's nodes
   here-small : (n : NodeId) → small (here s b n) ≡ true
-  unfolding here number
+  unfolding here treeNumber
   here-small n =
       let ts = map (λ e. e .id) (s .trees) in
-      lt-ltb (number s b .0) 4294967296 (omega (arith, position-first sameTree (b .tree) ROOT ts .within, length-map (s .trees) (λ e. e .id)))
+      lt-ltb (treeNumber s b .0) 4294967296 (omega (arith, position-first sameTree (b .tree) ROOT ts .within, length-map (s .trees) (λ e. e .id)))
 
   naming-small : (x : FullNodeId) → smallLink (naming s b x) ≡ true
   unfolding naming
@@ -198,7 +198,7 @@ module _ (state bytes : List ℕ) (c : Scope) (g : Given state bytes c) (labels 
 
   listed-bytes : all (λ l. bytesFit (l .body)) (asked bytes c .nodes) ≡ true
   unfolding listedAt
-  listed-bytes = all-index (λ l. bytesFit (l .body)) (asked bytes c .nodes) blank labels
+  listed-bytes = all-index (λ l. bytesFit (l .body)) (asked bytes c .nodes) noListed labels
 
   module _ (r : ℕ) (l : r < length (outcome (forest state) (asked bytes c) .nodes)) where
     few : length (asked bytes c .nodes) ≤ 64

@@ -19,7 +19,7 @@ use Rattle.update.specs.Words.{listing, here, mine, old, listed, turn}
 use Rattle.update.specs.Outcome.{renewed, linkAfter, relink, outcome}
 use Rattle.update.proofs.Write.{merged, fresh, listing-some}
 use Rattle.update.proofs.Outcome.{foundWritten, foundAfter, find-outcome, bodyAfter, nodeAfter, find-old-outcome, ascending-outcome}
-use Rattle.update_notes.specs.Setting.{Kept}
+use Rattle.update_notes.specs.Setting.{KeptForest}
 use Rattle.update_notes.specs.Codes.{nodeAt, idAt, slotAt, codeId, codeLink, Coded, SourceOf, codeOf, sourceOf, differs}
 use Rattle.update_notes.specs.Says.{turnMark}
 use Rattle.update_notes.proofs.Places.{find-at, slot-id, present-at}
@@ -70,7 +70,7 @@ module _ (s : Forest) (b : Batch) where
       let mark : turnMark s b x ≡ suc j = rw (listed-self s b j l, turn-self s b u j l) in
       turn-listing s b x j mark
 
-  module _ (kept : Kept s) (u : distinct sameNode (listedIds (b .nodes)) ≡ true) where
+  module _ (kept : KeptForest s) (u : distinct sameNode (listedIds (b .nodes)) ≡ true) where
     -- what is found of a new node
     find-new : (j : ℕ) → j < length (b .nodes) → present (s .nodes) (here s b (listedAt b j .id)) ≡ false
         → find (here s b (listedAt b j .id)) (outcome s b .nodes) ≡ some (relink s b (newNode j))
@@ -113,7 +113,7 @@ module _ (s : Forest) (b : Batch) (n : NodeState) where
     unfolding differs
     differs-listed f = rw (turn-here s b (n .id) t mark, f, differs)
 
-module _ (s : Forest) (b : Batch) (kept : Kept s) where
+module _ (s : Forest) (b : Batch) (kept : KeptForest s) where
   -- data that comes from the batch, and data that comes from a slot
   pub from-batch : (j : ℕ) → j < length (b .nodes) → (body : NodeData) → listedAt b j .body ≡ body → SourceOf s b (320 + j) body
   from-batch j l body e =
@@ -137,7 +137,7 @@ module _ (s : Forest) (b : Batch) (kept : Kept s) where
 
 -- ## The outcome's nodes, by index
 
-module _ (s : Forest) (b : Batch) (kept : Kept s) (few : length (b .nodes) ≤ 64) (u : distinct sameNode (listedIds (b .nodes)) ≡ true) (r : ℕ) (l : r < length (outcome s b .nodes)) where
+module _ (s : Forest) (b : Batch) (kept : KeptForest s) (few : length (b .nodes) ≤ 64) (u : distinct sameNode (listedIds (b .nodes)) ≡ true) (r : ℕ) (l : r < length (outcome s b .nodes)) where
   abbrev x : FullNodeId
   x = idAt (outcome s b) r
 

@@ -16,19 +16,19 @@ use Rattle.record.specs.Batch.{NodeData, sameData, Listed, Batch, namedIds}
 use Rattle.state.specs.State.{NodeState, Forest}
 use Rattle.state.proofs.Pool.{childTotal}
 use Rattle.state_array.specs.Stored.{entriesOf}
-use Rattle.update.specs.Words.{known, number}
+use Rattle.update.specs.Words.{known, treeNumber}
 use Rattle.update.specs.Gone.{gone}
 use Rattle.update.specs.Outcome.{renewed, write, writeAll, written, relink, entriesAfter, newEntry, outcome}
 use Rattle.update.proofs.Outcome.{length-outcome}
 use Rattle.update.proofs.Sound.{length-entries-after}
-use Rattle.update_notes.specs.Setting.{Kept}
+use Rattle.update_notes.specs.Setting.{KeptForest}
 
 -- ## Child entries
 
 -- data written over other data has the children of one of the two
-length-renewed : (was new : NodeData) → length (renewed was new .children) ≤ length (was .children) + length (new .children)
+length-renewed : (body new : NodeData) → length (renewed body new .children) ≤ length (body .children) + length (new .children)
 unfolding renewed
-length-renewed was new = by-test (sameData was new) (λ t. rw t (omega arith)) (λ t. rw t (omega arith))
+length-renewed body new = by-test (sameData body new) (λ t. rw t (omega arith)) (λ t. rw t (omega arith))
 
 -- one node written
 child-count-write : (x : FullNodeId) (d : NodeData) (ns : List NodeState) → childTotal (write x d ns) ≤ length (d .children) + childTotal ns
@@ -72,7 +72,7 @@ child-count-outcome s b =
       arith,
       child-count-relink s b (keep (λ n. not (gone s b (n .id))) (written s b)),
       child-count-keep (λ n. not (gone s b (n .id))) (written s b),
-      child-count-write-all (number s b) (b .nodes) (s .nodes),
+      child-count-write-all (treeNumber s b) (b .nodes) (s .nodes),
     )
 
 -- as many entries as children
@@ -81,7 +81,7 @@ unfolding entriesOf childTotal
 length-entries [] = refl
 length-entries (n ∷ ns) = rw (length-append (n .body .children) (entriesOf ns), length-entries ns)
 
-module _ (s : Forest) (b : Batch) (kept : Kept s) where
+module _ (s : Forest) (b : Batch) (kept : KeptForest s) where
   pub entries-few : length (namedIds (b .nodes)) ≤ 256 → length (entriesOf (outcome s b .nodes)) ≤ 512
   entries-few few = omega (arith, length-entries (outcome s b .nodes), child-count-outcome s b, kept .few-children)
 

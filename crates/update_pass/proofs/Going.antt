@@ -16,14 +16,14 @@ use Rattle.update_notes.specs.Setting.{asked, forest}
 use Rattle.update_notes.specs.Says.{Told, READ}
 use Rattle.update_notes.proofs.Told.{few-listed, few-named}
 use Rattle.update_pass.specs.declared.Step.{Step}
-use Rattle.update_pass.specs.Steps.{At, seen, rest, placing, Moves, isTaken, unclaimedIn, Claimed, PlacedIs, startOf, restOver, waits}
+use Rattle.update_pass.specs.Steps.{At, seen, rest, placing, Moves, isTaken, unclaimedIn, Claimed, PlacedIs, entriesBefore, restOver, waits}
 use mathlib.Core.Option.{Option, none, some}
 use native.Mathlib.Numerals.{add-one}
 use lib.Seq.{take-suc, drop-cons, take-append-seam}
 use Rattle.ids.specs.Ids.{sameNode}
 use Rattle.ids.specs.declared.NodeId.{NodeId}
 use Rattle.record.proofs.Batch.{named-append, named-at}
-use Rattle.record_reader.specs.Reader.{noNode, blank, listedAt}
+use Rattle.record_reader.specs.Reader.{noNode, noListed, listedAt}
 use Rattle.update.specs.Words.{listing}
 
 -- ## The children that nodes name
@@ -37,25 +37,25 @@ named-take ls i =
     ∙ take-append-seam (namedIds (take i ls)) (namedIds (drop i ls)))
 
 -- a node's children are among all
-pub start-within : (b : Batch) (i : ℕ) → startOf b i ≤ length (namedIds (b .nodes))
-start-within b i =
+pub entries-before-within : (b : Batch) (i : ℕ) → entriesBefore b i ≤ length (namedIds (b .nodes))
+entries-before-within b i =
     let all = namedIds (b .nodes) in
     omega (arith, ap length (named-take (b .nodes) i) ∙ length-take (length (namedIds (take i (b .nodes)))) all)
 
 -- one node more
-named-more : (ls : List Listed) (i : ℕ) → i < length ls → namedIds (take (i + 1) ls) ≡ namedIds (take i ls) ++ getD ls i blank .body .children
+named-more : (ls : List Listed) (i : ℕ) → i < length ls → namedIds (take (i + 1) ls) ≡ namedIds (take i ls) ++ getD ls i noListed .body .children
 unfolding namedIds
 named-more ls i h =
-    rw (add-one, take-suc ls i blank, named-append (take i ls) (getD ls i blank ∷ [])) (ap (λ l. namedIds (take i ls) ++ l) (append-nil (getD ls i blank .body .children)))
+    rw (add-one, take-suc ls i noListed, named-append (take i ls) (getD ls i noListed ∷ [])) (ap (λ l. namedIds (take i ls) ++ l) (append-nil (getD ls i noListed .body .children)))
 
 module _ (b : Batch) (i : ℕ) (h : i < length (b .nodes)) where
   -- where the next node's children begin
-  pub start-more : startOf b (i + 1) ≡ startOf b i + length (listedAt b i .body .children)
+  pub entries-before-more : entriesBefore b (i + 1) ≡ entriesBefore b i + length (listedAt b i .body .children)
   unfolding listedAt
-  start-more = ap length (named-more (b .nodes) i h) ∙ length-append (namedIds (take i (b .nodes))) (getD (b .nodes) i blank .body .children)
+  entries-before-more = ap length (named-more (b .nodes) i h) ∙ length-append (namedIds (take i (b .nodes))) (getD (b .nodes) i noListed .body .children)
 
   -- the children named up to a node's own turn
-  named-until : namedIds (take i (b .nodes)) ++ listedAt b i .body .children ≡ take (startOf b (i + 1)) (namedIds (b .nodes))
+  named-until : namedIds (take i (b .nodes)) ++ listedAt b i .body .children ≡ take (entriesBefore b (i + 1)) (namedIds (b .nodes))
   unfolding listedAt
   named-until = sym (named-more (b .nodes) i h) ∙ named-take (b .nodes) (i + 1)
 
@@ -117,31 +117,31 @@ module _ (s : Forest) (b : Batch) where
 
   module _ (i j : ℕ) (at : At b i j) (h : i < length (b .nodes)) where
     -- at a child entry
-    pub rest-name : j < startOf b (i + 1)
+    pub rest-name : j < entriesBefore b (i + 1)
         → rest s b i j ≡ names (getD (namedIds (b .nodes)) j noNode) ∷ (waits s b (take i (b .nodes)) (getD (namedIds (b .nodes)) j noNode) ++ rest s b i (j + 1))
     unfolding rest listedAt
     rest-name e =
-        let l = getD (b .nodes) i blank in
-        let m = j - startOf b i in
-        let short : m < length (l .body .children) = omega (arith, start-more b i h, at .begun) in
-        let here : startOf b i + m ≡ j = omega (arith, at .begun) in
-        let next : j + 1 - startOf b i ≡ suc m = omega (arith, at .begun) in
+        let l = getD (b .nodes) i noListed in
+        let m = j - entriesBefore b i in
+        let short : m < length (l .body .children) = omega (arith, entries-before-more b i h, at .begun) in
+        let here : entriesBefore b i + m ≡ j = omega (arith, at .begun) in
+        let next : j + 1 - entriesBefore b i ≡ suc m = omega (arith, at .begun) in
         let child : getD (namedIds (b .nodes)) j noNode ≡ getD (l .body .children) m noNode =
-        ap (λ k. getD (namedIds (b .nodes)) k noNode) (sym here) ∙ named-at (b .nodes) i m noNode blank h short in
-        rw (drop-cons (b .nodes) i blank h, child, next) (over-name (take i (b .nodes)) l (drop (suc i) (b .nodes)) m short)
+        ap (λ k. getD (namedIds (b .nodes)) k noNode) (sym here) ∙ named-at (b .nodes) i m noNode noListed h short in
+        rw (drop-cons (b .nodes) i noListed h, child, next) (over-name (take i (b .nodes)) l (drop (suc i) (b .nodes)) m short)
 
     -- at the node's own turn
-    pub rest-own : j ≡ startOf b (i + 1)
+    pub rest-own : j ≡ entriesBefore b (i + 1)
         → rest s b i j
         ≡ (if placedAtTurn s b (listedAt b i .id) || has sameNode (take j (namedIds (b .nodes))) (listedAt b i .id) then places (listedAt b i) ∷ [] else []) ++ rest s b (i + 1) j
     unfolding rest listedAt
     rest-own e =
-        let l = getD (b .nodes) i blank in
-        let m = j - startOf b i in
-        let none-left : j - startOf b (i + 1) ≡ 0 = omega arith in
-        rw (drop-cons (b .nodes) i blank h)
-        (over-own (take i (b .nodes)) l (drop (suc i) (b .nodes)) m (omega (arith, start-more b i h))
-        ∙ rw (none-left, e, ← named-until b i h, add-one, take-suc (b .nodes) i blank h))
+        let l = getD (b .nodes) i noListed in
+        let m = j - entriesBefore b i in
+        let none-left : j - entriesBefore b (i + 1) ≡ 0 = omega arith in
+        rw (drop-cons (b .nodes) i noListed h)
+        (over-own (take i (b .nodes)) l (drop (suc i) (b .nodes)) m (omega (arith, entries-before-more b i h))
+        ∙ rw (none-left, e, ← named-until b i h, add-one, take-suc (b .nodes) i noListed h))
 
 -- the pass stands at child entry j of listed node i, and its answer is what is left to meet
 pub record Going (s : Forest) (b : Batch) (notes done : List ℕ) (i j : ℕ) : Type 0 where
@@ -214,6 +214,6 @@ going-within {state} {bytes} {c} {i = i} told g h =
       few-listed state bytes c (told .given),
       few-named state bytes c (told .given),
       told .given .scoped .named,
-      start-within (asked bytes c) (i + 1),
+      entries-before-within (asked bytes c) (i + 1),
       g .here .within (omega (arith, told .given .scoped .listed)),
     )

@@ -16,7 +16,7 @@ use Rattle.ids.proofs.Ids.{same-node-refl}
 use Rattle.ids.specs.declared.NodeId.{NodeId}
 use Rattle.ids.specs.declared.FullNodeId.{FullNodeId}
 use Rattle.record.specs.Batch.{Batch, namedIds, Listed}
-use Rattle.record_reader.specs.Reader.{noNode, listedAt, blank}
+use Rattle.record_reader.specs.Reader.{noNode, listedAt, noListed}
 use Rattle.state.specs.State.{Forest}
 use Rattle.state_array.specs.View.{slotsOf}
 use Rattle.update.specs.Words.{here, old, isRoot, claim, listing}
@@ -28,7 +28,7 @@ use Rattle.update_notes.specs.Says.{namingMark, PositionIn, listedWord, namedWo
 use Rattle.update_notes.proofs.Positions.{first-unique, position-first, first-cong, first-given-at}
 use Rattle.update_notes.proofs.Places.{slot-old, slot-id, forest-length}
 use Rattle.update_notes.proofs.Marks.{here-mine}
-use Rattle.update_pass.specs.Steps.{startOf, dueOf}
+use Rattle.update_pass.specs.Steps.{entriesBefore, dueOf}
 use native.Mathlib.Decide.{decLt}
 use native.Mathlib.Numerals.{add-one}
 use lib.Seq.{length-take-le, getD-take}
@@ -89,19 +89,19 @@ first-place xs j h e = go (decLt j (position sameNode xs x))
 
 -- ## The listed nodes before node n
 
-module _ (ls : List Listed) (x : NodeId) (n p : ℕ) (h : n ≤ length ls) (f : First (λ m. sameNode x (getD ls m blank .id)) (length ls) p) where
+module _ (ls : List Listed) (x : NodeId) (n p : ℕ) (h : n ≤ length ls) (f : First (λ m. sameNode x (getD ls m noListed .id)) (length ls) p) where
   -- what a search among them says of a node's data
-  listing-first : (r : ℕ) → First (λ m. sameNode x (getD ls m blank .id)) n r
-      → listing (take n ls) x ≡ (if ltb r n then some (getD (take n ls) r blank .body) else none)
+  listing-first : (r : ℕ) → First (λ m. sameNode x (getD ls m noListed .id)) n r
+      → listing (take n ls) x ≡ (if ltb r n then some (getD (take n ls) r noListed .body) else none)
   unfolding listing
   listing-first r g =
       let long = length-take-le n ls h in
-      let among = first-cong _ _ n r (λ m l. ap (λ (y : Listed). sameNode x (y .id)) (sym (getD-take n ls m blank l))) g in
-      rw long at (first-given-at (λ (l : Listed). sameNode x (l .id)) (λ l. l .body) blank (take n ls) r (rw long among))
+      let among = first-cong _ _ n r (λ m l. ap (λ (y : Listed). sameNode x (y .id)) (sym (getD-take n ls m noListed l))) g in
+      rw long at (first-given-at (λ (l : Listed). sameNode x (l .id)) (λ l. l .body) noListed (take n ls) r (rw long among))
 
   -- it is listed there
-  pub listing-found : p < n → listing (take n ls) x ≡ some (getD ls p blank .body)
-  listing-found l = listing-first p (first-here _ n p (f .passed) l (f .hit (omega arith))) ∙ rw (lt-ltb p n l, getD-take n ls p blank l)
+  pub listing-found : p < n → listing (take n ls) x ≡ some (getD ls p noListed .body)
+  listing-found l = listing-first p (first-here _ n p (f .passed) l (f .hit (omega arith))) ∙ rw (lt-ltb p n l, getD-take n ls p noListed l)
 
   -- it is not
   pub listing-missing : n ≤ p → listing (take n ls) x ≡ none
@@ -182,7 +182,7 @@ module _ {state bytes : List ℕ} {c : Scope} {notes : List ℕ} (told : Told RE
   listed-word i h = told .written 0 (omega arith) i h
 
   -- where its children end
-  pub end-word : (i : ℕ) → i < c .listed → getD notes (ENDS + i) 0 ≡ startOf (asked bytes c) (i + 1)
+  pub end-word : (i : ℕ) → i < c .listed → getD notes (ENDS + i) 0 ≡ entriesBefore (asked bytes c) (i + 1)
   unfolding endWord
   end-word i h = told .written 2 (omega arith) i h
 

@@ -16,7 +16,7 @@ use Rattle.ids.specs.Ids.{sameNode}
 use Rattle.ids.specs.declared.NodeId.{NodeId}
 use Rattle.record.specs.Batch.{Batch, listedIds, namedIds}
 use Rattle.record.proofs.Batch.{listed-length, listed-at}
-use Rattle.record_reader.specs.Reader.{noNode, blank, listedAt}
+use Rattle.record_reader.specs.Reader.{noNode, noListed, listedAt}
 use Rattle.state.specs.State.{Forest}
 use Rattle.state_array.specs.View.{slotsOf}
 use Rattle.update.specs.Words.{here, old, listed, named}
@@ -169,7 +169,7 @@ module _ (s : Forest) (b : Batch) where
       let ids = listedIds (b .nodes) in
       let at : position sameNode ids x ≡ p =
       first-unique (λ m. sameNode x (getD ids m noNode)) (length ids) (position sameNode ids x) p (position-first sameNode x noNode ids)
-      (rw (listed-length (b .nodes)) (first-cong _ _ (length (b .nodes)) p (λ m l. ap (sameNode x) (sym (listed-at (b .nodes) m blank))) f)) in
+      (rw (listed-length (b .nodes)) (first-cong _ _ (length (b .nodes)) p (λ m l. ap (sameNode x) (sym (listed-at (b .nodes) m noListed))) f)) in
       let long = listed-length (b .nodes) in
       ap (eqb p) count ∙ last p (length (b .nodes)) (f .within)
       ∙ ap not (ap₂ ltb (sym at) (sym long) ∙ sym (has-position sameNode x ids))
@@ -186,18 +186,18 @@ module _ (s : Forest) (b : Batch) where
 
 module _ {state bytes : List ℕ} {c : Scope} {notes : List ℕ} (told : Told READ state bytes c notes) where
   module _ (due : List ℕ) (dues : Due (forest state) (asked bytes c) due) where
-    placeless-column : (m : ℕ) → m < c .listed → ltb (c .named) (getD due m 0) ≡ placeless (forest state) (asked bytes c) (getD (asked bytes c .nodes) m blank)
+    placeless-column : (m : ℕ) → m < c .listed → ltb (c .named) (getD due m 0) ≡ placeless (forest state) (asked bytes c) (getD (asked bytes c .nodes) m noListed)
     unfolding listedAt
     placeless-column m h =
         ap (ltb (c .named)) (dues m (omega (arith, told .given .scoped .listed))) ∙ placeless-is (forest state) (asked bytes c) m (c .named) (told .given .scoped .named)
 
     -- row 13 holds, or does not
     pub placeless-some : {m : ℕ} → m < c .listed → c .named < getD due m 0 → true ≡ any (placeless (forest state) (asked bytes c)) (asked bytes c .nodes)
-    placeless-some {m} h l = any-at _ (asked bytes c .nodes) blank (told .given .scoped .listed) h (placeless-column m h) (lt-ltb (c .named) (getD due m 0) l)
+    placeless-some {m} h l = any-at _ (asked bytes c .nodes) noListed (told .given .scoped .listed) h (placeless-column m h) (lt-ltb (c .named) (getD due m 0) l)
 
     pub placeless-none : {i : ℕ} → Passing (λ m. ltb (c .named) (getD due m 0)) (c .listed) i → c .listed ≤ i
         → false ≡ any (placeless (forest state) (asked bytes c)) (asked bytes c .nodes)
-    placeless-none g h = any-passed _ (asked bytes c .nodes) blank (passing-cong g _ placeless-column) (told .given .scoped .listed) h
+    placeless-none g h = any-passed _ (asked bytes c .nodes) noListed (passing-cong g _ placeless-column) (told .given .scoped .listed) h
 
   -- row 14 does not hold
   pub nowhere-none : {j : ℕ} → Passing (λ m. nowhere (forest state) (asked bytes c) (getD (namedIds (asked bytes c .nodes)) m noNode)) (c .named) j → c .named ≤ j

@@ -26,8 +26,8 @@ use Rattle.update_notes.specs.Setting.{asked, forest}
 use Rattle.update_notes.specs.Says.{PositionIn}
 use Rattle.update_notes.proofs.Marks.{turn-first}
 use Rattle.update_notes.proofs.Told.{few-listed, few-named}
-use Rattle.update_pass.specs.Steps.{startOf, At, Standing, rest, seen, placing, waits, Moves}
-use Rattle.update_pass.proofs.Going.{start-within, start-more, rest-name, rest-own}
+use Rattle.update_pass.specs.Steps.{entriesBefore, At, Standing, rest, seen, placing, waits, Moves}
+use Rattle.update_pass.proofs.Going.{entries-before-within, entries-before-more, rest-name, rest-own}
 use Rattle.update_pass.proofs.Faults.{placing-here, placing-past, seen-has, seen-more, fault-twice, fault-once}
 use Rattle.update_pass.proofs.Read.{has-before, first-place, listing-found, listing-missing, due-reached, due-is, end-word, named-word, named-old, named-mark, named-search}
 use Rattle.update_pass.proofs.Rows.{first-listed, first-id, first-unplaced, first-at, first-found}
@@ -59,14 +59,14 @@ module _ (s : Forest) (b : Batch) (earlier : List Listed) (c : NodeId) where
 
 module _ {s : Forest} {b : Batch} {i j : ℕ} (at : At b i j) (h : i < length (b .nodes)) where
   -- a child is named
-  name-moves : (twice : Bool) (r : ℕ) → j < startOf b (i + 1) → r ≤ 64
+  name-moves : (twice : Bool) (r : ℕ) → j < entriesBefore b (i + 1) → r ≤ 64
       → twice ≡ has sameNode (take j (namedIds (b .nodes))) (getD (namedIds (b .nodes)) j noNode)
       → (twice ≡ false → placing b r ≡ waits s b (take i (b .nodes)) (getD (namedIds (b .nodes)) j noNode))
       → Moves s b i j (record { i = i; j = j + 1; twice = twice; at = r })
   name-moves twice r entry short before goes =
       let all = namedIds (b .nodes) in
       let c = getD all j noNode in
-      let few : j < length all = omega (arith, start-within b (i + 1)) in
+      let few : j < length all = omega (arith, entries-before-within b (i + 1)) in
       let same : has sameNode (seen all j) c ≡ twice = seen-has all j c (omega arith) ∙ sym before in
       let after = waits s b (take i (b .nodes)) c ++ rest s b i (j + 1) in
       let left = rest-name s b i j at h entry in
@@ -80,13 +80,13 @@ module _ {s : Forest} {b : Batch} {i j : ℕ} (at : At b i j) (h : i < length (b
       }
 
   -- the node's own turn
-  turn-moves : (r : ℕ) → j ≡ startOf b (i + 1) → r ≤ 64
+  turn-moves : (r : ℕ) → j ≡ entriesBefore b (i + 1) → r ≤ 64
       → placing b r ≡ (if placedAtTurn s b (listedAt b i .id) || has sameNode (take j (namedIds (b .nodes))) (listedAt b i .id) then places (listedAt b i) ∷ [] else [])
       → Moves s b i j (record { i = i + 1; j = j; twice = false; at = r })
   turn-moves r last short e =
       let own : placing b r ++ rest s b (i + 1) j ≡ rest s b i j = rw e (sym (rest-own s b i j at h last)) in
       record {
-        there = record { begun = omega arith; within = λ n. omega (arith, start-more b (i + 1) n) };
+        there = record { begun = omega arith; within = λ n. omega (arith, entries-before-more b (i + 1) n) };
         listed = omega arith;
         at-within = short;
         one-more = omega arith;
@@ -107,7 +107,7 @@ module _ {state bytes : List ℕ} {c : Scope} {notes due firsts : List ℕ} {i j
 
   -- at most as many children are named as there are
   entry-within : j ≤ c .named
-  entry-within = omega (arith, q .here .within is-listed, start-within (asked bytes c) (i + 1), q .prepared .told .given .scoped .named)
+  entry-within = omega (arith, q .here .within is-listed, entries-before-within (asked bytes c) (i + 1), q .prepared .told .given .scoped .named)
 
   pub entry-limit : j ≤ 256
   entry-limit = omega (arith, entry-within, few-named state bytes c (q .prepared .told .given))
@@ -117,12 +117,12 @@ module _ {state bytes : List ℕ} {c : Scope} {notes due firsts : List ℕ} {i j
   node-room = omega (arith, q .listed, few-listed state bytes c (q .prepared .told .given))
 
   -- where the node's children end
-  pub end-here : getD notes (ENDS + i) 0 ≡ startOf (asked bytes c) (i + 1)
+  pub end-here : getD notes (ENDS + i) 0 ≡ entriesBefore (asked bytes c) (i + 1)
   end-here = end-word (q .prepared .told) i (q .listed)
 
   -- the node's own turn: it is placed
   module _ (past : getD notes (ENDS + i) 0 ≤ j) where
-    last-entry : j ≡ startOf (asked bytes c) (i + 1)
+    last-entry : j ≡ entriesBefore (asked bytes c) (i + 1)
     last-entry = omega (arith, end-here, q .here .within is-listed)
 
     turn-test : leb (getD due i 0) j
@@ -144,10 +144,10 @@ module _ {state bytes : List ℕ} {c : Scope} {notes due firsts : List ℕ} {i j
         (placing-past (asked bytes c) 64 few-nodes ∙ rw (sym turn-test ∙ lt-leb (getD due i 0) j l))
 
   -- a child is named
-  module _ (entry : j < startOf (asked bytes c) (i + 1)) where
+  module _ (entry : j < entriesBefore (asked bytes c) (i + 1)) where
     -- it is one of all
     is-named : j < c .named
-    is-named = omega (arith, start-within (asked bytes c) (i + 1), q .prepared .told .given .scoped .named)
+    is-named = omega (arith, entries-before-within (asked bytes c) (i + 1), q .prepared .told .given .scoped .named)
 
     -- and none is placed
     name-only : (twice : Bool) → twice ≡ has sameNode (take j (namedIds (asked bytes c .nodes))) (getD (namedIds (asked bytes c .nodes)) j noNode)

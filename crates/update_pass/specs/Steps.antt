@@ -53,13 +53,13 @@ pub record Prepared (state bytes : List ℕ) (c : Scope) (notes due firsts : Lis
 -- ## Where the pass stands
 
 -- how many children the listed nodes before node i name
-abbrev pub startOf : Batch → ℕ → ℕ
-startOf b i = length (namedIds (take i (b .nodes)))
+abbrev pub entriesBefore : Batch → ℕ → ℕ
+entriesBefore b i = length (namedIds (take i (b .nodes)))
 
 -- child entry j is one of listed node i, or the one after them
 pub record At (b : Batch) (i j : ℕ) : Type 0 where
-  pub begun : startOf b i ≤ j
-  pub within : i < length (b .nodes) → j ≤ startOf b (i + 1)
+  pub begun : entriesBefore b i ≤ j
+  pub within : i < length (b .nodes) → j ≤ entriesBefore b (i + 1)
 
 -- THE PREMISE OF A STEP: what the pass is told, and that it stands at child entry j of listed node i
 pub record Standing (state bytes : List ℕ) (c : Scope) (notes due firsts : List ℕ) (i j : ℕ) : Type 0 where
@@ -77,7 +77,7 @@ restOver s b earlier m (l ∷ ls) =
 
 -- what is left of it at child entry j of listed node i
 unfoldable pub rest : Forest → Batch → ℕ → ℕ → List Event
-rest s b i j = restOver s b (take i (b .nodes)) (j - startOf b i) (drop i (b .nodes))
+rest s b i j = restOver s b (take i (b .nodes)) (j - entriesBefore b i) (drop i (b .nodes))
 
 -- the first j of some children, the last first
 unfoldable pub seen : List NodeId → ℕ → List NodeId

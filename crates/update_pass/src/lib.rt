@@ -8,7 +8,7 @@ ghost use Rattle.update.specs.Pass.{pass};
 ghost use Rattle.update.specs.Numbers.{placeless, nowhere};
 ghost use Rattle.update_notes.specs.Setting.{forest, asked, refusal};
 ghost use Rattle.update_notes.specs.Says.{Told, READ};
-ghost use Rattle.update_pass.specs.Steps.{dueOf, Due, DueRoom, Firsts, Prepared, startOf, Standing, Moves, Names, isTaken, unclaimedIn, PlacedIs, NowhereAt};
+ghost use Rattle.update_pass.specs.Steps.{dueOf, Due, DueRoom, Firsts, Prepared, entriesBefore, Standing, Moves, Names, isTaken, unclaimedIn, PlacedIs, NowhereAt};
 ghost use Rattle.update_pass.specs.Rows.{passNumber};
 use ids::FullNodeId;
 use ids::NodeId;
@@ -205,7 +205,7 @@ fn name_step<'a>(
     j: usize,
 ) -> Naming
     requires { ⌜ Standing (now state) (now batch) scope (now notes) (now due) (now firsts) i j ⌝ }
-    requires { ⌜ j < startOf (asked (now batch) scope) (i + 1) ⌝ }
+    requires { ⌜ j < entriesBefore (asked (now batch) scope) (i + 1) ⌝ }
     ensures { λ r. ⌜ Names (forest (now (state .entry))) (asked (now (batch .entry)) scope) i j r ⌝ }
 {
     let slot = notes[update_notes::NAMED_SLOTS + j] as usize;
@@ -231,7 +231,7 @@ fn new_step<'a>(
     j: usize,
 ) -> Naming
     requires { ⌜ Standing (now state) (now batch) scope (now notes) (now due) (now firsts) i j ⌝ }
-    requires { ⌜ j < startOf (asked (now batch) scope) (i + 1) ⌝ }
+    requires { ⌜ j < entriesBefore (asked (now batch) scope) (i + 1) ⌝ }
     ensures { λ r. ⌜ Names (forest (now (state .entry))) (asked (now (batch .entry)) scope) i j r ⌝ }
 {
     let p = firsts[j + 1];

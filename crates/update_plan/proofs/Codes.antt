@@ -43,14 +43,14 @@ spot n at (suc r) l = go (decLt (suc r) at) (decLt r at)
     go (no h) (yes d) = there (omega arith)
     go (no h) (no d) = over r refl (omega arith) (omega arith)
 
-module _ (id : ℕ → FullNodeId) (P Q : ℕ → Type 0) (n at code : ℕ) (was col : List ℕ) (within : at ≤ n) (put : Inserted was n at code col) (h : Codes id P n was) where
+module _ (id : ℕ → FullNodeId) (P Q : ℕ → Type 0) (n at code : ℕ) (notes₀ col : List ℕ) (within : at ≤ n) (put : Inserted notes₀ n at code col) (h : Codes id P n notes₀) where
   -- a code after it
-  above : (r k : ℕ) → r ≡ suc k → at ≤ k → k < n → codeIn col r ≡ codeIn was k
+  above : (r k : ℕ) → r ≡ suc k → at ≤ k → k < n → codeIn col r ≡ codeIn notes₀ k
   above r k e m l = rw e (put .above k m l)
 
   -- a code put where those before it come before it, and it comes before those from there on
-  pub codes-insert : ((k : ℕ) → k < at → before (id (codeIn was k)) (id code) ≡ true)
-      → ((k : ℕ) → at ≤ k → k < n → before (id code) (id (codeIn was k)) ≡ true)
+  pub codes-insert : ((k : ℕ) → k < at → before (id (codeIn notes₀ k)) (id code) ≡ true)
+      → ((k : ℕ) → at ≤ k → k < n → before (id code) (id (codeIn notes₀ k)) ≡ true)
       → ((c : ℕ) → P c → Q c) → Q code → ((c : ℕ) → Q c → (P c) ⊎ (c ≡ code)) → Codes id Q (suc n) col
   codes-insert before-it after-it keeps new only =
       record { up = λ i j m l. up (spot n at i (omega arith)) (spot n at j l) m; are = λ r l. are (spot n at r l); whole = λ c q. whole c (only c q) }
@@ -67,11 +67,11 @@ module _ (id : ℕ → FullNodeId) (P Q : ℕ → Type 0) (n at code : ℕ) (was
       up {i} {j} (over d a e g) (over k b f l) m = rw (above i d a e g, above j k b f l) (h .up d k (omega arith) l)
 
       are : {r : ℕ} → Spot n at r → Q (codeIn col r)
-      are {r} (under a) = rw (put .below r a) (keeps (codeIn was r) (h .are r (omega arith)))
+      are {r} (under a) = rw (put .below r a) (keeps (codeIn notes₀ r) (h .are r (omega arith)))
       are {r} (there a) = rw (a, put .there) new
-      are {r} (over k a f l) = rw (above r k a f l) (keeps (codeIn was k) (h .are k l))
+      are {r} (over k a f l) = rw (above r k a f l) (keeps (codeIn notes₀ k) (h .are k l))
 
-      found : (c r : ℕ) → r < n → codeIn was r ≡ c → Dec (r < at) → (r : ℕ) × (r < suc n) × (codeIn col r ≡ c)
+      found : (c r : ℕ) → r < n → codeIn notes₀ r ≡ c → Dec (r < at) → (r : ℕ) × (r < suc n) × (codeIn col r ≡ c)
       found c r l e (yes m) = (r, omega arith, put .below r m ∙ e)
       found c r l e (no m) = (suc r, omega arith, put .above r (omega arith) l ∙ e)
 
@@ -80,44 +80,44 @@ module _ (id : ℕ → FullNodeId) (P Q : ℕ → Type 0) (n at code : ℕ) (was
       whole c (inr e) = (at, omega arith, put .there ∙ sym e)
 
 -- a code put at the end
-pub insert-end : (was : List ℕ) (n code : ℕ) → CODES + n < length was → Inserted was n n code (set was (CODES + n) code)
-insert-end was n code h =
+pub insert-end : (notes₀ : List ℕ) (n code : ℕ) → CODES + n < length notes₀ → Inserted notes₀ n n code (set notes₀ (CODES + n) code)
+insert-end notes₀ n code h =
     record {
-      kept = below-set CODES was was (CODES + n) code (omega arith) (below-none CODES was);
-      below = λ k l. getD-set-other was (CODES + n) (CODES + k) code 0 (λ e. absurd (omega arith));
-      there = getD-set-same was (CODES + n) code 0 h;
+      kept = below-set CODES notes₀ notes₀ (CODES + n) code (omega arith) (below-none CODES notes₀);
+      below = λ k l. getD-set-other notes₀ (CODES + n) (CODES + k) code 0 (λ e. absurd (omega arith));
+      there = getD-set-same notes₀ (CODES + n) code 0 h;
       above = λ k m l. absurd (omega arith);
     }
 
 -- ## Moving up by one
 
 -- from r on, the codes among the first n are moved up by one
-pub record Shifted (was : List ℕ) (n r : ℕ) (notes : List ℕ) : Type 0 where
-  pub kept : Below CODES was notes
-  pub below : (k : ℕ) → k < r → codeIn notes k ≡ codeIn was k
-  pub above : (k : ℕ) → r ≤ k → k < n → codeIn notes (suc k) ≡ codeIn was k
+pub record Shifted (notes₀ : List ℕ) (n r : ℕ) (notes : List ℕ) : Type 0 where
+  pub kept : Below CODES notes₀ notes
+  pub below : (k : ℕ) → k < r → codeIn notes k ≡ codeIn notes₀ k
+  pub above : (k : ℕ) → r ≤ k → k < n → codeIn notes (suc k) ≡ codeIn notes₀ k
 
-pub shift-none : (was : List ℕ) (n : ℕ) → Shifted was n n was
-shift-none was n = record { kept = below-none CODES was; below = λ k l. refl; above = λ k m l. absurd (omega arith) }
+pub shift-none : (notes₀ : List ℕ) (n : ℕ) → Shifted notes₀ n n notes₀
+shift-none notes₀ n = record { kept = below-none CODES notes₀; below = λ k l. refl; above = λ k m l. absurd (omega arith) }
 
 -- one more is moved
-pub shift-one : (was notes : List ℕ) (n r q : ℕ) → r ≡ suc q → CODES + r < length notes → Shifted was n r notes → (v : ℕ) → v ≡ codeIn notes q
-    → Shifted was n q (set notes (CODES + r) v)
-shift-one was notes n r q e room h v is = record {
-  kept = below-set CODES was notes (CODES + r) v (omega arith) (h .kept);
+pub shift-one : (notes₀ notes : List ℕ) (n r q : ℕ) → r ≡ suc q → CODES + r < length notes → Shifted notes₀ n r notes → (v : ℕ) → v ≡ codeIn notes q
+    → Shifted notes₀ n q (set notes (CODES + r) v)
+shift-one notes₀ notes n r q e room h v is = record {
+  kept = below-set CODES notes₀ notes (CODES + r) v (omega arith) (h .kept);
   below = λ k l. getD-set-other notes (CODES + r) (CODES + k) v 0 (λ s. absurd (omega arith)) ∙ h .below k (omega arith);
   above = λ k m l. above k l (eq-or-lt-of-le m);
 }
   where
-    above : (k : ℕ) → k < n → (q ≡ k) ⊎ (q < k) → codeIn (set notes (CODES + r) v) (suc k) ≡ codeIn was k
+    above : (k : ℕ) → k < n → (q ≡ k) ⊎ (q < k) → codeIn (set notes (CODES + r) v) (suc k) ≡ codeIn notes₀ k
     above k l (inl f) = rw (← f, ← e) (getD-set-same notes (CODES + r) v 0 room ∙ is ∙ h .below q (omega arith))
     above k l (inr f) = getD-set-other notes (CODES + r) (CODES + suc k) v 0 (λ s. absurd (omega arith)) ∙ h .above k (omega arith) l
 
 -- and the code is put into the place that is free
-pub shift-end : (was notes : List ℕ) (n at code : ℕ) → CODES + at < length notes → Shifted was n at notes → Inserted was n at code (set notes (CODES + at) code)
-shift-end was notes n at code room h =
+pub shift-end : (notes₀ notes : List ℕ) (n at code : ℕ) → CODES + at < length notes → Shifted notes₀ n at notes → Inserted notes₀ n at code (set notes (CODES + at) code)
+shift-end notes₀ notes n at code room h =
     record {
-      kept = below-set CODES was notes (CODES + at) code (omega arith) (h .kept);
+      kept = below-set CODES notes₀ notes (CODES + at) code (omega arith) (h .kept);
       below = λ k l. getD-set-other notes (CODES + at) (CODES + k) code 0 (λ s. absurd (omega arith)) ∙ h .below k l;
       there = getD-set-same notes (CODES + at) code 0 room;
       above = λ k m l. getD-set-other notes (CODES + at) (CODES + suc k) code 0 (λ s. absurd (omega arith)) ∙ h .above k m l;

@@ -21,7 +21,7 @@ use Rattle.update.specs.Outcome.{outcome}
 use Rattle.update.proofs.Outcome.{present-after, ascending-outcome}
 use Rattle.update_notes.specs.Layout.{COUNT, CODES}
 use Rattle.update_notes.specs.declared.Scope.{Scope}
-use Rattle.update_notes.specs.Setting.{Kept, asked, forest}
+use Rattle.update_notes.specs.Setting.{KeptForest, asked, forest}
 use Rattle.update_notes.specs.Codes.{idAt, slotAt, codeId, Coded, codeOf}
 use Rattle.update_notes.specs.Says.{codeWord, outcomeCount, Told, COMPARED}
 use Rattle.update_notes.proofs.Places.{slot-present, slot-id, slot-self, present-at, forest-length}
@@ -92,7 +92,7 @@ ascending-pair s e = go (s .nodes) e
     go (n ∷ ns) e zero (suc j) h l = all-at (λ m. before (n .id) (m .id)) ns noState (both e .0) j (omega arith)
     go (n ∷ ns) e (suc i) (suc j) h l = go ns (both e .1) i j (omega arith) (omega arith)
 
-module _ (s : Forest) (b : Batch) (kept : Kept s) (few : length (b .nodes) ≤ 64) (u : distinct sameNode (listedIds (b .nodes)) ≡ true) where
+module _ (s : Forest) (b : Batch) (kept : KeptForest s) (few : length (b .nodes) ≤ 64) (u : distinct sameNode (listedIds (b .nodes)) ≡ true) where
   -- ## What belongs in the end
 
   -- an old node that stays or a listed one that is new

@@ -17,7 +17,7 @@ use Rattle.update.specs.Words.{here, old, turn}
 use Rattle.update.specs.Gone.{gone}
 use Rattle.update_notes.specs.Layout.{LISTED-SLOTS, GOES, CODES, LISTED}
 use Rattle.update_notes.specs.declared.Scope.{Scope}
-use Rattle.update_notes.specs.Setting.{asked, forest, Kept}
+use Rattle.update_notes.specs.Setting.{asked, forest, KeptForest}
 use Rattle.update_notes.specs.Codes.{idAt, slotAt, flag, codeId}
 use Rattle.update_notes.specs.Says.{goesWord, listedSlot, Told, COMPARED, listedWord}
 use Rattle.update_notes.proofs.Places.{slot-old, forest-length, present-at, forest-id}
@@ -37,7 +37,7 @@ use Rattle.update_plan.proofs.Outcome.{ascending-pair}
 last-or-below : (k i : ℕ) → k < i + 1 → (k ≡ i) ⊎ (k < i)
 last-or-below k i l = eq-or-lt-of-le (le-of-suc-le-suc (rw add-one at l))
 
-module _ (s : Forest) (b : Batch) (kept : Kept s) where
+module _ (s : Forest) (b : Batch) (kept : KeptForest s) where
   abbrev id : ℕ → FullNodeId
   id code = codeId s b code
 

@@ -17,7 +17,7 @@ use Rattle.update.specs.Words.{old, listed}
 use Rattle.update.specs.Outcome.{outcome}
 use Rattle.update_notes.specs.Layout.{TURNS, DIFFERS}
 use Rattle.update_notes.specs.declared.Scope.{Scope}
-use Rattle.update_notes.specs.Setting.{Kept, asked, forest}
+use Rattle.update_notes.specs.Setting.{KeptForest, asked, forest}
 use Rattle.update_notes.specs.Codes.{idAt, flag, differs, codeOf, sourceOf}
 use Rattle.update_notes.specs.Says.{turnMark, turnWord, differWord, codeWord, sourceWord, outcomeCount, Told}
 use Rattle.update_notes.proofs.Places.{slot-id, forest-length}
@@ -25,7 +25,7 @@ use Rattle.update_notes.proofs.Marks.{turn-none, turn-is, turn-within, turn-lis
 use Rattle.update_outcome.proofs.Codes.{old-slot, code-slot, code-turn}
 use Rattle.update_plan.specs.Plan.{codeIn, CODED}
 
-module _ (s : Forest) (b : Batch) (kept : Kept s) (x : FullNodeId) where
+module _ (s : Forest) (b : Batch) (kept : KeptForest s) (x : FullNodeId) where
   -- a code from 320 on is a new node's
   code-high : 320 ≤ codeOf s b x → old s b x ≡ false
   code-high h = go (old s b x) refl

@@ -74,11 +74,11 @@ PlaceIn state bytes c notes j n r =
     PlaceOf (λ k. codeId (forest state) (asked bytes c) (codeIn notes k)) n (codeId (forest state) (asked bytes c) (SLOTS + j)) r
 
 -- a code put at a place among the first n, those from there on moved up by one
-pub record Inserted (was : List ℕ) (n at code : ℕ) (notes : List ℕ) : Type 0 where
-  pub kept : Below CODES was notes
-  pub below : (k : ℕ) → k < at → codeIn notes k ≡ codeIn was k
+pub record Inserted (notes₀ : List ℕ) (n at code : ℕ) (notes : List ℕ) : Type 0 where
+  pub kept : Below CODES notes₀ notes
+  pub below : (k : ℕ) → k < at → codeIn notes k ≡ codeIn notes₀ k
   pub there : codeIn notes at ≡ code
-  pub above : (k : ℕ) → at ≤ k → k < n → codeIn notes (suc k) ≡ codeIn was k
+  pub above : (k : ℕ) → at ≤ k → k < n → codeIn notes (suc k) ≡ codeIn notes₀ k
 
 -- ## Columns
 

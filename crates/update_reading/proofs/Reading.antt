@@ -23,7 +23,7 @@ use Rattle.ids.specs.declared.NodeId.{NodeId}
 use Rattle.record.specs.Batch.{graft?, Listed, listedIds, namedIds}
 use Rattle.record.specs.Layout.{nodeCount, recordAt}
 use Rattle.record.proofs.Batch.{listed-length, listed-at, named-append}
-use Rattle.record_reader.specs.Reader.{batchIn, noNode, blank, listedAt, fieldAt, entriesOf}
+use Rattle.record_reader.specs.Reader.{batchIn, noNode, noListed, listedAt, fieldAt, entriesOf}
 use Rattle.record_reader.proofs.Reader.{children-count, entries-are, first-child-is}
 use Rattle.state.specs.State.{graftAt}
 use Rattle.state_array.specs.View.{slotsOf}
@@ -203,7 +203,7 @@ module _ (state bytes : List ℕ) (c : Scope) (g : Given state bytes c) where
   end-is i h =
       let nodes = batched state bytes c g .nodes in
       let m : i < length (batchIn bytes .nodes) = rw (← nodes) (omega (arith, g .scoped .listed)) in
-      rw (first-child-is bytes (g .formed) i m, nodes) (sym (named-next (batchIn bytes .nodes) i blank m))
+      rw (first-child-is bytes (g .formed) i m, nodes) (sym (named-next (batchIn bytes .nodes) i noListed m))
 
   -- ## Slots
 
@@ -256,7 +256,7 @@ module _ (state bytes : List ℕ) (c : Scope) (s t : List ℕ) where
       let count : c .listed ≡ length (listedIds (b .nodes)) = told .given .scoped .listed ∙ sym (listed-length (b .nodes)) in
       mark-is (λ j. getD s (LISTED-SLOTS + j) 0) (λ j. slotAt (forest state) (here (forest state) b (getD (listedIds (b .nodes)) j noNode))) (c .listed) i
       (getD t (TURNS + i) 0) (turnMark (forest state) b (idAt (forest state) i))
-      (λ j l. told .written 3 (omega arith) j l ∙ ap (λ (x : NodeId). slotAt (forest state) (here (forest state) b x)) (sym (listed-at (b .nodes) j blank)))
+      (λ j l. told .written 3 (omega arith) j l ∙ ap (λ (x : NodeId). slotAt (forest state) (here (forest state) b x)) (sym (listed-at (b .nodes) j noListed)))
       (m .marks i h)
       (rw count (turn-mark (forest state) b (told .given .kept .ascending) i (omega (arith, forest-length state)))))
 

@@ -27,7 +27,7 @@ use Rattle.update.proofs.Outcome.{nodeAfter, find-old-outcome, ascending-outcom
 use Rattle.update.proofs.Reports.{dataChanged, linkChanged, updated-is, relinked-is}
 use Rattle.update_notes.specs.declared.Scope.{Scope}
 use Rattle.update_notes.specs.Layout.{TURNS, DIFFERS, CODES}
-use Rattle.update_notes.specs.Setting.{asked, forest, Kept}
+use Rattle.update_notes.specs.Setting.{asked, forest, KeptForest}
 use Rattle.update_notes.specs.Codes.{nodeAt, idAt, slotAt, flag, differs, codeOf, changeOf}
 use Rattle.update_notes.specs.Says.{turnMark, turnWord, differWord, codeWord, changedWord, outcomeCount, Told, PLANNED}
 use Rattle.update_notes.proofs.Places.{slot-old, slot-id, find-at, forest-length, forest-id, forest-link}
@@ -94,7 +94,7 @@ module _ (was next : LinkRow) where
 
 -- ## Data
 
-module _ (s : Forest) (b : Batch) (kept : Kept s) (i : ℕ) (within : i < length (s .nodes)) where
+module _ (s : Forest) (b : Batch) (kept : KeptForest s) (i : ℕ) (within : i < length (s .nodes)) where
   -- a node that is not listed keeps its data
   data-none : turnMark s b (idAt s i) ≡ 0 → dataChanged s b (nodeAt s i) ≡ false
   unfolding dataChanged _&&_
@@ -169,45 +169,45 @@ module _ (s : Forest) (b : Batch) (few : length (s .nodes) ≤ 256) (x : FullNod
 
 -- ## An old node that stays
 
-module _ (s : Forest) (b : Batch) (kept : Kept s) (once : distinct sameNode (listedIds (b .nodes)) ≡ true) (r : ℕ) (h : r < length (outcome s b .nodes))
+module _ (s : Forest) (b : Batch) (kept : KeptForest s) (once : distinct sameNode (listedIds (b .nodes)) ≡ true) (r : ℕ) (h : r < length (outcome s b .nodes))
     (here : slotAt s (idAt (outcome s b) r) < length (s .nodes)) where
   -- its node before and after
-  abbrev was : NodeState
-  was = nodeAt s (slotAt s (idAt (outcome s b) r))
+  abbrev oldNode : NodeState
+  oldNode = nodeAt s (slotAt s (idAt (outcome s b) r))
 
   abbrev after : NodeState
   after = nodeAt (outcome s b) r
 
-  found : find (was .id) (s .nodes) ≡ some was
+  found : find (oldNode .id) (s .nodes) ≡ some oldNode
   found = find-at s (kept .ascending) (slotAt s (after .id)) here
 
   -- it stays, with the link that stands in the outcome
-  stays : (gone s b (was .id) ≡ false) × (linkAfter s b (was .id) (was .parentAndIndex) ≡ after .parentAndIndex)
+  stays : (gone s b (oldNode .id) ≡ false) × (linkAfter s b (oldNode .id) (oldNode .parentAndIndex) ≡ after .parentAndIndex)
   unfolding nodeAfter
   stays =
-      go (gone s b (was .id))
-      (sym (find-old-outcome s b (kept .ascending) once was found)
+      go (gone s b (oldNode .id))
+      (sym (find-old-outcome s b (kept .ascending) once oldNode found)
       ∙ ap (λ x. find x (outcome s b .nodes)) (slot-id s (after .id) here)
       ∙ find-at (outcome s b) (ascending-outcome s b (kept .ascending)) r h)
     where
-      go : (g : Bool) → (if g then none else some (nodeAfter s b was)) ≡ some after
-          → (g ≡ false) × (linkAfter s b (was .id) (was .parentAndIndex) ≡ after .parentAndIndex)
+      go : (g : Bool) → (if g then none else some (nodeAfter s b oldNode)) ≡ some after
+          → (g ≡ false) × (linkAfter s b (oldNode .id) (oldNode .parentAndIndex) ≡ after .parentAndIndex)
       go true e = let z : _≡_ {A = ℕ} 0 1 = cc in absurd (omega arith)
-      go false e = let same : nodeAfter s b was ≡ after = cc in (refl, ap (λ n. n .parentAndIndex) same)
+      go false e = let same : nodeAfter s b oldNode ≡ after = cc in (refl, ap (λ n. n .parentAndIndex) same)
 
   -- so it is updated or relinked by these
-  updated-by : isUpdated s (outcome s b) (paneRoot s b) was
-      ≡ (dataChanged s b was
-      || (isSome (after .parentAndIndex) && not (sameOption sameLink (was .parentAndIndex) (after .parentAndIndex)))
+  updated-by : isUpdated s (outcome s b) (paneRoot s b) oldNode
+      ≡ (dataChanged s b oldNode
+      || (isSome (after .parentAndIndex) && not (sameOption sameLink (oldNode .parentAndIndex) (after .parentAndIndex)))
       || paneRoot s b (after .id))
   unfolding linkChanged _&&_
   updated-by =
-      updated-is s b (kept .ascending) once was found (fields s b kept (slotAt s (after .id)) here) (paneRoot s b)
+      updated-is s b (kept .ascending) once oldNode found (fields s b kept (slotAt s (after .id)) here) (paneRoot s b)
       ∙ rw (stays .0, stays .1, slot-id s (after .id) here)
 
-  relinked-by : isRelinked s (outcome s b) (after .id) ≡ not (sameOption sameId (parentOf (was .parentAndIndex)) (parentOf (after .parentAndIndex)))
+  relinked-by : isRelinked s (outcome s b) (after .id) ≡ not (sameOption sameId (parentOf (oldNode .parentAndIndex)) (parentOf (after .parentAndIndex)))
   unfolding _&&_
-  relinked-by = rw (stays .0, stays .1, slot-id s (after .id) here) at (relinked-is s b (kept .ascending) once was found)
+  relinked-by = rw (stays .0, stays .1, slot-id s (after .id) here) at (relinked-is s b (kept .ascending) once oldNode found)
 
 -- ## The word of a node
 

@@ -11,14 +11,14 @@ use lib.Dec.{leb, ltb}
 use Rattle.base.specs.Tests.{if_then_else_, _&&_, keep, has}
 use Rattle.ids.specs.declared.FullNodeId.{FullNodeId}
 use Rattle.state_array.specs.View.{idIn, slotsOf}
-use Rattle.update.specs.Reports.{Changes, words, changeWords, lent}
+use Rattle.update.specs.Reports.{Changes, changeWords, sliceAfter}
 use Rattle.update_reports.specs.declared.Lists.{Lists}
 use Rattle.update_reports.specs.Slice.{slotsWith, Counted, idsAt, picked, Room, ListWritten, ListsWritten}
 use Rattle.base.specs.Bytes.{bit, listOf}
 use Rattle.base.proofs.Tests.{has-keep, map-keep}
 use Rattle.base.proofs.Bytes.{list-of-more, list-of-add}
-use Rattle.ids.specs.Ids.{sameId}
-use Rattle.ids.proofs.Ids.{same-id→≡}
+use Rattle.ids.specs.Ids.{sameId, idWords}
+use Rattle.ids.proofs.Ids.{same-id→≡, id-words-length, id-words-append}
 use Rattle.state.specs.State.{idsOf, Forest}
 use Rattle.state.specs.Sound.{ascending}
 use Rattle.state.proofs.State.{present-has}
@@ -137,18 +137,6 @@ module _ (weight : ℕ) (notes : List ℕ) (start : ℕ) (state : List ℕ) (up 
 
 -- ## The words of ids
 
--- two words an id
-length-words : (xs : List FullNodeId) → length (words xs) ≡ 2 * length xs
-unfolding words
-length-words [] = refl
-length-words (x ∷ xs) = let h = length-words xs in omega arith
-
--- the words of two lists
-pub words-append : (xs ys : List FullNodeId) → words (xs ++ ys) ≡ words xs ++ words ys
-unfolding words
-words-append [] ys = refl
-words-append (x ∷ xs) ys = ap (λ (l : List ℕ). x .tree .0 ∷ x .node .0 ∷ l) (words-append xs ys)
-
 -- two stores after a part
 two-stored : (p d : List ℕ) (to x y : ℕ) → length p ≡ to → to + 2 ≤ length d
     → set (set (p ++ drop to d) to x) (to + 1) y ≡ p ++ x ∷ y ∷ drop (to + 2) d
@@ -168,7 +156,7 @@ two-stored p d to x y e h =
 
 -- no id
 list-none : (before : List ℕ) (at : ℕ) → ListWritten [] at before before at
-unfolding words
+unfolding idWords
 list-none before at =
     let same : at + 0 ≡ at = omega arith in
     record {
@@ -180,23 +168,23 @@ list-none before at =
 -- one id more
 list-one : (before : List ℕ) (at : ℕ) (xs : List FullNodeId) (x : FullNodeId) (changes : List ℕ) (to : ℕ) → ListWritten xs at before changes to
     → to + 2 ≤ length before → ListWritten (xs ++ x ∷ []) at before (set (set changes to (x .tree .0)) (to + 1) (x .node .0)) (to + 2)
-unfolding words
+unfolding idWords
 list-one before at xs x changes to done room =
     let more = length-append xs (x ∷ []) in
     let placed : to ≡ at + 2 * length xs = done .end-is in
     let front : at ≤ length before = omega arith in
-    let long : length (take at before ++ words xs) ≡ to =
-    length-append (take at before) (words xs) ∙ ap₂ (λ (j k : ℕ). j + k) (length-take-le at before front) (length-words xs) ∙ sym placed
+    let long : length (take at before ++ idWords xs) ≡ to =
+    length-append (take at before) (idWords xs) ∙ ap₂ (λ (j k : ℕ). j + k) (length-take-le at before front) (id-words-length xs) ∙ sym placed
     in
     let after : to + 2 ≡ at + 2 * length (xs ++ x ∷ []) = omega arith in
     record {
       same-length = simp length-set (done .same-length);
       slice-is =
-          ap (λ (l : List ℕ). set (set l to (x .tree .0)) (to + 1) (x .node .0)) (done .slice-is ∙ ap (λ (k : ℕ). take at before ++ words xs ++ drop k before) (sym placed))
-          ∙ two-stored (take at before ++ words xs) before to (x .tree .0) (x .node .0) long room
-          ∙ sym (append-assoc (take at before ++ words xs) (words (x ∷ [])) (drop (to + 2) before))
+          ap (λ (l : List ℕ). set (set l to (x .tree .0)) (to + 1) (x .node .0)) (done .slice-is ∙ ap (λ (k : ℕ). take at before ++ idWords xs ++ drop k before) (sym placed))
+          ∙ two-stored (take at before ++ idWords xs) before to (x .tree .0) (x .node .0) long room
+          ∙ sym (append-assoc (take at before ++ idWords xs) (idWords (x ∷ [])) (drop (to + 2) before))
           ∙ ap₂ (λ (l : List ℕ) (k : ℕ). l ++ drop k before)
-          (append-assoc (take at before) (words xs) (words (x ∷ [])) ∙ ap (λ (l : List ℕ). take at before ++ l) (sym (words-append xs (x ∷ [])))) after;
+          (append-assoc (take at before) (idWords xs) (idWords (x ∷ [])) ∙ ap (λ (l : List ℕ). take at before ++ l) (sym (id-words-append xs (x ∷ [])))) after;
       end-is = after;
     }
 
@@ -245,20 +233,20 @@ list-then : (xs ys : List FullNodeId) (before middle after : List ℕ) (to r : �
 list-then xs ys before middle after to r first next =
     let k = 2 * length ys in
     let rest = drop (0 + 2 * length xs) before in
-    let long : length (words xs) ≡ to = omega (arith, length-words xs, first .end-is) in
+    let long : length (idWords xs) ≡ to = omega (arith, id-words-length xs, first .end-is) in
     let both : 0 + 2 * length (xs ++ ys) ≡ to + k = omega (arith, length-append xs ys, first .end-is) in
-    let front : take to middle ≡ words xs = ap (take to) (first .slice-is) ∙ take-at (words xs) rest to long in
+    let front : take to middle ≡ idWords xs = ap (take to) (first .slice-is) ∙ take-at (idWords xs) rest to long in
     let back : drop (to + k) middle ≡ drop (to + k) before =
     ap₂ (λ (n : ℕ) (l : List ℕ). drop (n + k) l) (sym long) (first .slice-is)
-    ∙ drop-append-add (words xs) rest k
+    ∙ drop-append-add (idWords xs) rest k
     ∙ drop-drop k (0 + 2 * length xs) before
     ∙ ap (λ (n : ℕ). drop (n + k) before) (sym (first .end-is)) in
     record {
       same-length = next .same-length ∙ first .same-length;
       slice-is =
           next .slice-is
-          ∙ ap₂ (λ (l m : List ℕ). l ++ words ys ++ m) front back
-          ∙ ap₂ (λ (l : List ℕ) (n : ℕ). l ++ drop n before) (sym (words-append xs ys)) (sym both);
+          ∙ ap₂ (λ (l m : List ℕ). l ++ idWords ys ++ m) front back
+          ∙ ap₂ (λ (l : List ℕ) (n : ℕ). l ++ drop n before) (sym (id-words-append xs ys)) (sym both);
       end-is = next .end-is ∙ sym both;
     }
 
@@ -268,15 +256,15 @@ unfolding changeWords
 lists-length c =
     let two = c .added ++ c .updated in
     let three = two ++ c .removed in
-    omega (arith, length-words (three ++ c .relinked), length-append three (c .relinked), length-append two (c .removed), length-append (c .added) (c .updated))
+    omega (arith, id-words-length (three ++ c .relinked), length-append three (c .relinked), length-append two (c .removed), length-append (c .added) (c .updated))
 
 -- the four lists from the start of a slice are what it is lent for
-list-lent : (c : Changes) (slice after : List ℕ) (r : ℕ) → ListWritten (c .added ++ c .updated ++ c .removed ++ c .relinked) 0 slice after r → after ≡ lent slice c
-unfolding lent changeWords
-list-lent c slice after r h =
+list-slice-after : (c : Changes) (slice after : List ℕ) (r : ℕ) → ListWritten (c .added ++ c .updated ++ c .removed ++ c .relinked) 0 slice after r → after ≡ sliceAfter slice c
+unfolding sliceAfter changeWords
+list-slice-after c slice after r h =
     let all = c .added ++ c .updated ++ c .removed ++ c .relinked in
-    let long : 0 + 2 * length all ≡ length (words all) = omega (arith, length-words all) in
-    h .slice-is ∙ ap (λ (n : ℕ). words all ++ drop n slice) long
+    let long : 0 + 2 * length all ≡ length (idWords all) = omega (arith, id-words-length all) in
+    h .slice-is ∙ ap (λ (n : ℕ). idWords all ++ drop n slice) long
 
 module _ (c : Changes) (slice : List ℕ) (l : Lists) (added-is : l .added ≡ length (c .added)) (updated-is : l .updated ≡ length (c .updated))
     (removed-is : l .removed ≡ length (c .removed)) (relinked-is : l .relinked ≡ length (c .relinked))
@@ -291,13 +279,13 @@ module _ (c : Changes) (slice : List ℕ) (l : Lists) (added-is : l .added ≡ l
         removed-is = removed-is;
         relinked-is = relinked-is;
         fit-is = e ∙ sym (ap not (lt-ltb (length slice) (length (changeWords c)) (omega (arith, lists-length c))));
-        slice-is = sym (ap (λ (t : Bool). if t then lent slice c else slice) e);
+        slice-is = sym (ap (λ (t : Bool). if t then sliceAfter slice c else slice) e);
       }
 
   -- with room each list is written after the one before
-  pub lists-lent : l .fit ≡ true → (x y z w : List ℕ) (i j k m : ℕ) → ListWritten (c .added) 0 slice x i → ListWritten (c .updated) i x y j
+  pub lists-slice-after : l .fit ≡ true → (x y z w : List ℕ) (i j k m : ℕ) → ListWritten (c .added) 0 slice x i → ListWritten (c .updated) i x y j
       → ListWritten (c .removed) j y z k → ListWritten (c .relinked) k z w m → ListsWritten c slice w l
-  lists-lent e x y z w i j k m wx wy wz ww =
+  lists-slice-after e x y z w i j k m wx wy wz ww =
       let room = leb-true (2 * (l .added + l .updated + l .removed + l .relinked)) (length slice) (sym told ∙ e) in
       let two = list-then (c .added) (c .updated) slice x y i j wx wy in
       let three = list-then (c .added ++ c .updated) (c .removed) slice y z j k two wz in
@@ -308,5 +296,5 @@ module _ (c : Changes) (slice : List ℕ) (l : Lists) (added-is : l .added ≡ l
         removed-is = removed-is;
         relinked-is = relinked-is;
         fit-is = e ∙ sym (ap not (le-ltb (length slice) (length (changeWords c)) (omega (arith, lists-length c))));
-        slice-is = list-lent c slice w m four ∙ sym (ap (λ (t : Bool). if t then lent slice c else slice) e);
+        slice-is = list-slice-after c slice w m four ∙ sym (ap (λ (t : Bool). if t then sliceAfter slice c else slice) e);
       }

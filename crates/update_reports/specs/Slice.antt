@@ -7,9 +7,10 @@ use lib.Dec.{ltb}
 use lib.ListN.{length, getD, take, drop}
 use Rattle.base.specs.Tests.{if_then_else_, keep}
 use Rattle.base.specs.Bytes.{bit, listOf}
+use Rattle.ids.specs.Ids.{idWords}
 use Rattle.ids.specs.declared.FullNodeId.{FullNodeId}
 use Rattle.state_array.specs.View.{idIn, slotsOf}
-use Rattle.update.specs.Reports.{Changes, words, changeWords, lent}
+use Rattle.update.specs.Reports.{Changes, changeWords, sliceAfter}
 use Rattle.update_reports.specs.declared.Lists.{Lists}
 
 -- ## Marks
@@ -46,7 +47,7 @@ pub record Room (weight : ℕ) (notes : List ℕ) (start : ℕ) (state : List �
 -- the slice with these ids written from a place on, and the place after them
 pub record ListWritten (xs : List FullNodeId) (at : ℕ) (before after : List ℕ) (r : ℕ) : Type 0 where
   pub same-length : length after ≡ length before
-  pub slice-is : after ≡ take at before ++ words xs ++ drop (at + 2 * length xs) before
+  pub slice-is : after ≡ take at before ++ idWords xs ++ drop (at + 2 * length xs) before
   pub end-is : r ≡ at + 2 * length xs
 
 -- the lengths of four lists, and the slice with the lists if it has room for them
@@ -56,4 +57,4 @@ pub record ListsWritten (c : Changes) (before after : List ℕ) (l : Lists) : Ty
   pub removed-is : l .removed ≡ length (c .removed)
   pub relinked-is : l .relinked ≡ length (c .relinked)
   pub fit-is : l .fit ≡ not (ltb (length before) (length (changeWords c)))
-  pub slice-is : after ≡ (if l .fit then lent before c else before)
+  pub slice-is : after ≡ (if l .fit then sliceAfter before c else before)

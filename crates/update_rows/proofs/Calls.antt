@@ -14,12 +14,12 @@ use Rattle.record.specs.Batch.{Batch, listedIds}
 use Rattle.record.specs.Parse.{wellFormed, parse}
 use Rattle.record.proofs.Parse.{parse-well, parse-refused}
 use Rattle.record_reader.specs.Reader.{batchIn}
-use Rattle.state.specs.State.{Forest, State}
+use Rattle.state.specs.State.{Forest, State, blank}
 use Rattle.state.specs.Sound.{sound}
 use Rattle.update.specs.Outcome.{outcome}
 use Rattle.update.specs.Reports.{changesOf, changeWords}
 use Rattle.update.specs.Numbers.{rowsBeforePass, batchNumber}
-use Rattle.update.specs.Calls.{Answer, refused, accepted, judged, updateNumber, updateBatch, update, blank, seed, withoutTreeData, startNumber, started, startBatch, start}
+use Rattle.update.specs.Calls.{Answer, refused, accepted, judged, updateNumber, updateBatch, update, seed, withoutTreeData, startNumber, started, startBatch, start}
 use Rattle.update.proofs.Calls.{update-is}
 use Rattle.update_rows.specs.Rows.{firstNumber, startRows}
 use Rattle.update_rows.proofs.Numbers.{laterRows, batch-first, batch-later, first-passed, seed-before, start-begun, start-before}
@@ -131,12 +131,12 @@ module _ (bytes : List ℕ) (host : Bool) where
   startState = record { forest = outcome o d; hostFocused = host }
 
   -- the answer, from what the bytes parse to
-  abbrev startOf : Option Batch → Answer
-  startOf p = elim p [ none ↦ refused 2 blank [] | some c ↦ startBatch c host ]
+  abbrev startAnswer : Option Batch → Answer
+  startAnswer p = elim p [ none ↦ refused 2 blank [] | some c ↦ startBatch c host ]
 
-  start-parsed : (p : Option Batch) → parse bytes ≡ p → start bytes host ≡ startOf p
+  start-parsed : (p : Option Batch) → parse bytes ≡ p → start bytes host ≡ startAnswer p
   unfolding start
-  start-parsed p q = ap startOf q
+  start-parsed p q = ap startAnswer q
 
   start-formless : wellFormed bytes ≡ false → start bytes host ≡ refused (startRows bytes) blank []
   unfolding startRows first

@@ -20,7 +20,7 @@ use Rattle.record.specs.Batch.{sameData, Listed, Batch, listedIds}
 use Rattle.base.proofs.Loops.{Passing, any-at, any-passed, Filling, filling-begins, filling-goes}
 use Rattle.update_rows.specs.Rows.{clashes}
 use Rattle.ids.specs.declared.FullNodeId.{FullNodeId}
-use Rattle.record_reader.specs.Reader.{blank, listedAt, noNode, batchIn}
+use Rattle.record_reader.specs.Reader.{noListed, listedAt, noNode, batchIn}
 use Rattle.state.specs.State.{NodeState, Forest, find, present}
 use Rattle.state_array.specs.View.{slotsOf}
 use Rattle.update.specs.Words.{here}
@@ -46,7 +46,7 @@ module _ (b : Batch) where
 
   listed-ids : listOf (length (b .nodes)) listedId ≡ listedIds (b .nodes)
   unfolding listedAt
-  listed-ids = rw (← listed-length (b .nodes)) (list-of-each noNode (listedIds (b .nodes)) listedId (λ i l. sym (listed-at (b .nodes) i blank)))
+  listed-ids = rw (← listed-length (b .nodes)) (list-of-each noNode (listedIds (b .nodes)) listedId (λ i l. sym (listed-at (b .nodes) i noListed)))
 
   -- one stands there twice
   twice-found : (h j : ℕ) → h < j → j < length (b .nodes) → sameNode (listedId h) (listedId j) ≡ true → true ≡ not (distinct sameNode (listedIds (b .nodes)))
@@ -154,9 +154,9 @@ module _ {state bytes : List ℕ} {c : Scope} {notes : List ℕ} (told : Told CO
   -- one does
   pub clashes-some : {r : Bool} → i < c .listed → r ≡ updatedAndRemoved (forest state) (asked bytes c) (listedAt (asked bytes c) i) → r ≡ true → true ≡ clashes state bytes c
   unfolding listedAt
-  clashes-some h e q = any-at _ (asked bytes c .nodes) blank (told .given .scoped .listed) h e q
+  clashes-some h e q = any-at _ (asked bytes c .nodes) noListed (told .given .scoped .listed) h e q
 
   -- none does
   pub clashes-none : Passing (λ j. updatedAndRemoved (forest state) (asked bytes c) (listedAt (asked bytes c) j)) (c .listed) i → c .listed ≤ i → false ≡ clashes state bytes c
   unfolding listedAt
-  clashes-none g h = any-passed _ (asked bytes c .nodes) blank g (told .given .scoped .listed) h
+  clashes-none g h = any-passed _ (asked bytes c .nodes) noListed g (told .given .scoped .listed) h

@@ -9,15 +9,15 @@ use lib.ListN.{length, getD, take, length-append}
 use Rattle.base.specs.Tests.{if_then_else_, isSome, _&&_, isNone, position}
 use Rattle.ids.specs.declared.NodeId.{NodeId}
 use Rattle.record.specs.Batch.{Batch, Listed, namedIds}
-use Rattle.record_reader.specs.Reader.{batchIn, blank, listedAt, fieldAt, rootOrZero}
+use Rattle.record_reader.specs.Reader.{batchIn, noListed, listedAt, fieldAt, rootOrZero}
 use Rattle.state.specs.State.{Forest, find, linkAt, TreeEntry, SubtreeState, subtreeState, subtreeFrom, subtreeOf}
 use Rattle.state.specs.Sound as sound
 use Rattle.state.proofs.Pool.{childTotal}
 use Rattle.state_array.specs.View.{view}
-use Rattle.update.specs.Words.{withTreeData, number, here, rootAfter}
+use Rattle.update.specs.Words.{withTreeData, treeNumber, here, rootAfter}
 use Rattle.update.specs.Calls.{seed, withoutTreeData}
 use Rattle.update_notes.specs.declared.Scope.{Scope}
-use Rattle.update_notes.specs.Setting.{Scoped, Kept, asked, Given}
+use Rattle.update_notes.specs.Setting.{Scoped, KeptForest, asked, Given}
 use Rattle.update_notes.specs.Says.{Told}
 use Rattle.update_notes.proofs.Kept.{kept-sound}
 use Rattle.update_rows.specs.Rows.{firstNumber, startRows}
@@ -55,8 +55,8 @@ entries-last bytes formed i e =
     let ls = batchIn bytes .nodes in
     let l : i < length ls = omega arith in
     let all : take (suc i) ls ≡ ls = rw (← add-one i, e) (take-length ls) in
-    let split : namedIds ls ≡ namedIds (take i ls) ++ getD ls i blank .body .children =
-    ap namedIds (sym all ∙ take-suc ls i blank l) ∙ named-append (take i ls) (getD ls i blank ∷ []) ∙ ap (λ xs. namedIds (take i ls) ++ xs) (append-nil _) in
+    let split : namedIds ls ≡ namedIds (take i ls) ++ getD ls i noListed .body .children =
+    ap namedIds (sym all ∙ take-suc ls i noListed l) ∙ named-append (take i ls) (getD ls i noListed ∷ []) ∙ ap (λ xs. namedIds (take i ls) ++ xs) (append-nil _) in
     rw (first-child-is bytes formed i l) (sym (ap length split ∙ length-append (namedIds (take i ls)) _))
 
 -- ## The root as a batch leaves it
@@ -101,7 +101,7 @@ module _ (s : Forest) (b : Batch) {v : Bool} (data-is : v ≡ isSome (b .root)) 
 
     -- it exists
     pub root-own : {e : Ends} → f ≡ tree.At e → some (here s b (e .root .node)) ≡ rootAfter s b
-    unfolding endsOf here number subtreeOf
+    unfolding endsOf here treeNumber subtreeOf
     root-own {e} q =
         let u : SubtreeState = record { root = e .root; focus = e .focus } in
         let at : e .root .tree .0 ≡ position sameTree (map (λ t. t .id) (s .trees)) (b .tree) =
@@ -112,8 +112,8 @@ module _ (s : Forest) (b : Batch) {v : Bool} (data-is : v ≡ isSome (b .root)) 
 
 module _ (b : Batch) (root : sameTree (b .tree) ROOT ≡ true) where
   -- ROOT's number
-  pub start-number : record { 0 = 0 } ≡ number (seed b) (withoutTreeData b)
-  unfolding number seed withoutTreeData
+  pub start-number : record { 0 = 0 } ≡ treeNumber (seed b) (withoutTreeData b)
+  unfolding treeNumber seed withoutTreeData
   start-number = rw root
 
   -- ROOT's root
@@ -146,7 +146,7 @@ asked-start s bytes c h = let b = batchIn bytes in ap (λ (t : Bool). withRoot b
 -- ## What the phases are given
 
 -- a start's forest, which has no node
-kept-seed : (b : Batch) → Kept (seed b)
+kept-seed : (b : Batch) → KeptForest (seed b)
 unfolding seed sound.ascending childTotal linkAt find
 kept-seed b = record {
   ascending = refl;

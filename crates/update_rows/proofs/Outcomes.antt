@@ -39,7 +39,7 @@ use Rattle.base.proofs.Bytes.{length-list-of, map-list-of}
 use Rattle.base.proofs.Search.{first-any, first-position}
 use Rattle.base.proofs.Lists.{any-map, first-given-some}
 use Rattle.record.specs.Batch.{graft?, Batch}
-use Rattle.update.specs.Words.{known, number, withTreeData}
+use Rattle.update.specs.Words.{known, treeNumber, withTreeData}
 use Rattle.update_notes.specs.Says.{HolderIs}
 
 -- not below is at least
@@ -75,8 +75,8 @@ module _ (state : List ℕ) (b : Batch) where
         ∙ sym (first-any (λ (e : TreeEntry). sameTree (b .tree) (e .id)) (treesOf state) (entryIn state) r search)
 
     -- and which it has or would take
-    pub number-is : record { 0 = r } ≡ number (forest state) b
-    unfolding number view entryIn
+    pub number-is : record { 0 = r } ≡ treeNumber (forest state) b
+    unfolding treeNumber view entryIn
     number-is =
         sym
         (rw (map-list-of (λ (e : TreeEntry). e .id) (treesOf state) (entryIn state))

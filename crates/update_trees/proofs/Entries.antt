@@ -27,7 +27,7 @@ use Rattle.state.specs.State.{Subtree, TreeEntry, Forest, SubtreeState, subtree
 use Rattle.state_array.specs.View.{treeIn, entryIn, treesOf, view, slotsOf}
 use Rattle.state_array.specs.Stored.{noTree, treeRow}
 use Rattle.state_lookup.proofs.Trees.{stateOf, tree-absent, tree-unborn, tree-there}
-use Rattle.update.specs.Words.{known, number, here, rootAfter}
+use Rattle.update.specs.Words.{known, treeNumber, here, rootAfter}
 use Rattle.update.specs.Gone.{gone}
 use Rattle.update.specs.Outcome.{subtreeHere, subtreeElsewhere, entryAfter, entriesAfter, newEntry, outcome}
 use Rattle.update.proofs.Sound.{length-entries-after}
@@ -46,14 +46,14 @@ use Rattle.base.proofs.Tests.{bit-is}
 
 module _ (s : Forest) (b : Batch) where
   -- a tree id is known if its number is one of the table's
-  known-number : known s b ≡ ltb (number s b .0) (length (s .trees))
-  unfolding known number
+  known-number : known s b ≡ ltb (treeNumber s b .0) (length (s .trees))
+  unfolding known treeNumber
   known-number =
       has-position sameTree (b .tree) (map (λ e. e .id) (s .trees))
       ∙ ap (ltb (position sameTree (map (λ e. e .id) (s .trees)) (b .tree))) (length-map (s .trees) (λ e. e .id))
 
   -- a known tree keeps its number, another takes the next
-  trees-length : length (outcome s b .trees) ≡ (if ltb (number s b .0) (length (s .trees)) then length (s .trees) else length (s .trees) + 1)
+  trees-length : length (outcome s b .trees) ≡ (if ltb (treeNumber s b .0) (length (s .trees)) then length (s .trees) else length (s .trees) + 1)
   unfolding outcome newEntry
   trees-length = rw (← known-number, length-append, length-entries-after s b 0 (s .trees)) (go (known s b))
     where
@@ -147,7 +147,7 @@ module _ {state bytes : List ℕ} {c : Scope} (g : Given state bytes c) where
 
   -- what a search of the table for the batch's tree answers
   number-first : First (λ k. sameTree (asked bytes c .tree) (treeIn state k .id)) (treesOf state) (c .tree .0)
-  unfolding number view entryIn asked
+  unfolding treeNumber view entryIn asked
   number-first =
       let id : ℕ → TreeId = λ k. treeIn state k .id in
       rw (g .scoped .tree, map-list-of {A = TreeEntry} {B = TreeId} (λ e. e .id) (treesOf state) (entryIn state))
@@ -179,9 +179,9 @@ module _ {state bytes : List ℕ} {c : Scope} (g : Given state bytes c) where
       go : Dec (c .tree .0 < treesOf state) → treeAfter state bytes c (c .tree .0) ≡ ownEntry b c
       go (yes h) =
           let same : treeIn state (c .tree .0) .id ≡ b .tree = sym (same-tree→≡ (b .tree) (treeIn state (c .tree .0) .id) (number-first .hit h)) in
-          let here : c .tree .0 ≡ number s b .0 = ap (λ t. t .0) (g .scoped .tree) in
+          let here : c .tree .0 ≡ treeNumber s b .0 = ap (λ t. t .0) (g .scoped .tree) in
           old-tree s b (c .tree .0) (omega (arith, table-length))
-          ∙ rw (entry-at (c .tree .0) h, eq-eqb (c .tree .0) (number s b .0) here)
+          ∙ rw (entry-at (c .tree .0) h, eq-eqb (c .tree .0) (treeNumber s b .0) here)
           ((λ z. record { id = same z; subtree = subtreeHere s b (entryIn state (c .tree .0) .subtree) }) ∙ own-entry (c .tree .0) (entryIn state (c .tree .0) .subtree) (was-known h))
       go (no h) =
           let last : c .tree .0 ≡ length (s .trees) = omega (arith, number-first .within, table-length) in
@@ -209,7 +209,7 @@ module _ {state bytes : List ℕ} {c : Scope} (g : Given state bytes c) where
     unfolding entryAfter entryIn
     other-entry =
         old-tree s b i (omega (arith, other-old, table-length))
-        ∙ rw (entry-at i other-old, ne-eqb i (number s b .0) (λ e. other (e ∙ ap (λ t. t .0) (sym (g .scoped .tree)))))
+        ∙ rw (entry-at i other-old, ne-eqb i (treeNumber s b .0) (λ e. other (e ∙ ap (λ t. t .0) (sym (g .scoped .tree)))))
 
     -- as the row of the table says it
     module _ {row : TreeRow} (row-is : row ≡ treeIn state i) where

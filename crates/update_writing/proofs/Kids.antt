@@ -16,7 +16,7 @@ use Rattle.record.specs.Batch.{NodeData}
 use Rattle.record_reader.specs.Reader.{batchIn, listedAt}
 use Rattle.state.specs.State.{NodeState}
 use Rattle.state_array.specs.Layout.{place, childPlace, FIRST-CHILD, TREE, PARENT-TREE}
-use Rattle.state_array.specs.View.{idIn, shapeIn, childrenOf, bodyIn, nodeIn}
+use Rattle.state_array.specs.View.{idIn, shapeIn, childrenIn, bodyIn, nodeIn}
 use Rattle.state_array.specs.Stored.{noNode, noState, childrenBefore, rowOf, nodeWord, entriesOf, linkRow, floatsOf, bodyOf}
 use Rattle.state_array.proofs.Entries.{entries-length, entries-within, entries-at}
 use Rattle.update_notes.specs.declared.Scope.{Scope}
@@ -24,7 +24,7 @@ use Rattle.update_notes.specs.Setting.{asked, forest, Batched}
 use Rattle.update_notes.specs.Codes.{SourceOf}
 use Rattle.update_notes.proofs.Places.{forest-length, forest-node}
 use Rattle.update_notes.proofs.Setting.{batched-at}
-use Rattle.update_writing.specs.Written.{kidWord, sourceChildren, slotChild, runWritten, childrenWritten, nodesRegions, puts, wordsPut, idWords, linkWords, bodyPut}
+use Rattle.update_writing.specs.Written.{kidWord, sourceChildren, slotChild, runWritten, childrenWritten, nodesRegions, puts, wordsPut, idPair, linkWords, bodyPut}
 use native.Mathlib.Numerals.{add-one}
 use Rattle.base.specs.Tests.{_&&_}
 use Rattle.ids.specs.declared.FullNodeId.{FullNodeId}
@@ -43,7 +43,7 @@ puts-more f r ws n s = rw add-one
 -- a node's id, link and data
 node-stored : (ns : List NodeState) (r : ℕ) → r < 320 → (s : List ℕ)
     → bodyPut r (bodyOf (getD ns r noState .body))
-    (wordsPut PARENT-TREE r (linkWords (linkRow (getD ns r noState .parentAndIndex))) (wordsPut TREE r (idWords (getD ns r noState .id)) (fills (nodesRegions ns) r s)))
+    (wordsPut PARENT-TREE r (linkWords (linkRow (getD ns r noState .parentAndIndex))) (wordsPut TREE r (idPair (getD ns r noState .id)) (fills (nodesRegions ns) r s)))
     ≡ fills (nodesRegions ns) (r + 1) s
 unfolding _&&_ puts nodeWord rowOf bodyOf listOf floatsOf
 node-stored ns r few s = row-stored (nodesRegions ns) 0 320 r refl few s
@@ -51,23 +51,23 @@ node-stored ns r few s = row-stored (nodesRegions ns) 0 320 r refl few s
 -- one node more, as the writer stores it
 pub node-more : (ns : List NodeState) (r : ℕ) → r < 320 → (s : List ℕ) {start ids links end : List ℕ} {x : FullNodeId} {l : LinkRow} {d : Body}
     → start ≡ fills (nodesRegions ns) r s → x ≡ getD ns r noState .id → l ≡ linkRow (getD ns r noState .parentAndIndex) → d ≡ bodyOf (getD ns r noState .body)
-    → ids ≡ wordsPut TREE r (idWords x) start → links ≡ wordsPut PARENT-TREE r (linkWords l) ids → end ≡ bodyPut r d links → end ≡ fills (nodesRegions ns) (r + 1) s
+    → ids ≡ wordsPut TREE r (idPair x) start → links ≡ wordsPut PARENT-TREE r (linkWords l) ids → end ≡ bodyPut r d links → end ≡ fills (nodesRegions ns) (r + 1) s
 node-more ns r few s begun id link body f g h = rw (h, g, f, begun, body, link, id) (node-stored ns r few s)
 
 -- ## What a source names
 
 module _ (state bytes : List ℕ) (source : ℕ) where
   -- a slot's children
-  pub slot-children : source < 320 → sourceChildren state bytes source ≡ childrenOf state (idIn state source .node) (shapeIn state source)
+  pub slot-children : source < 320 → sourceChildren state bytes source ≡ childrenIn state (idIn state source .node) (shapeIn state source)
   unfolding sourceChildren nodeIn bodyIn
   slot-children h = rw (lt-ltb source 320 h)
 
   pub slot-count : {d : ShapeRow} → source < 320 → d ≡ shapeIn state source → d .«child_count» ≡ length (sourceChildren state bytes source)
-  unfolding childrenOf
+  unfolding childrenIn
   slot-count h e = rw (e, slot-children h) (sym (length-list-of (shapeIn state source .«child_count») (λ j. record { 0 = slotChild state source j })))
 
   pub slot-child : {v j : ℕ} → source < 320 → j < length (sourceChildren state bytes source) → v ≡ slotChild state source j → v ≡ kidWord (sourceChildren state bytes source) j
-  unfolding childrenOf
+  unfolding childrenIn
   slot-child {j = j} h l e =
       e ∙ rw (slot-children h)
       (sym (ap (λ (x : NodeId). x .0) (list-of-at (shapeIn state source .«child_count») j (λ j. record { 0 = slotChild state source j }) noNode (rw (← slot-count h refl) at l))))

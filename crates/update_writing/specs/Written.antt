@@ -43,8 +43,8 @@ abbrev pub wordsPut : ℕ → ℕ → List ℕ → List ℕ → List ℕ
 wordsPut f r ws s = puts f r ws (length ws) s
 
 -- the words of an id and of a link
-abbrev pub idWords : FullNodeId → List ℕ
-idWords x = x .tree .0 ∷ x .node .0 ∷ []
+abbrev pub idPair : FullNodeId → List ℕ
+idPair x = x .tree .0 ∷ x .node .0 ∷ []
 
 abbrev pub linkWords : LinkRow → List ℕ
 linkWords l = l .parent .tree .0 ∷ l .parent .node .0 ∷ l .index ∷ l .linked ∷ []

@@ -8,7 +8,7 @@ ghost use Rattle.state_array.specs.Stored.{headWord, stored};
 ghost use Rattle.update_notes.specs.Codes.{Coded, codeId};
 ghost use Rattle.update_notes.specs.Setting.{asked, forest};
 ghost use Rattle.update_notes.specs.Says.{Told, PLANNED};
-ghost use Rattle.update_writing.specs.Written.{nodesAfter, nodesWritten, idWords, linkWords, wordsPut, bodyPut, sourceChildren, slotChild, kidWord, runWritten, childrenWritten, hostWord};
+ghost use Rattle.update_writing.specs.Written.{nodesAfter, nodesWritten, idPair, linkWords, wordsPut, bodyPut, sourceChildren, slotChild, kidWord, runWritten, childrenWritten, hostWord};
 ghost use Rattle.update_notes.specs.Says.{outcomeState};
 use ids::FullNodeId;
 use ids::NodeId;
@@ -85,7 +85,7 @@ fn id_of<'a>(
 // Stores the id of slot r.
 fn put_id(next: &mut State, r: usize, x: FullNodeId)
     requires { ⌜ r < 320 ⌝ }
-    ensures { λ _. ⌜ now (next .exit) ≡ wordsPut TREE r (idWords x) (now (next .entry)) ⌝ }
+    ensures { λ _. ⌜ now (next .exit) ≡ wordsPut TREE r (idPair x) (now (next .entry)) ⌝ }
 {
     let words = [x.tree.0 as u64, x.node.0];
     put_words(next, state_array::TREE, r, &words);

@@ -3,11 +3,12 @@ use denote.Ref.{now}
 use mathlib.Core.Path.{_≡_, sym, ap, _∙_}
 use native.Mathlib.Omega.{arith}
 use lib.ListN.{length}
+use Rattle.ids.specs.Ids.{idWords}
 use Rattle.ids.specs.declared.FullNodeId.{FullNodeId}
+use Rattle.ids.proofs.Ids.{id-words-length}
 use Rattle.state_array.specs.View.{view}
-use Rattle.questions.specs.Answers.{idWords, written}
+use Rattle.questions.specs.Answers.{written}
 use Rattle.questions.specs.Links.{childIds}
-use Rattle.questions.proofs.Answers.{id-words-length}
 use Rattle.node_asked.proofs.Asks.{asked-here}
 use Rattle.node.proofs.Answers.{of-asked, list-refused, list-short, list-written}
 use borrow.Author.Needs.{needs}

@@ -10,7 +10,7 @@ use Rattle.update_notes.specs.Layout.{GOES, CHANGED}
 use Rattle.update_reports.specs.Outcomes.{changesIn}
 use Rattle.update_reports.specs.Slice.{picked}
 use Rattle.update_reports.proofs.Picked.{picked-added, picked-updated, picked-removed, picked-relinked}
-use Rattle.update_reports.proofs.Slice.{picked-count, lists-short, lists-lent}
+use Rattle.update_reports.proofs.Slice.{picked-count, lists-short, lists-slice-after}
 use borrow.Author.Needs.{needs}
 use Rattle.update_reports.proofs.write_lists.Statement.{statement}
 use Rattle.update_reports.proofs.write_lists.Tie as tie
@@ -69,7 +69,7 @@ returns-2 c =
     let updated = picked-updated (s .pre) in
     let removed = picked-removed (s .pre) in
     let relinked = picked-relinked (s .pre) in
-    lists-lent (changesIn (now (a .state)) (now (a .batch)) (a .scope)) (now (a .changes)) _ (k .0 ∙ ap length added) (k .1 ∙ ap length updated)
+    lists-slice-after (changesIn (now (a .state)) (now (a .batch)) (a .scope)) (now (a .changes)) _ (k .0 ∙ ap length added) (k .1 ∙ ap length updated)
     (k .2 ∙ ap length removed) (k .3 ∙ ap length relinked) refl (not-false (e .if1 .left)) _ _ _ _ _ _ _ _ (rw added at (one .write-list .ensures))
     (rw updated at (two .write-list2 .ensures)) (rw removed at (three .write-list3 .ensures)) (rw relinked at (four .write-list4 .ensures))
 
