@@ -25,7 +25,7 @@ use Rattle.update.specs.Words.{treeNumber, withTreeData}
 use Rattle.update.specs.Outcome.{outcome}
 use Rattle.update.specs.Reports.{removed, added, noChanges, changesWith, changesOf}
 use Rattle.update.specs.Numbers.{batchNumber}
-use Rattle.update.specs.Calls.{Answer, refused, accepted, judged, updateNumber, updateBatch, update, withHostFocus, hostFocus}
+use Rattle.update.specs.Calls.{Answer, refused, accepted, judged, batchRows, updateNumber, updateBatch, update, withHostFocus, hostFocus}
 use Rattle.update.proofs.Sound.{Passed, passed, outcome-sound}
 use Rattle.update.proofs.Reports.{has-added, has-removed}
 use Rattle.update.proofs.Calls.{updateOf, update-is}
@@ -104,16 +104,17 @@ Leaves k c a = Held (a .state .forest) (entered k c (a .number) (a .changes .rem
 
 leaves-batch : (s : State) (k : Book) (bytes slice : List ℕ) (b : Batch) → parse bytes ≡ some b → Held (s .forest) k
     → Leaves k (batch bytes slice) (updateBatch s b slice)
-unfolding updateBatch updateNumber judged accepted refused changesOf changesWith entered
-leaves-batch s k bytes slice b e i = go (updateNumber s b slice) refl
+unfolding updateBatch updateNumber batchRows judged accepted refused changesOf changesWith entered
+leaves-batch s k bytes slice b e i = go (updateNumber s (some b) slice) refl
   where
     after : State
     after = record { forest = outcome (s .forest) b; hostFocused = s .hostFocused }
 
-    go : (n : ℕ) → updateNumber s b slice ≡ n → Leaves k (batch bytes slice) (judged n s slice (accepted s after (changesOf (s .forest) b) slice))
+    go : (n : ℕ) → updateNumber s (some b) slice ≡ n → Leaves k (batch bytes slice) (judged n s slice (accepted s after (changesOf (s .forest) b) slice))
     go zero q =
         let after1 = first-zero _ _ (λ z _. omega arith) q in
-        let after20 = first-found-zero _ _ (after1 .1) in
+        let after2 = first-zero _ _ (λ z _. omega arith) (after1 .1) in
+        let after20 = first-found-zero _ _ (after2 .1) in
         subst (λ (c : Book). Held (outcome (s .forest) b) c) (sym (entered-parsed k bytes slice b (removed (s .forest) (outcome (s .forest) b)) e))
         (held-batch (s .forest) b k i (batch-facts bytes b e .fields) (after20 .0))
     go (suc n) q = i
@@ -175,7 +176,7 @@ counted-accepted s b slice s′ q = record {
 pub accepted-update : (s : State) (bytes slice : List ℕ) (P : Answer → Type 0)
     → ((b : Batch) → P (accepted s (record { forest = outcome (s .forest) b; hostFocused = s .hostFocused }) (changesOf (s .forest) b) slice))
     → update s bytes slice .number ≡ 0 → P (update s bytes slice)
-unfolding updateBatch judged refused first
+unfolding updateBatch updateNumber judged refused first
 accepted-update s bytes slice P holds = go (parse bytes) refl
   where
     refusal : (c : Bool) → _≡_ {A = ℕ} (if not c then 1 else 2) 0 → P (updateOf s slice none)
@@ -188,7 +189,7 @@ accepted-update s bytes slice P holds = go (parse bytes) refl
 
     by : (o : Option Batch) → updateOf s slice o .number ≡ 0 → P (updateOf s slice o)
     by none e = refusal (sound (s .forest)) e
-    by (some b) e = judging (updateNumber s b slice) _ (holds b) e
+    by (some b) e = judging (updateNumber s (some b) slice) _ (holds b) e
 
     go : (o : Option Batch) → parse bytes ≡ o → update s bytes slice .number ≡ 0 → P (update s bytes slice)
     go o e = subst (λ (a : Answer). a .number ≡ 0 → P a) (sym (update-is s bytes slice o e)) (by o)

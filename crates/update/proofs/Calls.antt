@@ -1,6 +1,6 @@
 -- Laws of the calls: what the bytes decide, the lent slice, tree numbers, the blank state. Assumes nothing.
 use Rattle.update.proofs.Sound.{first-row, first-found}
-use mathlib.Core.Bool.{true, false, not}
+use mathlib.Core.Bool.{false}
 use mathlib.Core.List.{List, [], _∷_, _++_, map}
 use mathlib.Core.Option.{Option, none, some}
 use mathlib.Core.Path.{_≡_, refl, ap}
@@ -8,7 +8,6 @@ use Prim.Native.Nat.{ℕ, zero, suc}
 use lib.ListN.{length}
 use borrow.Author.Tests.{ltb-false}
 use Rattle.base.specs.Tests.{_&&_}
-use Rattle.base.specs.Tables.{row, first}
 use Rattle.ids.specs.declared.TreeId.{TreeId}
 use Rattle.record.specs.Batch.{Batch}
 use Rattle.record.specs.Parse.{parse}
@@ -17,7 +16,7 @@ use Rattle.state.specs.Down.{rootOf, wayDown}
 use Rattle.state.specs.Sound.{soundLinks, graftsDiffer, rootFirst, soundTrees, soundShape, sound}
 use Rattle.update.specs.Outcome.{entryAfter, entriesAfter, newEntry, outcome}
 use Rattle.update.specs.Reports.{changesOf, changeWords}
-use Rattle.update.specs.Calls.{Answer, refused, accepted, judged, updateNumber, updateBatch, update}
+use Rattle.update.specs.Calls.{Answer, refused, accepted, judged, batchRows, updateNumber, updateBatch, update}
 use Rattle.update.proofs.Reports.{length-slice-after}
 
 -- ## What the bytes decide
@@ -26,7 +25,7 @@ use Rattle.update.proofs.Reports.{length-slice-after}
 abbrev pub updateOf : State → List ℕ → Option Batch → Answer
 updateOf s slice o =
     elim o [
-      | none ↦ refused (first (row 1 (not (sound (s .forest))) ∷ row 2 true ∷ [])) s slice
+      | none ↦ refused (updateNumber s none slice) s slice
       | some b ↦ updateBatch s b slice
     ]
 
@@ -37,22 +36,22 @@ update-is s bytes slice o e = ap (updateOf s slice) e
 -- ## The lent slice keeps its length, whatever the call
 
 pub update-keeps-length : (s : State) (bytes slice : List ℕ) → length (update s bytes slice .slice) ≡ length slice
-unfolding update updateBatch updateNumber judged refused accepted
+unfolding update updateBatch updateNumber batchRows judged refused accepted
 update-keeps-length s bytes slice = go (parse bytes)
   where
     after : Batch → State
     after b = record { forest = outcome (s .forest) b; hostFocused = s .hostFocused }
 
-    on : (b : Batch) (n : ℕ) → updateNumber s b slice ≡ n
+    on : (b : Batch) (n : ℕ) → updateNumber s (some b) slice ≡ n
         → length (judged n s slice (accepted s (after b) (changesOf (s .forest) b) slice) .slice) ≡ length slice
     on b zero e =
         let z = simp (first-row, first-found) at e in
-        length-slice-after slice (changesOf (s .forest) b) (ltb-false (length slice) (length (changeWords (changesOf (s .forest) b))) (z .1 .1 .0))
+        length-slice-after slice (changesOf (s .forest) b) (ltb-false (length slice) (length (changeWords (changesOf (s .forest) b))) (z .1 .1 .1 .0))
     on b (suc n) e = refl
 
     go : (o : Option Batch) → length (updateOf s slice o .slice) ≡ length slice
     go none = refl
-    go (some b) = on b (updateNumber s b slice) refl
+    go (some b) = on b (updateNumber s (some b) slice) refl
 
 -- ## Tree numbers are kept for good: a batch at most takes the next one
 

@@ -22,7 +22,7 @@ use Rattle.update.specs.Gone.{goesIf, fares, replaced, fateHere, fateEls
 use Rattle.update.specs.Outcome.{renewed, write, writeAll, underGraft, written, paneRoot, cutLasts, linkIsCut, linkHere, linkElsewhere, linkAfter, relink, subtreeHere, subtreeElsewhere, entryAfter, entriesAfter, newEntry, outcome}
 use Rattle.update.specs.Reports.{noChanges, added, removed, isUpdated, updated, isRelinked, relinked, changesWith, changesOf, lengthsOf, changeWords, sliceAfter, unlessIn, focusMoved, extraBefore, extraAfter}
 use Rattle.update.specs.Numbers.{absent, placeless, nowhere, updatedAndRemoved, rowsBeforePass, rowsAfterPass, batchNumber}
-use Rattle.update.specs.Calls.{Answer, refused, accepted, judged, updateNumber, updateBatch, update, seed, withoutTreeData, startNumber, started, startBatch, start, withHostFocus, hostFocus}
+use Rattle.update.specs.Calls.{Answer, refused, accepted, judged, batchRows, updateNumber, updateBatch, update, seed, withoutTreeData, startNumber, started, startBatch, start, withHostFocus, hostFocus}
 use Rattle.update.specs.ExampleCalls.{Case}
 use Rattle.update.specs.Cases.{startAccepted, childTwice, childDropped, focusDropped, childNowhere, nodeAlone, changedThenDropped, droppedThenChanged, graftWithChild, graftMade, paneStarted, paneWithoutTreeData, graftTwice, focusOnEmptyGraft, graftMoved, childOfItself, cases, caseNumbers}
 use Rattle.update.specs.Traps.{newRootUnderOldParent, newRootOfPane, newRootDropped, unchangedThenDropped, droppedThenUnchanged, graftGoesAndClaimed, graftKeptAndClaimed, rootGraftNeverPlaced, graftWithChildTwice, secondGraftPlacedFirst, rootGraftPlacedFirst, childNowhereAndGraftHeld, graftHeld, graftReleasedByGone, graftLetGo, graftUnchanged, nestedTreeMoved, newRootBelow, newRootNamedThenListed, newRootListedThenNamed, rootsInCircle, childrenSwapped, namedByTwo, paneRootKeepsLink, paneRootMarked, signOfZero, focusMovesOn, activeDescendantIsGraft, hostLeaves, treeWithoutGraft, listedTwice, sliceTooShort, stateUnsound, recordBroken, startBroken, startWithoutTreeData, startOfPane, traps}
@@ -36,7 +36,7 @@ AllRight (c ∷ cs) = Right c × AllRight cs
 
 -- `unfolding computed` unfolds every definition
 computed : Unit {0}
-unfolding ofBits toBits eq _&&_ first littleEndian le bytesOf allBelow zeros listOf sumOf zeroBytes sameValue sameTree sameIndex sameNode sameId before rectTest affineTest sameRect sameAffine activeDescendant? graft? bounds? transform? fieldsOk sameData listedIds namedIds headerOk childrenBefore labelsBefore recordOk wellFormed parse recordBytes recordsBytes entryBytes labels headerBytes encode sameLink find present graftAt linkAt parentAt holder subtreeState subtreeFrom subtreeOf metUnder childrenMet below belowId down rootOf wayDown climb throughGrafts effectiveFocus orActiveDescendant stateFocus metOnce recorded graftIsBare soundLinks graftsDiffer grafted allGrafted rootFirst oneIdEach soundTrees ascending wayEnds soundShape focusPresent sound listing known treeNumber here mine old listed turn naming named withTreeData rootAfter isRoot claim claimer claimedFrom letsGo placedAtTurn namings events fault pass goesIf fares replaced fateHere fateElsewhere fate goneWithin gone renewed write writeAll underGraft written paneRoot cutLasts linkIsCut linkHere linkElsewhere linkAfter relink subtreeHere subtreeElsewhere entryAfter entriesAfter newEntry outcome noChanges idsOf added removed isUpdated updated isRelinked relinked changesWith changesOf lengthsOf idWords changeWords sliceAfter unlessIn focusMoved extraBefore extraAfter absent placeless nowhere updatedAndRemoved rowsBeforePass rowsAfterPass batchNumber refused accepted judged updateNumber updateBatch update blank seed withoutTreeData startNumber started startBatch start withHostFocus hostFocus
+unfolding ofBits toBits eq _&&_ first littleEndian le bytesOf allBelow zeros listOf sumOf zeroBytes sameValue sameTree sameIndex sameNode sameId before rectTest affineTest sameRect sameAffine activeDescendant? graft? bounds? transform? fieldsOk sameData listedIds namedIds headerOk childrenBefore labelsBefore recordOk wellFormed parse recordBytes recordsBytes entryBytes labels headerBytes encode sameLink find present graftAt linkAt parentAt holder subtreeState subtreeFrom subtreeOf metUnder childrenMet below belowId down rootOf wayDown climb throughGrafts effectiveFocus orActiveDescendant stateFocus metOnce recorded graftIsBare soundLinks graftsDiffer grafted allGrafted rootFirst oneIdEach soundTrees ascending wayEnds soundShape focusPresent sound listing known treeNumber here mine old listed turn naming named withTreeData rootAfter isRoot claim claimer claimedFrom letsGo placedAtTurn namings events fault pass goesIf fares replaced fateHere fateElsewhere fate goneWithin gone renewed write writeAll underGraft written paneRoot cutLasts linkIsCut linkHere linkElsewhere linkAfter relink subtreeHere subtreeElsewhere entryAfter entriesAfter newEntry outcome noChanges idsOf added removed isUpdated updated isRelinked relinked changesWith changesOf lengthsOf idWords changeWords sliceAfter unlessIn focusMoved extraBefore extraAfter absent placeless nowhere updatedAndRemoved rowsBeforePass rowsAfterPass batchNumber refused accepted judged batchRows updateNumber updateBatch update blank seed withoutTreeData startNumber started startBatch start withHostFocus hostFocus
 computed = tt
 
 start-accepted : Right startAccepted

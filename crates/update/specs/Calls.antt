@@ -1,13 +1,13 @@
 -- What a start, a batch and a host focus change answer: the number, the state and every other part. Document 01, modules 3 to 5.
 -- Assumes nothing.
-use mathlib.Core.Bool.{Bool, true, not}
+use mathlib.Core.Bool.{Bool, not}
 use mathlib.Core.List.{List, [], _∷_}
 use mathlib.Core.Option.{Option, none, some}
 use Prim.Native.Nat.{ℕ, zero, suc}
 use lib.Dec.{ltb}
 use lib.ListN.{length}
 use Rattle.base.specs.Tests.{if_then_else_, isNone}
-use Rattle.base.specs.Tables.{row, found, first}
+use Rattle.base.specs.Tables.{Row, row, found, first}
 use Rattle.ids.specs.Ids.{ROOT, sameTree}
 use Rattle.ids.specs.declared.FullNodeId.{FullNodeId}
 use Rattle.record.specs.Batch.{Batch}
@@ -68,27 +68,33 @@ judged (suc k) s slice a = refused (suc k) s slice
 
 -- ## A batch
 
--- 1, then 5 to 20, then 21: `slice` is what the caller lends for the lists
-unfoldable pub updateNumber : State → Batch → List ℕ → ℕ
-updateNumber s b slice =
+-- 5 to 20, then 21: `slice` is what the caller lends for the lists
+unfoldable pub batchRows : State → Batch → List ℕ → List Row
+batchRows s b slice =
+    found (batchNumber (s .forest) b)
+    ∷ row 21 (ltb (length slice) (length (changeWords (changesOf (s .forest) b))))
+    ∷ []
+
+-- the table of a batch, 1, 2 and 5 to 21: `parsed` is what its bytes stand for, none where they are no record
+unfoldable pub updateNumber : State → Option Batch → List ℕ → ℕ
+updateNumber s parsed slice =
     first
     (row 1 (not (sound (s .forest)))
-    ∷ found (batchNumber (s .forest) b)
-    ∷ row 21 (ltb (length slice) (length (changeWords (changesOf (s .forest) b))))
-    ∷ [])
+    ∷ row 2 (isNone parsed)
+    ∷ elim parsed [ none ↦ [] | some b ↦ batchRows s b slice ])
 
 -- a batch whose record is well formed
 unfoldable pub updateBatch : State → Batch → List ℕ → Answer
 updateBatch s b slice =
     let s′ : State = record { forest = outcome (s .forest) b; hostFocused = s .hostFocused } in
     let a : Answer = accepted s s′ (changesOf (s .forest) b) slice in
-    judged (updateNumber s b slice) s slice a
+    judged (updateNumber s (some b) slice) s slice a
 
--- any bytes: 2 where they are no record, and 1 before it
+-- any bytes
 unfoldable pub update : State → List ℕ → List ℕ → Answer
 update s bytes slice =
     elim (parse bytes) [
-      | none ↦ refused (first (row 1 (not (sound (s .forest))) ∷ row 2 true ∷ [])) s slice
+      | none ↦ refused (updateNumber s none slice) s slice
       | some b ↦ updateBatch s b slice
     ]
 

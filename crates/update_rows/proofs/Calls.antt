@@ -19,7 +19,7 @@ use Rattle.state.specs.Sound.{sound}
 use Rattle.update.specs.Outcome.{outcome}
 use Rattle.update.specs.Reports.{changesOf, changeWords}
 use Rattle.update.specs.Numbers.{rowsBeforePass, batchNumber}
-use Rattle.update.specs.Calls.{Answer, refused, accepted, judged, updateNumber, updateBatch, update, seed, withoutTreeData, startNumber, started, startBatch, start}
+use Rattle.update.specs.Calls.{Answer, refused, accepted, judged, batchRows, updateNumber, updateBatch, update, seed, withoutTreeData, startNumber, started, startBatch, start}
 use Rattle.update.proofs.Calls.{update-is}
 use Rattle.update_rows.specs.Rows.{firstNumber, startRows}
 use Rattle.update_rows.proofs.Numbers.{laterRows, batch-first, batch-later, first-passed, seed-before, start-begun, start-before}
@@ -48,17 +48,17 @@ module _ (s : State) (bytes slice : List ℕ) where
   tooShort = ltb (length slice) (length (changeWords (changesOf f b)))
 
   formless : wellFormed bytes ≡ false → update s bytes slice ≡ refused (firstNumber f bytes) s slice
-  unfolding firstNumber first
+  unfolding firstNumber updateNumber first
   formless w = update-is s bytes slice none (parse-refused bytes w) ∙ rw w
 
   module _ (w : wellFormed bytes ≡ true) where
-    by-number : (k : ℕ) → updateNumber s b slice ≡ k → update s bytes slice ≡ judged k s slice (accepted s updateState (changesOf f b) slice)
+    by-number : (k : ℕ) → updateNumber s (some b) slice ≡ k → update s bytes slice ≡ judged k s slice (accepted s updateState (changesOf f b) slice)
     unfolding updateBatch batchIn
     by-number k q =
         update-is s bytes slice (some (batchIn bytes)) (parse-well bytes w)
         ∙ ap (λ (n : ℕ). judged n s slice (accepted s updateState (changesOf f b) slice)) q
 
-    by-refusal : (k : ℕ) → updateNumber s b slice ≡ k → (k ≡ 0 → ⊥) → update s bytes slice ≡ refused k s slice
+    by-refusal : (k : ℕ) → updateNumber s (some b) slice ≡ k → (k ≡ 0 → ⊥) → update s bytes slice ≡ refused k s slice
     by-refusal k q h = by-number k q ∙ judged-refused k s slice _ h
 
     module _ (e : sound f ≡ true) where
@@ -66,13 +66,13 @@ module _ (s : State) (bytes slice : List ℕ) where
       unfolding firstNumber first
       well-first = rw (e, w)
 
-      well-number : updateNumber s b slice ≡ first (found (batchNumber f b) ∷ row 21 tooShort ∷ [])
-      unfolding updateNumber first
+      well-number : updateNumber s (some b) slice ≡ first (found (batchNumber f b) ∷ row 21 tooShort ∷ [])
+      unfolding updateNumber batchRows first
       well-number = rw e
 
     -- rows 1 and 5 to 8
-    early-number : (firstNumber f bytes ≡ 0 → ⊥) → (t : Bool) → sound f ≡ t → updateNumber s b slice ≡ firstNumber f bytes
-    unfolding firstNumber updateNumber first
+    early-number : (firstNumber f bytes ≡ 0 → ⊥) → (t : Bool) → sound f ≡ t → updateNumber s (some b) slice ≡ firstNumber f bytes
+    unfolding firstNumber updateNumber batchRows first
     early-number h false e = rw e
     early-number h true e =
         let number = batch-first f b (λ z. h (well-first e ∙ z)) in
@@ -90,7 +90,7 @@ module _ (s : State) (bytes slice : List ℕ) where
     batch-is : batchNumber f b ≡ laterRows f b
     batch-is = batch-later f b (first-passed f bytes none .before)
 
-    number-is : updateNumber s b slice ≡ first (found (laterRows f b) ∷ row 21 tooShort ∷ [])
+    number-is : updateNumber s (some b) slice ≡ first (found (laterRows f b) ∷ row 21 tooShort ∷ [])
     number-is =
         let p = first-passed f bytes none in
         well-number (p .formed) (p .is-sound) ∙ ap (λ (n : ℕ). first (found n ∷ row 21 tooShort ∷ [])) batch-is
@@ -100,7 +100,7 @@ module _ (s : State) (bytes slice : List ℕ) where
     update-later h = by-refusal (first-passed f bytes none .formed) (laterRows f b) (number-is ∙ found-counts (laterRows f b) (row 21 tooShort ∷ []) h) h
 
     module _ (clear : laterRows f b ≡ 0) where
-      last-number : (t : Bool) → tooShort ≡ t → updateNumber s b slice ≡ first (row 21 t ∷ [])
+      last-number : (t : Bool) → tooShort ≡ t → updateNumber s (some b) slice ≡ first (row 21 t ∷ [])
       last-number t q = number-is ∙ found-passes (laterRows f b) (row 21 tooShort ∷ []) clear ∙ ap (λ (c : Bool). first (row 21 c ∷ [])) q
 
       -- row 21
