@@ -25,7 +25,10 @@ use Rattle.update.specs.Numbers.{absent, placeless, nowhere, updatedAndR
 use Rattle.update.specs.Calls.{Answer, refused, accepted, judged, batchRows, updateNumber, updateBatch, update, seed, withoutTreeData, startNumber, started, startBatch, start, withHostFocus, hostFocus}
 use Rattle.update.specs.ExampleCalls.{Case}
 use Rattle.update.specs.Cases.{startAccepted, childTwice, childDropped, focusDropped, childNowhere, nodeAlone, changedThenDropped, droppedThenChanged, graftWithChild, graftMade, paneStarted, paneWithoutTreeData, graftTwice, focusOnEmptyGraft, graftMoved, childOfItself, cases, caseNumbers}
-use Rattle.update.specs.Traps.{newRootUnderOldParent, newRootOfPane, newRootDropped, unchangedThenDropped, droppedThenUnchanged, graftGoesAndClaimed, graftKeptAndClaimed, rootGraftNeverPlaced, graftWithChildTwice, secondGraftPlacedFirst, rootGraftPlacedFirst, childNowhereAndGraftHeld, graftHeld, graftReleasedByGone, graftLetGo, graftUnchanged, nestedTreeMoved, newRootBelow, newRootNamedThenListed, newRootListedThenNamed, rootsInCircle, childrenSwapped, namedByTwo, paneRootKeepsLink, paneRootMarked, signOfZero, focusMovesOn, activeDescendantIsGraft, hostLeaves, treeWithoutGraft, listedTwice, sliceTooShort, stateUnsound, recordBroken, startBroken, startWithoutTreeData, startOfPane, traps}
+use Rattle.update.specs.Traps.{newRootUnderOldParent, newRootOfPane, newRootDropped, unchangedThenDropped, droppedThenUnchanged, newRootBelow, newRootNamedThenListed, newRootListedThenNamed, rootsInCircle, childrenSwapped, namedByTwo, paneRootKeepsLink, paneRootMarked, signOfZero, traps}
+use Rattle.update.specs.GraftCases.{graftGoesAndClaimed, graftKeptAndClaimed, rootGraftNeverPlaced, graftWithChildTwice, secondGraftPlacedFirst, rootGraftPlacedFirst, childNowhereAndGraftHeld, graftHeld, graftReleasedByGone, graftLetGo, graftUnchanged, treeLetGo, otherTreeGiven, treeGraftedAgain, treeGivenAgain, nestedTreeMoved, graftCases}
+use Rattle.update.specs.FocusCases.{focusMovesOn, activeDescendantIsGraft, hostLeaves, focusCases}
+use Rattle.update.specs.RowCases.{treeWithoutGraft, listedTwice, sliceTooShort, stateUnsound, recordBroken, startBroken, startWithoutTreeData, startOfPane, rowCases}
 
 abbrev pub Right : Case → Type 0
 Right c = c .got ≡ c .says
@@ -123,6 +126,42 @@ dropped-then-unchanged : Right droppedThenUnchanged
 unfolding computed droppedThenUnchanged
 dropped-then-unchanged = refl
 
+new-root-below : Right newRootBelow
+unfolding computed newRootBelow
+new-root-below = refl
+
+new-root-named-then-listed : Right newRootNamedThenListed
+unfolding computed newRootNamedThenListed
+new-root-named-then-listed = refl
+
+new-root-listed-then-named : Right newRootListedThenNamed
+unfolding computed newRootListedThenNamed
+new-root-listed-then-named = refl
+
+roots-in-circle : Right rootsInCircle
+unfolding computed rootsInCircle
+roots-in-circle = refl
+
+children-swapped : Right childrenSwapped
+unfolding computed childrenSwapped
+children-swapped = refl
+
+named-by-two : Right namedByTwo
+unfolding computed namedByTwo
+named-by-two = refl
+
+pane-root-keeps-link : Right paneRootKeepsLink
+unfolding computed paneRootKeepsLink
+pane-root-keeps-link = refl
+
+pane-root-marked : Right paneRootMarked
+unfolding computed paneRootMarked
+pane-root-marked = refl
+
+sign-of-zero : Right signOfZero
+unfolding computed signOfZero
+sign-of-zero = refl
+
 graft-goes-and-claimed : Right graftGoesAndClaimed
 unfolding computed graftGoesAndClaimed
 graft-goes-and-claimed = refl
@@ -167,45 +206,25 @@ graft-unchanged : Right graftUnchanged
 unfolding computed graftUnchanged
 graft-unchanged = refl
 
+tree-let-go : Right treeLetGo
+unfolding computed treeLetGo
+tree-let-go = refl
+
+other-tree-given : Right otherTreeGiven
+unfolding computed otherTreeGiven
+other-tree-given = refl
+
+tree-grafted-again : Right treeGraftedAgain
+unfolding computed treeGraftedAgain
+tree-grafted-again = refl
+
+tree-given-again : Right treeGivenAgain
+unfolding computed treeGivenAgain
+tree-given-again = refl
+
 nested-tree-moved : Right nestedTreeMoved
 unfolding computed nestedTreeMoved
 nested-tree-moved = refl
-
-new-root-below : Right newRootBelow
-unfolding computed newRootBelow
-new-root-below = refl
-
-new-root-named-then-listed : Right newRootNamedThenListed
-unfolding computed newRootNamedThenListed
-new-root-named-then-listed = refl
-
-new-root-listed-then-named : Right newRootListedThenNamed
-unfolding computed newRootListedThenNamed
-new-root-listed-then-named = refl
-
-roots-in-circle : Right rootsInCircle
-unfolding computed rootsInCircle
-roots-in-circle = refl
-
-children-swapped : Right childrenSwapped
-unfolding computed childrenSwapped
-children-swapped = refl
-
-named-by-two : Right namedByTwo
-unfolding computed namedByTwo
-named-by-two = refl
-
-pane-root-keeps-link : Right paneRootKeepsLink
-unfolding computed paneRootKeepsLink
-pane-root-keeps-link = refl
-
-pane-root-marked : Right paneRootMarked
-unfolding computed paneRootMarked
-pane-root-marked = refl
-
-sign-of-zero : Right signOfZero
-unfolding computed signOfZero
-sign-of-zero = refl
 
 focus-moves-on : Right focusMovesOn
 unfolding computed focusMovesOn
@@ -251,10 +270,10 @@ start-of-pane : Right startOfPane
 unfolding computed startOfPane
 start-of-pane = refl
 
--- cases 1 to 14, and the traps
-pub the-cases : AllRight (cases ++ traps)
+-- cases 1 to 14, and more: traps, grafts, the focus, the rows
+pub the-cases : AllRight (cases ++ (traps ++ graftCases ++ focusCases ++ rowCases))
 the-cases =
-    (start-accepted, (child-twice, (child-dropped, (focus-dropped, (child-nowhere, (node-alone, (changed-then-dropped, (dropped-then-changed, (graft-with-child, (graft-made, (pane-started, (pane-without-tree-data, (graft-twice, (focus-on-empty-graft, (graft-moved, (child-of-itself, (new-root-under-old-parent, (new-root-of-pane, (new-root-dropped, (unchanged-then-dropped, (dropped-then-unchanged, (graft-goes-and-claimed, (graft-kept-and-claimed, (root-graft-never-placed, (graft-with-child-twice, (second-graft-placed-first, (root-graft-placed-first, (child-nowhere-and-graft-held, (graft-held, (graft-released-by-gone, (graft-let-go, (graft-unchanged, (nested-tree-moved, (new-root-below, (new-root-named-then-listed, (new-root-listed-then-named, (roots-in-circle, (children-swapped, (named-by-two, (pane-root-keeps-link, (pane-root-marked, (sign-of-zero, (focus-moves-on, (active-descendant-is-graft, (host-leaves, (tree-without-graft, (listed-twice, (slice-too-short, (state-unsound, (record-broken, (start-broken, (start-without-tree-data, (start-of-pane, tt)))))))))))))))))))))))))))))))))))))))))))))))))))))
+    (start-accepted, (child-twice, (child-dropped, (focus-dropped, (child-nowhere, (node-alone, (changed-then-dropped, (dropped-then-changed, (graft-with-child, (graft-made, (pane-started, (pane-without-tree-data, (graft-twice, (focus-on-empty-graft, (graft-moved, (child-of-itself, (new-root-under-old-parent, (new-root-of-pane, (new-root-dropped, (unchanged-then-dropped, (dropped-then-unchanged, (new-root-below, (new-root-named-then-listed, (new-root-listed-then-named, (roots-in-circle, (children-swapped, (named-by-two, (pane-root-keeps-link, (pane-root-marked, (sign-of-zero, (graft-goes-and-claimed, (graft-kept-and-claimed, (root-graft-never-placed, (graft-with-child-twice, (second-graft-placed-first, (root-graft-placed-first, (child-nowhere-and-graft-held, (graft-held, (graft-released-by-gone, (graft-let-go, (graft-unchanged, (tree-let-go, (other-tree-given, (tree-grafted-again, (tree-given-again, (nested-tree-moved, (focus-moves-on, (active-descendant-is-graft, (host-leaves, (tree-without-graft, (listed-twice, (slice-too-short, (state-unsound, (record-broken, (start-broken, (start-without-tree-data, (start-of-pane, tt)))))))))))))))))))))))))))))))))))))))))))))))))))))))))
 
 -- the numbers of cases 1 to 14, as they are said
 says-numbers : (cs : List Case) → AllRight cs → map (λ c. c .got .number) cs ≡ map (λ c. c .says .number) cs
@@ -270,4 +289,4 @@ first-cases (c ∷ cs) ds right = (right .0, first-cases cs ds (right .1))
 
 pub case-numbers : caseNumbers ≡ 0 ∷ 9 ∷ 0 ∷ 17 ∷ 14 ∷ 13 ∷ 18 ∷ 19 ∷ 10 ∷ 0 ∷ 0 ∷ 7 ∷ 12 ∷ 15 ∷ 0 ∷ 19 ∷ []
 unfolding computed caseNumbers startAccepted childTwice childDropped focusDropped childNowhere nodeAlone changedThenDropped droppedThenChanged graftWithChild graftMade paneStarted paneWithoutTreeData graftTwice focusOnEmptyGraft graftMoved childOfItself
-case-numbers = says-numbers cases (first-cases cases traps the-cases)
+case-numbers = says-numbers cases (first-cases cases (traps ++ graftCases ++ focusCases ++ rowCases) the-cases)

@@ -1,4 +1,4 @@
--- Document 01's cases 1 to 14. Each compares the whole answer. S is the start of case 1, T a tree id other than ROOT.
+-- Document 01's cases 1 to 14. Each compares the whole answer, and none goes through bytes. S is the start of case 1, T a tree id other than ROOT.
 -- Assumes nothing.
 use mathlib.Core.List.{List, [], _∷_, map}
 use mathlib.Core.Option.{none, some}
@@ -9,7 +9,7 @@ use Rattle.record.specs.ExampleNodes.{T, parent, leaf, labelled, grafts, graftO
 use Rattle.state.specs.ExampleStates.{id, root, under, tree, state}
 use Rattle.state.specs.State.{NodeState, TreeEntry, State}
 use Rattle.update.specs.Calls.{Answer}
-use Rattle.update.specs.ExampleCalls.{startWith, then, refuses, starts, accepts, changes, Case, _gives_}
+use Rattle.update.specs.ExampleCalls.{startWith, then, refuses, starts, accepts, Case, _gives_}
 
 -- root 1 with children 2 and 3, focus 2, host focused
 abbrev pub startS : Batch
@@ -57,7 +57,19 @@ childTwice = afterS (lists 1 (parent (2 ∷ 2 ∷ [])) ∷ []) gives
 -- 3. 1 has [2]: updated 1, removed 3
 unfoldable pub childDropped : Case
 childDropped = afterS (lists 1 (parent (2 ∷ [])) ∷ []) gives
-    accepts (state (root 0 1 (parent (2 ∷ [])) ∷ two ∷ []) (main ∷ [])) (changes [] (id 0 1 ∷ []) (id 0 3 ∷ []) []) (id 0 2) (id 0 2) none none (0 ∷ 1 ∷ 0 ∷ 3 ∷ [])
+    accepts
+    (record {
+      state = state (root 0 1 (parent (2 ∷ [])) ∷ two ∷ []) (main ∷ []);
+      added = [];
+      updated = id 0 1 ∷ [];
+      removed = id 0 3 ∷ [];
+      relinked = [];
+      focusBefore = id 0 2;
+      focusAfter = id 0 2;
+      extraBefore = none;
+      extraAfter = none;
+      slice = 0 ∷ 1 ∷ 0 ∷ 3 ∷ [];
+    })
 
 -- 4. the same with focus 3: 17
 unfoldable pub focusDropped : Case
@@ -91,11 +103,35 @@ graftWithChild = afterS (lists 3 (graftOver T (2 ∷ [])) ∷ []) gives
 -- 9. 3 grafts T (accepted); then T, root 1, focus 1, its node 1: adds (1, 1), focus still (0, 2)
 unfoldable pub graftMade : Case
 graftMade = afterS (lists 3 (grafts T) ∷ []) gives
-    accepts withGraft (changes [] (id 0 3 ∷ []) [] []) (id 0 2) (id 0 2) none none (0 ∷ 3 ∷ [])
+    accepts
+    (record {
+      state = withGraft;
+      added = [];
+      updated = id 0 3 ∷ [];
+      removed = [];
+      relinked = [];
+      focusBefore = id 0 2;
+      focusAfter = id 0 2;
+      extraBefore = none;
+      extraAfter = none;
+      slice = 0 ∷ 3 ∷ [];
+    })
 
 unfoldable pub paneStarted : Case
 paneStarted = then withGraft (batchFor T (some 1) 1 (lists 1 leaf ∷ [])) gives
-    accepts withT (changes (id 1 1 ∷ []) [] [] []) (id 0 2) (id 0 2) none none (1 ∷ 1 ∷ [])
+    accepts
+    (record {
+      state = withT;
+      added = id 1 1 ∷ [];
+      updated = [];
+      removed = [];
+      relinked = [];
+      focusBefore = id 0 2;
+      focusAfter = id 0 2;
+      extraBefore = none;
+      extraAfter = none;
+      slice = 1 ∷ 1 ∷ [];
+    })
 
 -- 10. after the first half of 9, T without tree data: 7
 unfoldable pub paneWithoutTreeData : Case
@@ -115,7 +151,19 @@ focusOnEmptyGraft = then S (batch 3 (lists 3 (grafts T) ∷ [])) gives
 -- 13. after 9, 3 plain and 2 grafts T: T stays, focus (1, 1), relinked (1, 1)
 unfoldable pub graftMoved : Case
 graftMoved = then withT (batch 2 (lists 3 leaf ∷ lists 2 (grafts T) ∷ [])) gives
-    accepts (state (one ∷ under (id 0 1) 0 (id 0 2) (grafts T) ∷ three ∷ under (id 0 2) 0 (id 1 1) leaf ∷ []) (main ∷ tree T 1 1 ∷ [])) (changes [] (id 0 2 ∷ id 0 3 ∷ id 1 1 ∷ []) [] (id 1 1 ∷ [])) (id 0 2) (id 1 1) none none (0 ∷ 2 ∷ 0 ∷ 3 ∷ 1 ∷ 1 ∷ 1 ∷ 1 ∷ [])
+    accepts
+    (record {
+      state = state (one ∷ under (id 0 1) 0 (id 0 2) (grafts T) ∷ three ∷ under (id 0 2) 0 (id 1 1) leaf ∷ []) (main ∷ tree T 1 1 ∷ []);
+      added = [];
+      updated = id 0 2 ∷ id 0 3 ∷ id 1 1 ∷ [];
+      removed = [];
+      relinked = id 1 1 ∷ [];
+      focusBefore = id 0 2;
+      focusAfter = id 1 1;
+      extraBefore = none;
+      extraAfter = none;
+      slice = 0 ∷ 2 ∷ 0 ∷ 3 ∷ 1 ∷ 1 ∷ 1 ∷ 1 ∷ [];
+    })
 
 -- 14. 3 has [3]: 19
 unfoldable pub childOfItself : Case

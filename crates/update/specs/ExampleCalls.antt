@@ -1,4 +1,4 @@
--- Calls and answers written short, for worked examples.
+-- Calls and answers written short, for worked examples. A call here takes a batch; one that goes through bytes says `start` or `update`.
 -- Assumes nothing.
 use mathlib.Core.Bool.{true}
 use mathlib.Core.List.{List, [], _++_}
@@ -8,7 +8,6 @@ use lib.ListN.{length, replicate}
 use Rattle.ids.specs.declared.FullNodeId.{FullNodeId}
 use Rattle.record.specs.Batch.{Batch}
 use Rattle.state.specs.State.{State}
-use Rattle.update.specs.Reports.{Changes}
 use Rattle.update.specs.Calls.{Answer, refused, updateBatch, startBatch}
 
 -- what is lent: sixteen elements; and the same with these words written to it
@@ -18,6 +17,7 @@ slice = replicate 16 99
 abbrev pub filled : List ℕ → List ℕ
 filled ws = ws ++ replicate (16 - length ws) 99
 
+-- a start with host focus, and a batch on a state, from the batch that their bytes stand for
 abbrev pub startWith : Batch → Answer
 startWith b = startBatch b true
 
@@ -42,22 +42,32 @@ starts s f = record {
   slice = [];
 }
 
--- accepted: the state, the four lists, focus before and after, the two extra ids, the words written to the slice
-abbrev pub accepts : State → Changes → FullNodeId → FullNodeId → Option FullNodeId → Option FullNodeId → List ℕ → Answer
-accepts s c before after lost got ws = record {
-  number = 0;
-  state = s;
-  changes = c;
-  lengths = record { added = length (c .added); updated = length (c .updated); removed = length (c .removed); relinked = length (c .relinked) };
-  focusBefore = some before;
-  focusAfter = some after;
-  extraBefore = lost;
-  extraAfter = got;
-  slice = filled ws;
-}
+-- what a batch that is accepted answers; `slice` has the words that are written to what is lent
+pub record Taken : Type 0 where
+  pub state : State
+  pub added : List FullNodeId
+  pub updated : List FullNodeId
+  pub removed : List FullNodeId
+  pub relinked : List FullNodeId
+  pub focusBefore : FullNodeId
+  pub focusAfter : FullNodeId
+  pub extraBefore : Option FullNodeId
+  pub extraAfter : Option FullNodeId
+  pub slice : List ℕ
 
-abbrev pub changes : List FullNodeId → List FullNodeId → List FullNodeId → List FullNodeId → Changes
-changes a u r l = record { added = a; updated = u; removed = r; relinked = l }
+-- accepted
+abbrev pub accepts : Taken → Answer
+accepts t = record {
+  number = 0;
+  state = t .state;
+  changes = record { added = t .added; updated = t .updated; removed = t .removed; relinked = t .relinked };
+  lengths = record { added = length (t .added); updated = length (t .updated); removed = length (t .removed); relinked = length (t .relinked) };
+  focusBefore = some (t .focusBefore);
+  focusAfter = some (t .focusAfter);
+  extraBefore = t .extraBefore;
+  extraAfter = t .extraAfter;
+  slice = filled (t .slice);
+}
 
 -- ## A case: what a call answers, and what it should answer
 

@@ -8,3 +8,6 @@ pub mod Calls
 pub mod ExampleCalls
 pub mod Cases
 pub mod Traps
+pub mod GraftCases
+pub mod FocusCases
+pub mod RowCases
