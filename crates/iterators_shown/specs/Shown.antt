@@ -20,12 +20,6 @@ use Rattle.iterators_steps.specs.declared.Place.{Place}
 use Rattle.filters_plain.specs.Plain.{listedFrom}
 use Rattle.filters_plain.proofs.Above.{firstIncluded, upFrom}
 
--- the node's children stand in its place
-unfoldable pub isExcludeNode : FilterResult → Bool
-isExcludeNode Include = false
-isExcludeNode ExcludeNode = true
-isExcludeNode ExcludeSubtree = false
-
 -- what is met on from a node, into it or past it
 unfoldable pub metAfter : Side → Forest → ℕ → FullNodeId → Bool → List FullNodeId
 metAfter side f level x inside = if inside then turned side (childIds f x) ++ ahead side f level x else ahead side f level x

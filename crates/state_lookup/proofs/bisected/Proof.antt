@@ -1,10 +1,10 @@
--- `state_lookup::slot_of` meets its contract: where the ids ascend, slots below `low` stand before the id, and those from `high` on do not. Assumes nothing.
+-- `state_lookup::bisected` meets its contract: where the ids ascend, slots below `low` stand before the id, and those from `high` on do not. Assumes nothing.
 use Prim.Native.Nat.{_-_}
 use borrow.Author.Needs.{needs}
 use Rattle.state_array.specs.View.{idIn}
 use Rattle.state_lookup.proofs.Order.{Bisected, bisect-start, bisect-low, bisect-high, slot-here, slot-none}
-use Rattle.state_lookup.proofs.slot_of.Statement.{statement}
-use Rattle.state_lookup.proofs.slot_of.Tie as tie
+use Rattle.state_lookup.proofs.bisected.Statement.{statement}
+use Rattle.state_lookup.proofs.bisected.Tie as tie
 
 abbrev Inv-loop : tie.InvT-loop
 Inv-loop state id n low₀ high₀ low high = Bisected n (idIn state) id low high
@@ -12,8 +12,8 @@ Inv-loop state id n low₀ high₀ low high = Bisected n (idIn state) id low hig
 abbrev μ-loop : tie.MeasureT-loop
 μ-loop state id n low₀ high₀ low high = high - low
 
-pub slot-of-spec : {M : Type 1} → statement M
-slot-of-spec =
+pub bisected-spec : {M : Type 1} → statement M
+bisected-spec =
     tie.close
     (tie.spec
     Inv-loop
