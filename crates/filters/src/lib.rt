@@ -154,7 +154,12 @@ fn common_filter_up(state: &State, parents: &[u16], focused: usize, i: usize) ->
 }
 
 // `common_filter_with_root_exception`
-pub fn with_root_exception_at(state: &State, parents: &[u16], focused: usize, i: usize) -> FilterResult
+pub fn with_root_exception_at(
+    state: &State,
+    parents: &[u16],
+    focused: usize,
+    i: usize,
+) -> FilterResult
     requires { ⌜ Sound (now state) ⌝ }
     requires { ⌜ Focused (now state) focused ⌝ }
     ensures { λ r. ⌜ OfSlot (now (state .entry)) i (λ f x. r ≡ withRootException (view (now (state .entry))) x) ⌝ }
@@ -184,13 +189,7 @@ fn nothing_known(state: &State) -> Known
 }
 
 // What a filter needs to know of a node, to be asked of those below it: nothing where it asks no parent.
-pub fn known_at(
-    state: &State,
-    parents: &[u16],
-    focused: usize,
-    filter: Filter,
-    i: usize,
-) -> Known
+pub fn known_at(state: &State, parents: &[u16], focused: usize, filter: Filter, i: usize) -> Known
     requires { ⌜ Sound (now state) ⌝ }
     requires { ⌜ Focused (now state) focused ⌝ }
     ensures { λ r. ⌜ Knows (now (state .entry)) r ⌝ }
@@ -273,13 +272,7 @@ fn common_knowing(
 }
 
 // Whether `common_filter` drops the parent.
-fn is_parent_dropped(
-    state: &State,
-    parents: &[u16],
-    focused: usize,
-    known: Known,
-    i: usize,
-) -> bool
+fn is_parent_dropped(state: &State, parents: &[u16], focused: usize, known: Known, i: usize) -> bool
     requires { ⌜ Sound (now state) ⌝ }
     requires { ⌜ Focused (now state) focused ⌝ }
     requires { ⌜ Knows (now state) known ⌝ }
@@ -307,7 +300,7 @@ fn common_below(
     requires { ⌜ Told (now state) focused i hidden dropped ⌝ }
     ensures { λ r. ⌜ r ≡ commonFilter (view (now (state .entry))) (idIn (now (state .entry)) i) ⌝ }
 {
-    if i == focused {
+    if focused == i {
         return FilterResult::Include;
     }
     if hidden {
@@ -406,13 +399,7 @@ pub fn has_root_exception(filter: Filter) -> bool
 }
 
 // Whether a filter says ExcludeNode, for which no parent is asked.
-pub fn is_passed(
-    state: &State,
-    parents: &[u16],
-    focused: usize,
-    filter: Filter,
-    i: usize,
-) -> bool
+pub fn is_passed(state: &State, parents: &[u16], focused: usize, filter: Filter, i: usize) -> bool
     requires { ⌜ Focused (now state) focused ⌝ }
     ensures { λ r. ⌜ OfSlot (now (state .entry)) i (λ f x. r ≡ isExcludeNode (filterOf filter (view (now (state .entry))) x)) ⌝ }
 {

@@ -76,7 +76,15 @@ pub fn filtered_children<'a, 'b>(
     let known = filters::known_at(state, &parents, focused, filter, slot);
     let side = Side::Following;
     let place = iterators_shown::shown_child(state, &parents, focused, filter, known, side, slot);
-    list_from(state, &parents, focused, filter, side, Start { known, place }, out)
+    list_from(
+        state,
+        &parents,
+        focused,
+        filter,
+        side,
+        Start { known, place },
+        out,
+    )
 }
 
 // The filtered siblings on a side, nearest first.
@@ -116,7 +124,16 @@ fn list_from<'a, 'b>(
     ensures { λ r. ⌜ PutsList (listedFrom (filterOf filter (view (now (state .entry)))) side (now (state .entry)) (start .place)) (now (out .entry)) r (now (out .exit)) ⌝ }
 {
     let mut ids = [0u64; 512];
-    let n = iterators_shown::collect(state, parents, focused, filter, start.known, side, start.place, &mut ids);
+    let n = iterators_shown::collect(
+        state,
+        parents,
+        focused,
+        filter,
+        start.known,
+        side,
+        start.place,
+        &mut ids,
+    );
     put(&ids, n, out)
 }
 

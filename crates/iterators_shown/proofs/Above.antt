@@ -1,7 +1,6 @@
 -- Climbing to the filtered parent, by what a filter says of the node in the slot. Assumes nothing.
 use mathlib.Core.Bool.{true, false, true≢false, false≢true}
 use mathlib.Core.List.{List, [], _∷_}
-use mathlib.Core.Option.{Option, none, some}
 use mathlib.Core.Path.{_≡_, refl, sym, ap, _∙_}
 use Prim.Native.Nat.{ℕ, _+_, _≤_, _<_}
 use native.Mathlib.Omega.{arith}
@@ -15,9 +14,8 @@ use Rattle.questions.specs.declared.FilterResult.the-variants.{Include, Exclude
 use Rattle.questions.specs.Links.{ancestors}
 use Rattle.questions.specs.Walks.{leading, isExcludedNode, filteredParent}
 use Rattle.node_links.specs.Slots.{Sound, slotId}
-use Rattle.node_links.proofs.Slots.{slot-id-some, slot-id-none}
 use Rattle.filters_plain.specs.Plain.{isInclude}
-use Rattle.filters_plain.proofs.Above.{include-is, firstIncluded, first-included, leading-goes-on, upFrom, up-none, up-some, ancestors-up, up-next}
+use Rattle.filters_plain.proofs.Above.{firstIncluded, leading-goes-on, upFrom, up-none, up-some, ancestors-up, up-next}
 use Rattle.filters.specs.Filters.{isExcludeNode}
 use Rattle.filters.proofs.Near.{first-other}
 use Rattle.iterators_shown.specs.Shown.{Climbs}

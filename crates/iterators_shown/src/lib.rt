@@ -27,7 +27,15 @@ pub struct Start {
 }
 
 // From where a walk stands to the first node that is listed: past a node that is dropped, into one whose children stand in its place.
-pub fn shown_from(state: &State, parents: &[u16], focused: usize, filter: Filter, known: Known, side: Side, at: Place) -> Place
+pub fn shown_from(
+    state: &State,
+    parents: &[u16],
+    focused: usize,
+    filter: Filter,
+    known: Known,
+    side: Side,
+    at: Place,
+) -> Place
     requires { ⌜ Sound (now state) ⌝ }
     requires { ⌜ Focused (now state) focused ⌝ }
     requires { ⌜ Knows (now state) known ⌝ }
@@ -62,7 +70,15 @@ fn go_on(state: &State, parents: &[u16], side: Side, at: Place, inside: bool) ->
 }
 
 // To the first node that is listed of what is ahead of a node.
-pub fn shown_after(state: &State, parents: &[u16], focused: usize, filter: Filter, known: Known, side: Side, at: Place) -> Place
+pub fn shown_after(
+    state: &State,
+    parents: &[u16],
+    focused: usize,
+    filter: Filter,
+    known: Known,
+    side: Side,
+    at: Place,
+) -> Place
     requires { ⌜ Sound (now state) ⌝ }
     requires { ⌜ Focused (now state) focused ⌝ }
     requires { ⌜ Knows (now state) known ⌝ }
@@ -80,7 +96,15 @@ pub fn shown_after(state: &State, parents: &[u16], focused: usize, filter: Filte
 }
 
 // To the first filtered child on a side.
-pub fn shown_child(state: &State, parents: &[u16], focused: usize, filter: Filter, known: Known, side: Side, i: usize) -> Place
+pub fn shown_child(
+    state: &State,
+    parents: &[u16],
+    focused: usize,
+    filter: Filter,
+    known: Known,
+    side: Side,
+    i: usize,
+) -> Place
     requires { ⌜ Sound (now state) ⌝ }
     requires { ⌜ Focused (now state) focused ⌝ }
     requires { ⌜ Knows (now state) known ⌝ }
@@ -88,7 +112,15 @@ pub fn shown_child(state: &State, parents: &[u16], focused: usize, filter: Filte
     ensures { λ r. ⌜ Included filter (now (state .entry)) (r .slot) ⌝ }
 {
     let slot = node_links::first_child_slot(state, side, i);
-    shown_from(state, parents, focused, filter, known, side, Place { slot, level: 0 })
+    shown_from(
+        state,
+        parents,
+        focused,
+        filter,
+        known,
+        side,
+        Place { slot, level: 0 },
+    )
 }
 
 // Past the ancestors from the parent on that are ExcludeNode: the slot of the next one, and how many were passed.
@@ -125,14 +157,20 @@ fn nearest(state: &State, parents: &[u16], focused: usize, filter: Filter, i: us
 {
     if filters::is_plain(filter) {
         return Near {
-            known: Known { slot: state_array::slots(state), dropped: false },
+            known: Known {
+                slot: state_array::slots(state),
+                dropped: false,
+            },
             included: included_from(state, parents, focused, i),
         };
     }
     let excepted = filters::has_root_exception(filter);
     let up = filters::nearest_up(state, parents, focused, excepted, i);
     Near {
-        known: Known { slot: i, dropped: up.dropped },
+        known: Known {
+            slot: i,
+            dropped: up.dropped,
+        },
         included: up.included,
     }
 }
@@ -146,7 +184,12 @@ fn included_from(state: &State, parents: &[u16], focused: usize, from: usize) ->
     let n = state_array::slots(state);
     let mut p = from;
     while p < n {
-        if filters_plain::is_include(filters_plain::without_parent_checks_at(state, parents, focused, p)) {
+        if filters_plain::is_include(filters_plain::without_parent_checks_at(
+            state,
+            parents,
+            focused,
+            p,
+        )) {
             return p;
         }
         p = node_links::parent_slot(state, parents, p);
@@ -155,7 +198,13 @@ fn included_from(state: &State, parents: &[u16], focused: usize, from: usize) ->
 }
 
 // The filtered parent.
-pub fn filtered_parent(state: &State, parents: &[u16], focused: usize, filter: Filter, i: usize) -> usize
+pub fn filtered_parent(
+    state: &State,
+    parents: &[u16],
+    focused: usize,
+    filter: Filter,
+    i: usize,
+) -> usize
     requires { ⌜ Sound (now state) ⌝ }
     requires { ⌜ Focused (now state) focused ⌝ }
     ensures { λ r. ⌜ OfSlot (now (state .entry)) i (λ f x. slotId (now (state .entry)) r ≡ filteredParent (filterOf filter (view (now (state .entry)))) f x) ⌝ }
@@ -166,7 +215,15 @@ pub fn filtered_parent(state: &State, parents: &[u16], focused: usize, filter: F
 }
 
 // The first filtered child, or on the preceding side the last.
-pub fn filtered_child(state: &State, parents: &[u16], focused: usize, filter: Filter, known: Known, side: Side, i: usize) -> usize
+pub fn filtered_child(
+    state: &State,
+    parents: &[u16],
+    focused: usize,
+    filter: Filter,
+    known: Known,
+    side: Side,
+    i: usize,
+) -> usize
     requires { ⌜ Sound (now state) ⌝ }
     requires { ⌜ Focused (now state) focused ⌝ }
     requires { ⌜ Knows (now state) known ⌝ }
@@ -178,7 +235,14 @@ pub fn filtered_child(state: &State, parents: &[u16], focused: usize, filter: Fi
 }
 
 // The deepest first filtered child, or on the preceding side the deepest last.
-pub fn deepest_child(state: &State, parents: &[u16], focused: usize, filter: Filter, side: Side, i: usize) -> usize
+pub fn deepest_child(
+    state: &State,
+    parents: &[u16],
+    focused: usize,
+    filter: Filter,
+    side: Side,
+    i: usize,
+) -> usize
     requires { ⌜ Sound (now state) ⌝ }
     requires { ⌜ Focused (now state) focused ⌝ }
     ensures { λ r. ⌜ OfSlot (now (state .entry)) i (λ f x. slotId (now (state .entry)) r ≡ deepestOn side (filterOf filter (view (now (state .entry)))) f x) ⌝ }
@@ -200,7 +264,14 @@ pub fn deepest_child(state: &State, parents: &[u16], focused: usize, filter: Fil
 }
 
 // To the nearest filtered sibling on a side.
-pub fn shown_sibling(state: &State, parents: &[u16], focused: usize, filter: Filter, side: Side, i: usize) -> Start
+pub fn shown_sibling(
+    state: &State,
+    parents: &[u16],
+    focused: usize,
+    filter: Filter,
+    side: Side,
+    i: usize,
+) -> Start
     requires { ⌜ Sound (now state) ⌝ }
     requires { ⌜ Focused (now state) focused ⌝ }
     ensures { λ r. ⌜ OfSlot (now (state .entry)) i (ListsSiblings (filterOf filter (view (now (state .entry)))) side (now (state .entry)) (r .place)) ⌝ }
@@ -216,7 +287,17 @@ pub fn shown_sibling(state: &State, parents: &[u16], focused: usize, filter: Fil
         return Start { known, place: end };
     }
     let told = filters::known_included(state, filter, parent);
-    if n <= filtered_child(state, parents, focused, filter, told, Side::Following, parent) {
+    if n
+        <= filtered_child(
+            state,
+            parents,
+            focused,
+            filter,
+            told,
+            Side::Following,
+            parent,
+        )
+    {
         return Start { known, place: end };
     }
     let level = up.level;

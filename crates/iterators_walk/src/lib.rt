@@ -36,7 +36,14 @@ pub fn step(state: &State, walk: Walk) -> Stepped
     if number != 0 {
         return hand_out(walk, walk.count, number, FoundNode::Nothing);
     }
-    let found = sibling_at(state, &parents, asked.slot, walk.side, walk.filter, walk.count);
+    let found = sibling_at(
+        state,
+        &parents,
+        asked.slot,
+        walk.side,
+        walk.filter,
+        walk.count,
+    );
     let further = one_more(walk.count);
     match found {
         FoundNode::Nothing => hand_out(walk, walk.count, 0, found),
@@ -87,7 +94,14 @@ fn number_of(asked: u8, side: u32, filter: u32) -> u8
 }
 
 // The sibling at a place of the walk's list, if there is one.
-fn sibling_at(state: &State, parents: &[u16], i: usize, side: u32, filter: u32, count: u64) -> FoundNode
+fn sibling_at(
+    state: &State,
+    parents: &[u16],
+    i: usize,
+    side: u32,
+    filter: u32,
+    count: u64,
+) -> FoundNode
     requires { ⌜ Sound (now state) ⌝ }
     requires { ⌜ i < slotsOf (now state) ⌝ }
     requires { ⌜ Ours side filter ⌝ }
@@ -115,13 +129,29 @@ fn plain_at(state: &State, parents: &[u16], i: usize, side: Side, count: u64) ->
 }
 
 // Under a filter, by the walking engine.
-fn shown_at(state: &State, parents: &[u16], i: usize, side: Side, filter: Filter, count: u64) -> FoundNode
+fn shown_at(
+    state: &State,
+    parents: &[u16],
+    i: usize,
+    side: Side,
+    filter: Filter,
+    count: u64,
+) -> FoundNode
     requires { ⌜ Sound (now state) ⌝ }
     ensures { λ r. ⌜ OfSlot (now (state .entry)) i (λ f x. foundOf r ≡ getElem? (filteredSiblings (filterOf filter (view (now (state .entry)))) side f x) count) ⌝ }
 {
     let focused = filters_plain::focused_slot(state);
     let start = iterators_shown::shown_sibling(state, parents, focused, filter, side, i);
-    let slot = iterators_shown::listed_at(state, parents, focused, filter, start.known, side, start.place, count);
+    let slot = iterators_shown::listed_at(
+        state,
+        parents,
+        focused,
+        filter,
+        start.known,
+        side,
+        start.place,
+        count,
+    );
     if state_array::slots(state) <= slot {
         return FoundNode::Nothing;
     }

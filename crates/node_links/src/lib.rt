@@ -193,7 +193,10 @@ pub fn bounding_box(state: &State, parents: &[u16], i: usize) -> BoundingBox
     if state_array::word_at(state, state_array::FLAGS, i) / 16 % 2 != 1 {
         return BoundingBox::None;
     }
-    geometry_box::box_of(transform_of(state, parents, i), state_array::bounds_at(state, i))
+    geometry_box::box_of(
+        transform_of(state, parents, i),
+        state_array::bounds_at(state, i),
+    )
 }
 
 // The node's transform under its ancestors', each multiplied on the left: right where there are fewer ancestors than room for them.

@@ -92,23 +92,26 @@ fn rank(state: &State, id: FullNodeId) -> usize {
     (id.node.0 - first.node.0) as usize
 }
 
-// The same by bisection.
+// The same by bisection: the slots from `low` on that are `left` hold the last id that stands before `id`, if any does. A step goes no other way
+// for either answer, so that no guess of the machine's fails.
 fn bisected(state: &State, id: FullNodeId) -> usize
     ensures { λ r. ⌜ SlotOf (now (state .entry)) id r ⌝ }
 {
     let n = state_array::slots(state);
     let mut low = 0usize;
-    let mut high = n;
-    while low < high {
-        let middle = low + (high - low) / 2;
-        if ids::is_before(id_at(state, middle), id) {
-            low = middle + 1;
-        } else {
-            high = middle;
+    let mut left = n;
+    while 1 < left {
+        let half = left / 2;
+        if ids::is_before(id_at(state, low + half - 1), id) {
+            low += half;
         }
+        left -= half;
     }
     if stands(state, n, low, id) {
         return low;
+    }
+    if stands(state, n, low + 1, id) {
+        return low + 1;
     }
     n
 }
