@@ -45,7 +45,7 @@ module _ (v : State) (x : FullNodeId) where
   unfolding commonFilterBase
   base-transparent a b c = rw (a, b, c) refl
 
-  base-none : isFocused v x ≡ false → isHidden (v .forest) x ≡ false → isTransparent (v .forest) x ≡ false → commonFilterBase v x ≡ none
+  pub base-none : isFocused v x ≡ false → isHidden (v .forest) x ≡ false → isTransparent (v .forest) x ≡ false → commonFilterBase v x ≡ none
   unfolding commonFilterBase
   base-none a b c = rw (a, b, c) refl
 
@@ -72,7 +72,7 @@ module _ (v : State) (x : FullNodeId) where
         let start : commonFilterFrom v x [] ≡ ordinary v x false = rw (e, commonFilterFrom) refl in
         ap (commonFilterFrom v x) q ∙ start ∙ rw (clipped-top q) refl
 
-    common-more : (p : FullNodeId) → ancestors (v .forest) x ≡ p ∷ ancestors (v .forest) p → commonFilter v x ≡ ordinary v x (isExcludeSubtree (commonFilter v p))
+    pub common-more : (p : FullNodeId) → ancestors (v .forest) x ≡ p ∷ ancestors (v .forest) p → commonFilter v x ≡ ordinary v x (isExcludeSubtree (commonFilter v p))
     unfolding commonFilter commonFilterFrom
     common-more p q = ap (commonFilterFrom v x) q ∙ rw (e, commonFilterFrom) refl
 

@@ -1,3 +1,4 @@
 pub mod Common
+pub mod Near
 pub mod Clipped
 pub mod Answer

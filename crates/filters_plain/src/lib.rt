@@ -81,14 +81,19 @@ pub fn own_filter_at(state: &State, focused: usize, i: usize) -> FilterResult
 }
 
 // `common_filter_without_parent_checks`
-pub fn without_parent_checks_at(state: &State, focused: usize, i: usize) -> FilterResult
+pub fn without_parent_checks_at(
+    state: &State,
+    parents: &[u16],
+    focused: usize,
+    i: usize,
+) -> FilterResult
     requires { ⌜ Focused (now state) focused ⌝ }
     ensures { λ r. ⌜ OfSlot (now (state .entry)) i (λ f x. r ≡ withoutParentChecks (view (now (state .entry))) x) ⌝ }
 {
     if i == focused {
         return FilterResult::Include;
     }
-    if node_links::is_hidden(state, i) {
+    if node_links::is_hidden(state, parents, i) {
         return FilterResult::ExcludeSubtree;
     }
     if is_transparent(state, i) {
@@ -99,26 +104,26 @@ pub fn without_parent_checks_at(state: &State, focused: usize, i: usize) -> Filt
 
 // The filtered parent of a node that is not hidden, and how many ancestors before it are passed over; past the last slot where there is none.
 // No ancestor of such a node is hidden.
-pub fn included_above(state: &State, focused: usize, i: usize) -> Place
+pub fn included_above(state: &State, parents: &[u16], focused: usize, i: usize) -> Place
     requires { ⌜ Sound (now state) ⌝ }
     requires { ⌜ Focused (now state) focused ⌝ }
     ensures { λ r. ⌜ OfSlot (now (state .entry)) i (λ f x. (isHidden f x ≡ false → Above (withoutParentChecks (view (now (state .entry)))) (now (state .entry)) x r)) ⌝ }
 {
     let n = state_array::slots(state);
-    let mut p = node_links::parent_slot(state, i);
+    let mut p = node_links::parent_slot(state, parents, i);
     let mut level = 0usize;
     while p < n {
         if is_include(own_filter_at(state, focused, p)) {
             return Place { slot: p, level };
         }
-        p = node_links::parent_slot(state, p);
+        p = node_links::parent_slot(state, parents, p);
         level += 1;
     }
     Place { slot: n, level }
 }
 
 // From where a walk stands to the first node that is listed.
-pub fn shown_from(state: &State, focused: usize, side: Side, at: Place) -> Place
+pub fn shown_from(state: &State, parents: &[u16], focused: usize, side: Side, at: Place) -> Place
     requires { ⌜ Sound (now state) ⌝ }
     requires { ⌜ Focused (now state) focused ⌝ }
     ensures { λ r. ⌜ Lists (ownFilter (view (now (state .entry)))) side (now (state .entry)) at r ⌝ }
@@ -134,29 +139,29 @@ pub fn shown_from(state: &State, focused: usize, side: Side, at: Place) -> Place
         if is_include(result) {
             return here;
         }
-        here = unlisted(state, side, here, result);
+        here = unlisted(state, parents, side, here, result);
     }
 }
 
 // The nearest node that is listed of what is ahead of a node on one side.
-pub fn neighbour(state: &State, focused: usize, side: Side, at: Place) -> usize
+pub fn neighbour(state: &State, parents: &[u16], focused: usize, side: Side, at: Place) -> usize
     requires { ⌜ Sound (now state) ⌝ }
     requires { ⌜ Focused (now state) focused ⌝ }
     ensures { λ r. ⌜ OfSlot (now (state .entry)) (at .slot) (λ f x. slotId (now (state .entry)) r ≡ head? (shownAhead (view (now (state .entry))) side (at .level) x)) ⌝ }
 {
-    let next = iterators_steps::after(state, side, at);
-    let found = shown_from(state, focused, side, next);
+    let next = iterators_steps::after(state, parents, side, at);
+    let found = shown_from(state, parents, focused, side, next);
     found.slot
 }
 
 // Where a walk goes on from a node that is not listed: into it for ExcludeNode, else past it.
-fn unlisted(state: &State, side: Side, at: Place, result: FilterResult) -> Place
+fn unlisted(state: &State, parents: &[u16], side: Side, at: Place, result: FilterResult) -> Place
     ensures { λ r. ⌜ OfSlot (now (state .entry)) (at .slot) (λ f x. metFrom side (now (state .entry)) r ≡ unlisted side f (at .level) x result) ⌝ }
 {
     match result {
-        FilterResult::Include => iterators_steps::after(state, side, at),
-        FilterResult::ExcludeNode => iterators_steps::into(state, side, at),
-        FilterResult::ExcludeSubtree => iterators_steps::after(state, side, at),
+        FilterResult::Include => iterators_steps::after(state, parents, side, at),
+        FilterResult::ExcludeNode => iterators_steps::into(state, parents, side, at),
+        FilterResult::ExcludeSubtree => iterators_steps::after(state, parents, side, at),
     }
 }
 

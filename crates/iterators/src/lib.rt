@@ -13,10 +13,11 @@ ghost use Rattle.questions.specs.Walks.{deepestFirstFilteredChild, deepestLastF
 ghost use Rattle.node_links.specs.Slots.{Sound, slotId};
 ghost use Rattle.node.specs.Answers.{nodeAnswer};
 ghost use Rattle.filters_plain.specs.Plain.{Focused, listedFrom};
+ghost use Rattle.filters.specs.Filters.{Knows};
 ghost use Rattle.iterators_shown.specs.Shown.{filteredChildOn, deepestOn};
 ghost use Rattle.iterators.specs.Lists.{ListOf, ChildList, SiblingList, Puts, PutsList, noList, NodeOf, noNode};
 use ids::FullNodeId;
-use iterators_steps::Place;
+use iterators_shown::Start;
 use node::ListAnswer;
 use node::NodeAnswer;
 use questions::Filter;
@@ -38,14 +39,22 @@ pub fn siblings<'a, 'b>(
 ) -> ListAnswer
     ensures { λ r. ⌜ ListOf (view (now (state .entry)) .forest) id (links.siblings side (view (now (state .entry)) .forest) id) (now (out .entry)) r (now (out .exit)) ⌝ }
 {
-    let asked = node_asked::asked(state, id);
+    let mut parents = [0u16; 320];
+    let asked = node_asked::asked(state, id, &mut parents);
     let number = asked.number;
     if number != 0 {
         return no_list(number);
     }
-    let mut ids = [0u64; 512];
-    let n = iterators_lists::collect_siblings(state, side, asked.slot, &mut ids);
-    put(&ids, n, out)
+    let run = iterators_lists::siblings_run(state, &parents, side, asked.slot);
+    let n = run.count;
+    if out.len() / 2 < n {
+        return no_list(TOO_SHORT);
+    }
+    iterators_lists::put_siblings(state, &parents, side, asked.slot, out);
+    ListAnswer {
+        number: WRITTEN,
+        length: n,
+    }
 }
 
 // The filtered children, in order.
@@ -57,14 +66,26 @@ pub fn filtered_children<'a, 'b>(
 ) -> ListAnswer
     ensures { λ r. ⌜ ChildList (view (now (state .entry))) id filter (now (out .entry)) r (now (out .exit)) ⌝ }
 {
-    let asked = node_asked::asked(state, id);
+    let mut parents = [0u16; 320];
+    let asked = node_asked::asked(state, id, &mut parents);
     let number = asked.number;
     if number != 0 {
         return no_list(number);
     }
     let focused = filters_plain::focused_slot(state);
-    let start = iterators_shown::shown_child(state, focused, filter, Side::Following, asked.slot);
-    list_from(state, focused, filter, Side::Following, start, out)
+    let slot = asked.slot;
+    let known = filters::known_at(state, &parents, focused, filter, slot);
+    let side = Side::Following;
+    let place = iterators_shown::shown_child(state, &parents, focused, filter, known, side, slot);
+    list_from(
+        state,
+        &parents,
+        focused,
+        filter,
+        side,
+        Start { known, place },
+        out,
+    )
 }
 
 // The filtered siblings on a side, nearest first.
@@ -77,31 +98,43 @@ pub fn filtered_siblings<'a, 'b>(
 ) -> ListAnswer
     ensures { λ r. ⌜ SiblingList (view (now (state .entry))) id filter side (now (out .entry)) r (now (out .exit)) ⌝ }
 {
-    let asked = node_asked::asked(state, id);
+    let mut parents = [0u16; 320];
+    let asked = node_asked::asked(state, id, &mut parents);
     let number = asked.number;
     if number != 0 {
         return no_list(number);
     }
     let focused = filters_plain::focused_slot(state);
-    let start = iterators_shown::shown_sibling(state, focused, filter, side, asked.slot);
-    list_from(state, focused, filter, side, start, out)
+    let start = iterators_shown::shown_sibling(state, &parents, focused, filter, side, asked.slot);
+    list_from(state, &parents, focused, filter, side, start, out)
 }
 
 // Writes what is listed from a place on, if the slice has room for it.
 fn list_from<'a, 'b>(
     state: &'a State,
+    parents: &'a [u16],
     focused: usize,
     filter: Filter,
     side: Side,
-    start: Place,
+    start: Start,
     out: &'b mut [u64],
 ) -> ListAnswer
     requires { ⌜ Sound (now state) ⌝ }
     requires { ⌜ Focused (now state) focused ⌝ }
-    ensures { λ r. ⌜ PutsList (listedFrom (filterOf filter (view (now (state .entry)))) side (now (state .entry)) start) (now (out .entry)) r (now (out .exit)) ⌝ }
+    requires { ⌜ Knows (now state) (start .known) ⌝ }
+    ensures { λ r. ⌜ PutsList (listedFrom (filterOf filter (view (now (state .entry)))) side (now (state .entry)) (start .place)) (now (out .entry)) r (now (out .exit)) ⌝ }
 {
     let mut ids = [0u64; 512];
-    let n = iterators_shown::collect(state, focused, filter, side, start, &mut ids);
+    let n = iterators_shown::collect(
+        state,
+        parents,
+        focused,
+        filter,
+        start.known,
+        side,
+        start.place,
+        &mut ids,
+    );
     put(&ids, n, out)
 }
 
@@ -136,7 +169,8 @@ fn no_list(number: u8) -> ListAnswer
 pub fn filtered_parent(state: &State, id: FullNodeId, filter: Filter) -> NodeAnswer
     ensures { λ r. ⌜ NodeOf (view (now (state .entry))) id filter filteredParent r ⌝ }
 {
-    let asked = node_asked::asked(state, id);
+    let mut parents = [0u16; 320];
+    let asked = node_asked::asked(state, id, &mut parents);
     let number = asked.number;
     if number != 0 {
         return refused(number);
@@ -144,7 +178,7 @@ pub fn filtered_parent(state: &State, id: FullNodeId, filter: Filter) -> NodeAns
     let focused = filters_plain::focused_slot(state);
     found(
         state,
-        iterators_shown::filtered_parent(state, focused, filter, asked.slot),
+        iterators_shown::filtered_parent(state, &parents, focused, filter, asked.slot),
     )
 }
 
@@ -180,15 +214,18 @@ pub fn deepest_last_filtered_child(state: &State, id: FullNodeId, filter: Filter
 fn filtered_child(state: &State, id: FullNodeId, filter: Filter, side: Side) -> NodeAnswer
     ensures { λ r. ⌜ NodeOf (view (now (state .entry))) id filter (filteredChildOn side) r ⌝ }
 {
-    let asked = node_asked::asked(state, id);
+    let mut parents = [0u16; 320];
+    let asked = node_asked::asked(state, id, &mut parents);
     let number = asked.number;
     if number != 0 {
         return refused(number);
     }
     let focused = filters_plain::focused_slot(state);
+    let slot = asked.slot;
+    let known = filters::known_at(state, &parents, focused, filter, slot);
     found(
         state,
-        iterators_shown::filtered_child(state, focused, filter, side, asked.slot),
+        iterators_shown::filtered_child(state, &parents, focused, filter, known, side, slot),
     )
 }
 
@@ -196,7 +233,8 @@ fn filtered_child(state: &State, id: FullNodeId, filter: Filter, side: Side) -> 
 fn deepest_child(state: &State, id: FullNodeId, filter: Filter, side: Side) -> NodeAnswer
     ensures { λ r. ⌜ NodeOf (view (now (state .entry))) id filter (deepestOn side) r ⌝ }
 {
-    let asked = node_asked::asked(state, id);
+    let mut parents = [0u16; 320];
+    let asked = node_asked::asked(state, id, &mut parents);
     let number = asked.number;
     if number != 0 {
         return refused(number);
@@ -204,7 +242,7 @@ fn deepest_child(state: &State, id: FullNodeId, filter: Filter, side: Side) -> N
     let focused = filters_plain::focused_slot(state);
     found(
         state,
-        iterators_shown::deepest_child(state, focused, filter, side, asked.slot),
+        iterators_shown::deepest_child(state, &parents, focused, filter, side, asked.slot),
     )
 }
 

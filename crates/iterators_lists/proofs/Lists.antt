@@ -5,7 +5,7 @@ use mathlib.Core.Path.{_≡_, refl, sym, ap, _∙_, subst}
 use Prim.Native.Nat.{ℕ, _+_, _*_, _≤_, _<_}
 use native.Mathlib.Numerals.{add-one}
 use native.Mathlib.Omega.{arith}
-use lib.ListN.{length, getD, getElem?, set, take, length-append}
+use lib.ListN.{length, getD, getElem?, set, take, drop, length-append, take-append-drop}
 use lib.Seq.{take-all}
 use borrow.Author.Tests.{leb-true}
 use Rattle.ids.specs.Ids.{idWords}
@@ -119,9 +119,11 @@ module _ (xs : List FullNodeId) (before : List ℕ) where
   pub collected-none : CollectedTo 0 before
   collected-none = record { count-is = refl; few = omega arith; words-are = sym (ids-none before) }
 
-  module _ (few : length xs ≤ 256) (room : 512 ≤ length before) (k : ℕ) (now : List ℕ) (h : CollectedTo k now) where
+  module _ (few : length xs ≤ 256) (room : 2 * length xs ≤ length before) (k : ℕ) (now : List ℕ) (h : CollectedTo k now) where
     pub collected-length : length now ≡ length before
-    collected-length = ap length (h .words-are) ∙ ids-length (idWords (take k xs)) before (omega (arith, id-words-length (take k xs), h .count-is, h .few))
+    collected-length =
+        let within = ap length (take-append-drop k xs) in
+        ap length (h .words-are) ∙ ids-length (idWords (take k xs)) before (omega (arith, id-words-length (take k xs), within, length-append (take k xs) (drop k xs)))
 
     module _ (y : FullNodeId) (q : getElem? xs k ≡ some y) where
       -- there is room for one more

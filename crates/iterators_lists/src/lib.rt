@@ -4,9 +4,10 @@ ghost use mathlib.Core.Path.{_≡_};
 ghost use Prim.Native.Nat.{_*_, _+_, _<_, _≤_};
 ghost use lib.ListN.{length, set};
 ghost use Rattle.state_array.specs.View.{idIn, slotsOf, view};
+ghost use Rattle.questions.specs.Answers.{idWords, written};
 ghost use Rattle.questions.specs.Links.{siblings};
 ghost use Rattle.node_links.specs.Slots.{Sound};
-ghost use Rattle.iterators_lists.specs.Lists.{InRun, inRun, RunOf, Collected};
+ghost use Rattle.iterators_lists.specs.Lists.{InRun, inRun, RunOf};
 use ids::FullNodeId;
 use questions::Side;
 use state_array::State;
@@ -19,7 +20,7 @@ pub struct Run {
 }
 
 // Where the siblings on a side of the node in slot i stand.
-pub fn siblings_run(state: &State, side: Side, i: usize) -> Run
+pub fn siblings_run(state: &State, parents: &[u16], side: Side, i: usize) -> Run
     requires { ⌜ Sound (now state) ⌝ }
     requires { ⌜ i < slotsOf (now state) ⌝ }
     ensures { λ r. ⌜ RunOf (now (state .entry)) side (siblings side (view (now (state .entry)) .forest) (idIn (now (state .entry)) i)) r ⌝ }
@@ -32,7 +33,7 @@ pub fn siblings_run(state: &State, side: Side, i: usize) -> Run
             count: 0,
         };
     }
-    let parent = node_links::parent_slot(state, i);
+    let parent = node_links::parent_slot(state, parents, i);
     let children = node_links::child_count(state, parent);
     let index = link.index as usize;
     match side {
@@ -70,19 +71,24 @@ pub fn store(ids: &mut [u64], k: usize, x: FullNodeId)
     ids[2 * k + 1] = x.node.0;
 }
 
-// Collects the siblings on a side of the node in slot i; answers how many there are.
-pub fn collect_siblings(state: &State, side: Side, i: usize, ids: &mut [u64]) -> usize
+// Writes the siblings on a side of the node in slot i at the start of a slice that has room for them.
+pub fn put_siblings<'a, 'b>(
+    state: &'a State,
+    parents: &'a [u16],
+    side: Side,
+    i: usize,
+    out: &'b mut [u64],
+)
     requires { ⌜ Sound (now state) ⌝ }
     requires { ⌜ i < slotsOf (now state) ⌝ }
-    requires { ⌜ 512 ≤ length (now ids) ⌝ }
-    ensures { λ r. ⌜ Collected (siblings side (view (now (state .entry)) .forest) (idIn (now (state .entry)) i)) (now (ids .entry)) (now (ids .exit)) r ⌝ }
+    requires { ⌜ 2 * length (siblings side (view (now state) .forest) (idIn (now state) i)) ≤ length (now out) ⌝ }
+    ensures { λ _. ⌜ now (out .exit) ≡ written (idWords (siblings side (view (now (state .entry)) .forest) (idIn (now (state .entry)) i))) (now (out .entry)) ⌝ }
 {
-    let run = siblings_run(state, side, i);
+    let run = siblings_run(state, parents, side, i);
     let n = run.count;
     let mut k = 0usize;
     while k < n {
-        store(ids, k, sibling_at(state, side, run, k));
+        store(out, k, sibling_at(state, side, run, k));
         k += 1;
     }
-    n
 }

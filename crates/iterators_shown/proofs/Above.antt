@@ -1,7 +1,6 @@
 -- Climbing to the filtered parent, by what a filter says of the node in the slot. Assumes nothing.
 use mathlib.Core.Bool.{true, false, true≢false, false≢true}
 use mathlib.Core.List.{List, [], _∷_}
-use mathlib.Core.Option.{Option, none, some}
 use mathlib.Core.Path.{_≡_, refl, sym, ap, _∙_}
 use Prim.Native.Nat.{ℕ, _+_, _≤_, _<_}
 use native.Mathlib.Omega.{arith}
@@ -15,10 +14,11 @@ use Rattle.questions.specs.declared.FilterResult.the-variants.{Include, Exclude
 use Rattle.questions.specs.Links.{ancestors}
 use Rattle.questions.specs.Walks.{leading, isExcludedNode, filteredParent}
 use Rattle.node_links.specs.Slots.{Sound, slotId}
-use Rattle.node_links.proofs.Slots.{slot-id-some, slot-id-none}
 use Rattle.filters_plain.specs.Plain.{isInclude}
-use Rattle.filters_plain.proofs.Above.{include-is, firstIncluded, first-included, leading-goes-on, upFrom, up-none, up-some, ancestors-up, up-next}
-use Rattle.iterators_shown.specs.Shown.{isExcludeNode, Climbs}
+use Rattle.filters_plain.proofs.Above.{firstIncluded, leading-goes-on, upFrom, up-none, up-some, ancestors-up, up-next}
+use Rattle.filters.specs.Filters.{isExcludeNode}
+use Rattle.filters.proofs.Near.{first-other}
+use Rattle.iterators_shown.specs.Shown.{Climbs}
 
 node-is : (r : FilterResult) → isExcludeNode r ≡ true → r ≡ ExcludeNode
 unfolding isExcludeNode
@@ -29,19 +29,9 @@ node-is ExcludeSubtree e = absurd (false≢true e)
 -- ## The first of a list
 
 module _ (filter : FullNodeId → FilterResult) (y : FullNodeId) (ys : List FullNodeId) where
-  abbrev firstBy : FilterResult → Option FullNodeId
-  firstBy r = elim (if (elim r [ Include ↦ true | ExcludeNode ↦ false | ExcludeSubtree ↦ false ]) then some y else none) [ none ↦ firstIncluded filter ys | some z ↦ some z ]
-
-  -- one that is not included is passed over
-  first-other : (r : FilterResult) → filter y ≡ r → isInclude r ≡ false → firstIncluded filter (y ∷ ys) ≡ firstIncluded filter ys
-  unfolding isInclude
-  first-other Include q e = absurd (true≢false e)
-  first-other ExcludeNode q e = ap firstBy q
-  first-other ExcludeSubtree q e = ap firstBy q
-
   first-after : filter y ≡ ExcludeNode → firstIncluded filter (y ∷ ys) ≡ firstIncluded filter ys
   unfolding isInclude
-  first-after q = first-other ExcludeNode q refl
+  first-after q = first-other filter y ys ExcludeNode q refl
 
   abbrev leadingBy : FilterResult → List FullNodeId
   leadingBy r = if (elim r [ Include ↦ false | ExcludeNode ↦ true | ExcludeSubtree ↦ false ]) then y ∷ leading (isExcludedNode filter) ys else []
@@ -104,16 +94,3 @@ module _ (filter : FullNodeId → FilterResult) (s : List ℕ) (h : Sound s) whe
             levels = c .levels ∙ rw (next, leading-goes-on filter (idIn s p) (upFrom s q) passed) (omega arith);
             parent-is = c .parent-is ∙ ap (firstIncluded filter) next ∙ first-after filter (idIn s p) (upFrom s q) passed;
           }
-
-    -- the first included node
-    pub included-here : isInclude r ≡ true → slotId s p ≡ firstIncluded filter (upFrom s p)
-    included-here e =
-        slot-id-some s p l
-        ∙ sym (ap (firstIncluded filter) (up-some s p l) ∙ first-included filter (idIn s p) (ancestors f (idIn s p)) (sym is ∙ include-is r e))
-
-    pub included-on : (q : ℕ) → slotId s q ≡ parentAt (f .nodes) (idIn s p) → isInclude r ≡ false
-        → firstIncluded filter (upFrom s q) ≡ firstIncluded filter (upFrom s p)
-    included-on q up e = sym (ap (firstIncluded filter) (up-next s h p q l up) ∙ first-other filter (idIn s p) (upFrom s q) r (sym is) e)
-
-  pub included-end : (p n : ℕ) → slotsOf s ≤ p → n ≡ slotsOf s → slotId s n ≡ firstIncluded filter (upFrom s p)
-  included-end p n l q = slot-id-none s n (omega arith) ∙ sym (ap (firstIncluded filter) (up-none s p l))

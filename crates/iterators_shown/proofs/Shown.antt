@@ -32,7 +32,8 @@ use Rattle.iterators_lists.proofs.Lists.{few-nodes}
 use Rattle.filters_plain.specs.Plain.{unlisted, listedFrom}
 use Rattle.filters_plain.proofs.Above.{firstIncluded, upFrom}
 use Rattle.filters_plain.proofs.Listed.{head-listed}
-use Rattle.iterators_shown.specs.Shown.{isExcludeNode, metAfter, ListsAhead, ListsBelow, Climbs, filteredChildOn, deepestOn}
+use Rattle.filters.specs.Filters.{isExcludeNode}
+use Rattle.iterators_shown.specs.Shown.{metAfter, ListsAhead, ListsBelow, Climbs, filteredChildOn, deepestOn}
 
 head-none : {A : Type 0} (xs : List A) → head? xs ≡ none → xs ≡ []
 head-none [] e = refl

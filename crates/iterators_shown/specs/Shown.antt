@@ -1,5 +1,5 @@
 -- What the functions over slots find under a filter. Assumes nothing.
-use mathlib.Core.Bool.{Bool, true, false}
+use mathlib.Core.Bool.{Bool}
 use mathlib.Core.List.{List, _++_, flatMap}
 use mathlib.Core.Option.{Option}
 use mathlib.Core.Path.{_≡_}
@@ -12,19 +12,12 @@ use Rattle.state_array.specs.View.{view}
 use Rattle.questions.specs.declared.Side.{Side}
 use Rattle.questions.specs.declared.Side.the-variants.{Following, Preceding}
 use Rattle.questions.specs.declared.FilterResult.{FilterResult}
-use Rattle.questions.specs.declared.FilterResult.the-variants.{Include, ExcludeNode, ExcludeSubtree}
 use Rattle.questions.specs.Links.{childIds, ancestors}
 use Rattle.questions.specs.Walks.{turned, leading, shown, isExcludedNode, filteredParent, filteredSiblings, firstFilteredChild, lastFilteredChild, deepestFirstFilteredChild, deepestLastFilteredChild}
 use Rattle.questions.specs.Ahead.{ahead}
 use Rattle.iterators_steps.specs.declared.Place.{Place}
 use Rattle.filters_plain.specs.Plain.{listedFrom}
 use Rattle.filters_plain.proofs.Above.{firstIncluded, upFrom}
-
--- the node's children stand in its place
-unfoldable pub isExcludeNode : FilterResult → Bool
-isExcludeNode Include = false
-isExcludeNode ExcludeNode = true
-isExcludeNode ExcludeSubtree = false
 
 -- what is met on from a node, into it or past it
 unfoldable pub metAfter : Side → Forest → ℕ → FullNodeId → Bool → List FullNodeId

@@ -17,21 +17,21 @@ pub struct Place {
 }
 
 // To what is met next after a node and all below it: its next sibling, or that of the nearest ancestor that has one.
-pub fn after(state: &State, side: Side, at: Place) -> Place
+pub fn after(state: &State, parents: &[u16], side: Side, at: Place) -> Place
     ensures { λ r. ⌜ OfSlot (now (state .entry)) (at .slot) (λ f x. metFrom side (now (state .entry)) r ≡ ahead side f (at .level) x) ⌝ }
 {
     let n = state_array::slots(state);
     let mut i = at.slot;
     let mut level = at.level;
     loop {
-        let next = node_links::sibling_slot(state, side, i);
+        let next = node_links::sibling_slot(state, parents, side, i);
         if next < n {
             return Place { slot: next, level };
         }
         if level < 1 {
             return Place { slot: n, level: 0 };
         }
-        let parent = node_links::parent_slot(state, i);
+        let parent = node_links::parent_slot(state, parents, i);
         if n <= parent {
             return Place { slot: n, level: 0 };
         }
@@ -41,7 +41,7 @@ pub fn after(state: &State, side: Side, at: Place) -> Place
 }
 
 // To what is met next after a node: its first child on this side, or what comes after it.
-pub fn into(state: &State, side: Side, at: Place) -> Place
+pub fn into(state: &State, parents: &[u16], side: Side, at: Place) -> Place
     ensures { λ r. ⌜ OfSlot (now (state .entry)) (at .slot) (λ f x. metFrom side (now (state .entry)) r ≡ turned side (childIds f x) ++ ahead side f (at .level) x) ⌝ }
 {
     let child = node_links::first_child_slot(state, side, at.slot);
@@ -51,7 +51,7 @@ pub fn into(state: &State, side: Side, at: Place) -> Place
             level: one_more(at.level),
         };
     }
-    after(state, side, at)
+    after(state, parents, side, at)
 }
 
 // One level more, as far as there can be any.

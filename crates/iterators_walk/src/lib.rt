@@ -30,12 +30,20 @@ pub fn step(state: &State, walk: Walk) -> Stepped
     ensures { λ r. ⌜ r ≡ steppedOf (nextOf (view (now (state .entry))) walk) ⌝ }
 {
     let node = walk.node;
-    let asked = node_asked::asked(state, node);
+    let mut parents = [0u16; 320];
+    let asked = node_asked::asked(state, node, &mut parents);
     let number = number_of(asked.number, walk.side, walk.filter);
     if number != 0 {
         return hand_out(walk, walk.count, number, FoundNode::Nothing);
     }
-    let found = sibling_at(state, asked.slot, walk.side, walk.filter, walk.count);
+    let found = sibling_at(
+        state,
+        &parents,
+        asked.slot,
+        walk.side,
+        walk.filter,
+        walk.count,
+    );
     let further = one_more(walk.count);
     match found {
         FoundNode::Nothing => hand_out(walk, walk.count, 0, found),
@@ -86,7 +94,14 @@ fn number_of(asked: u8, side: u32, filter: u32) -> u8
 }
 
 // The sibling at a place of the walk's list, if there is one.
-fn sibling_at(state: &State, i: usize, side: u32, filter: u32, count: u64) -> FoundNode
+fn sibling_at(
+    state: &State,
+    parents: &[u16],
+    i: usize,
+    side: u32,
+    filter: u32,
+    count: u64,
+) -> FoundNode
     requires { ⌜ Sound (now state) ⌝ }
     requires { ⌜ i < slotsOf (now state) ⌝ }
     requires { ⌜ Ours side filter ⌝ }
@@ -94,18 +109,18 @@ fn sibling_at(state: &State, i: usize, side: u32, filter: u32, count: u64) -> Fo
 {
     let on = side_of(side);
     if filter == 0 {
-        return plain_at(state, i, on, count);
+        return plain_at(state, parents, i, on, count);
     }
-    shown_at(state, i, on, filter_of(filter), count)
+    shown_at(state, parents, i, on, filter_of(filter), count)
 }
 
 // Without a filter, by its place among the parent's children.
-fn plain_at(state: &State, i: usize, side: Side, count: u64) -> FoundNode
+fn plain_at(state: &State, parents: &[u16], i: usize, side: Side, count: u64) -> FoundNode
     requires { ⌜ Sound (now state) ⌝ }
     requires { ⌜ i < slotsOf (now state) ⌝ }
     ensures { λ r. ⌜ OfSlot (now (state .entry)) i (λ f x. foundOf r ≡ getElem? (siblings side f x) count) ⌝ }
 {
-    let run = iterators_lists::siblings_run(state, side, i);
+    let run = iterators_lists::siblings_run(state, parents, side, i);
     let k = count as usize;
     if run.count <= k {
         return FoundNode::Nothing;
@@ -114,13 +129,29 @@ fn plain_at(state: &State, i: usize, side: Side, count: u64) -> FoundNode
 }
 
 // Under a filter, by the walking engine.
-fn shown_at(state: &State, i: usize, side: Side, filter: Filter, count: u64) -> FoundNode
+fn shown_at(
+    state: &State,
+    parents: &[u16],
+    i: usize,
+    side: Side,
+    filter: Filter,
+    count: u64,
+) -> FoundNode
     requires { ⌜ Sound (now state) ⌝ }
     ensures { λ r. ⌜ OfSlot (now (state .entry)) i (λ f x. foundOf r ≡ getElem? (filteredSiblings (filterOf filter (view (now (state .entry)))) side f x) count) ⌝ }
 {
     let focused = filters_plain::focused_slot(state);
-    let start = iterators_shown::shown_sibling(state, focused, filter, side, i);
-    let slot = iterators_shown::listed_at(state, focused, filter, side, start, count);
+    let start = iterators_shown::shown_sibling(state, parents, focused, filter, side, i);
+    let slot = iterators_shown::listed_at(
+        state,
+        parents,
+        focused,
+        filter,
+        start.known,
+        side,
+        start.place,
+        count,
+    );
     if state_array::slots(state) <= slot {
         return FoundNode::Nothing;
     }

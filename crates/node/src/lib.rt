@@ -122,7 +122,8 @@ pub struct CountsAnswer {
 pub fn read(state: &State, id: FullNodeId) -> NodeReading
     ensures { λ r. ⌜ r ≡ reading (view (now (state .entry)) .forest) id ⌝ }
 {
-    let node = node_asked::asked(state, id);
+    let mut parents = [0u16; 320];
+    let node = node_asked::asked(state, id, &mut parents);
     if node.number != 0 {
         return no_reading(node.number);
     }
@@ -133,7 +134,8 @@ pub fn read(state: &State, id: FullNodeId) -> NodeReading
 pub fn label<'a, 'b>(state: &'a State, id: FullNodeId, out: &'b mut [u8]) -> ListAnswer
     ensures { λ r. ⌜ Labels (view (now (state .entry)) .forest) id (now (out .entry)) r (now (out .exit)) ⌝ }
 {
-    let node = node_asked::asked(state, id);
+    let mut parents = [0u16; 320];
+    let node = node_asked::asked(state, id, &mut parents);
     if node.number != 0 {
         return ListAnswer {
             number: node.number,
@@ -155,7 +157,8 @@ pub fn label<'a, 'b>(state: &'a State, id: FullNodeId, out: &'b mut [u8]) -> Lis
 pub fn parent(state: &State, id: FullNodeId) -> NodeAnswer
     ensures { λ r. ⌜ r ≡ parentAnswer (view (now (state .entry)) .forest) id ⌝ }
 {
-    let node = node_asked::asked(state, id);
+    let mut parents = [0u16; 320];
+    let node = node_asked::asked(state, id, &mut parents);
     if node.number != 0 {
         return NodeAnswer {
             number: node.number,
@@ -164,7 +167,7 @@ pub fn parent(state: &State, id: FullNodeId) -> NodeAnswer
     }
     NodeAnswer {
         number: 0,
-        node: own::node_at(state, node_links::parent_slot(state, node.slot)),
+        node: own::node_at(state, node_links::parent_slot(state, &parents, node.slot)),
     }
 }
 
@@ -172,7 +175,8 @@ pub fn parent(state: &State, id: FullNodeId) -> NodeAnswer
 pub fn children<'a, 'b>(state: &'a State, id: FullNodeId, out: &'b mut [u64]) -> ListAnswer
     ensures { λ r. ⌜ Children (view (now (state .entry)) .forest) id (now (out .entry)) r (now (out .exit)) ⌝ }
 {
-    let node = node_asked::asked(state, id);
+    let mut parents = [0u16; 320];
+    let node = node_asked::asked(state, id, &mut parents);
     if node.number != 0 {
         return ListAnswer {
             number: node.number,
@@ -194,7 +198,8 @@ pub fn children<'a, 'b>(state: &'a State, id: FullNodeId, out: &'b mut [u64]) ->
 pub fn is_hidden(state: &State, id: FullNodeId) -> HiddenAnswer
     ensures { λ r. ⌜ r ≡ hiddenAnswer (view (now (state .entry)) .forest) id ⌝ }
 {
-    let node = node_asked::asked(state, id);
+    let mut parents = [0u16; 320];
+    let node = node_asked::asked(state, id, &mut parents);
     if node.number != 0 {
         return HiddenAnswer {
             number: node.number,
@@ -203,7 +208,7 @@ pub fn is_hidden(state: &State, id: FullNodeId) -> HiddenAnswer
     }
     HiddenAnswer {
         number: 0,
-        hidden: node_links::is_hidden(state, node.slot),
+        hidden: node_links::is_hidden(state, &parents, node.slot),
     }
 }
 
@@ -211,7 +216,8 @@ pub fn is_hidden(state: &State, id: FullNodeId) -> HiddenAnswer
 pub fn transform(state: &State, id: FullNodeId) -> TransformAnswer
     ensures { λ r. ⌜ r ≡ transformAnswer (view (now (state .entry)) .forest) id ⌝ }
 {
-    let node = node_asked::asked(state, id);
+    let mut parents = [0u16; 320];
+    let node = node_asked::asked(state, id, &mut parents);
     if node.number != 0 {
         return TransformAnswer {
             number: node.number,
@@ -220,7 +226,7 @@ pub fn transform(state: &State, id: FullNodeId) -> TransformAnswer
     }
     TransformAnswer {
         number: 0,
-        transform: node_links::transform_of(state, node.slot),
+        transform: node_links::transform_of(state, &parents, node.slot),
     }
 }
 
@@ -228,7 +234,8 @@ pub fn transform(state: &State, id: FullNodeId) -> TransformAnswer
 pub fn bounding_box(state: &State, id: FullNodeId) -> BoxAnswer
     ensures { λ r. ⌜ r ≡ boxAnswer (view (now (state .entry)) .forest) id ⌝ }
 {
-    let node = node_asked::asked(state, id);
+    let mut parents = [0u16; 320];
+    let node = node_asked::asked(state, id, &mut parents);
     if node.number != 0 {
         return BoxAnswer {
             number: node.number,
@@ -237,7 +244,7 @@ pub fn bounding_box(state: &State, id: FullNodeId) -> BoxAnswer
     }
     BoxAnswer {
         number: 0,
-        bounding_box: node_links::bounding_box(state, node.slot),
+        bounding_box: node_links::bounding_box(state, &parents, node.slot),
     }
 }
 

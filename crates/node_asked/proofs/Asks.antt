@@ -8,7 +8,6 @@ use native.Mathlib.Omega.{arith}
 use borrow.Author.Tests.{lt-ltb, le-ltb}
 use Rattle.base.specs.Search.{First}
 use Rattle.base.proofs.Tables.{first-holds, first-passes, first-none}
-use Rattle.base.proofs.Tests.{joined}
 use Rattle.ids.specs.Ids.{sameId}
 use Rattle.ids.proofs.Ids.{same-id→≡, same-id-refl}
 use Rattle.ids.specs.declared.FullNodeId.{FullNodeId}

@@ -10,10 +10,10 @@ pub struct AskedNode {
 }
 
 // Where the node stands, in any state.
-pub fn asked(state: &State, id: FullNodeId) -> AskedNode
+pub fn asked<'a, 'b>(state: &'a State, id: FullNodeId, parents: &'b mut [u16]) -> AskedNode
     ensures { λ r. ⌜ Asks (now (state .entry)) id r ⌝ }
 {
-    if !state_sound::sound(state) {
+    if !state_sound::sound_noting(state, parents) {
         return AskedNode { number: 1, slot: 0 };
     }
     let slot = state_lookup::slot_of(state, id);

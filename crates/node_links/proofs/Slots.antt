@@ -10,7 +10,7 @@ use native.Mathlib.Omega.{arith}
 use borrow.Author.Tests.{lt-ltb, le-ltb, ltb-true}
 use Rattle.base.specs.Tests.{isSome}
 use Rattle.base.specs.Search.{First}
-use Rattle.base.proofs.Tests.{joined, clash}
+use Rattle.base.proofs.Tests.{clash}
 use Rattle.ids.proofs.Ids.{same-id→≡, same-id-refl}
 use Rattle.ids.specs.declared.FullNodeId.{FullNodeId}
 use Rattle.state.specs.State.{find, present}

@@ -1,9 +1,11 @@
 -- What a node has from its ancestors, one climb at a time: the hidden flag, the transform, the box. Assumes nothing.
 use mathlib.Core.Bool.{true, false}
 use mathlib.Core.List.{List, [], _∷_}
-use mathlib.Core.Path.{_≡_, refl, sym, ap}
+use mathlib.Core.Option.{none, some}
+use mathlib.Core.Path.{_≡_, refl, sym, ap, _∙_}
 use Prim.Native.Nat.{ℕ, _-_, _/_, _%_, _≤_, _<_}
 use native.Mathlib.Nat.{div-one}
+use native.Mathlib.Decide.{decLt}
 use native.Mathlib.Omega.{arith}
 use lib.Dec.{eqb}
 use lib.ListN.{length}
@@ -22,7 +24,7 @@ use Rattle.questions.specs.Links.{ancestors, hiddenAt, isHidden}
 use Rattle.questions.specs.Boxes.{directTransform, transformsAbove, transform, rawBounds, boundingBox}
 use Rattle.questions.proofs.Links.{ancestors-end, ancestors-step, ancestors-few}
 use Rattle.node_links.specs.Slots.{Sound, slotId}
-use Rattle.node_links.proofs.Slots.{slot-shape, slot-found, slot-present}
+use Rattle.node_links.proofs.Slots.{slot-id-some, slot-id-none, slot-shape, slot-found, slot-present}
 use Rattle.node_links.proofs.Links.{unlinked, linked}
 
 module _ (s : List ℕ) (h : Sound s) (i : ℕ) (there : i < slotsOf s) where
@@ -102,3 +104,32 @@ module _ (s : List ℕ) (h : Sound s) (i : ℕ) (there : i < slotsOf s) where
         → chain t (transformsAbove f x) ≡ chain (product (directTransform f (idIn s p)) t) (transformsAbove f (idIn s p))
     unfolding chain transformsAbove
     chain-more t m = rw (more m) refl
+
+-- ## From a slot up
+
+-- a transform under those of the node in slot p and its ancestors
+unfoldable pub chainFrom : List ℕ → Affine → ℕ → Affine
+chainFrom s t p = elim (slotId s p) [ none ↦ t | some y ↦ chain (product (directTransform (view s .forest) y) t) (transformsAbove (view s .forest) y) ]
+
+module _ (s : List ℕ) (t : Affine) where
+  pub chain-past : (p : ℕ) → slotsOf s ≤ p → chainFrom s t p ≡ t
+  unfolding chainFrom
+  chain-past p l = rw (slot-id-none s p l, chainFrom) refl
+
+  chain-here : (p : ℕ) → p < slotsOf s → chainFrom s t p ≡ chain (product (directTransform (view s .forest) (idIn s p)) t) (transformsAbove (view s .forest) (idIn s p))
+  unfolding chainFrom
+  chain-here p l = rw (slot-id-some s p l, chainFrom) refl
+
+  -- from the parent of a node
+  pub chain-above : Sound s → (i p : ℕ) → i < slotsOf s → slotId s p ≡ parentAt (view s .forest .nodes) (idIn s i)
+      → chainFrom s t p ≡ chain t (transformsAbove (view s .forest) (idIn s i))
+  chain-above h i p there up = go (decLt p (slotsOf s))
+    where
+      go : Dec (p < slotsOf s) → chainFrom s t p ≡ chain t (transformsAbove (view s .forest) (idIn s i))
+      go (yes l) = chain-here p l ∙ sym (chain-more s h i there p up t l)
+      go (no l) = chain-past p (omega arith) ∙ sym (chain-top s h i there p up t (omega arith))
+
+-- one climb
+pub chain-on : (s : List ℕ) → Sound s → (t : Affine) (p q : ℕ) → p < slotsOf s → slotId s q ≡ parentAt (view s .forest .nodes) (idIn s p)
+    → chainFrom s (product (directTransform (view s .forest) (idIn s p)) t) q ≡ chainFrom s t p
+chain-on s h t p q l up = chain-above s (product (directTransform (view s .forest) (idIn s p)) t) h p q l up ∙ sym (chain-here s t p l)

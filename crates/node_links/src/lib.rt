@@ -22,14 +22,14 @@ use state_array::State;
 use state_lookup::FoundTree;
 
 // The parent's slot.
-pub fn parent_slot(state: &State, i: usize) -> usize
+pub fn parent_slot(state: &State, parents: &[u16], i: usize) -> usize
     ensures { λ r. ⌜ OfSlot (now (state .entry)) i (λ f x. slotId (now (state .entry)) r ≡ parentAt (f .nodes) x) ⌝ }
 {
     let link = state_array::link_at(state, i);
     if link.linked == 0 {
         return state_array::slots(state);
     }
-    state_lookup::slot_near(state, i, link.parent)
+    state_lookup::slot_hinted(state, state_lookup::hint_at(parents, i), link.parent)
 }
 
 // How many children there are; of a graft 1 where its tree exists, else 0.
@@ -95,22 +95,22 @@ fn last_child_slot(state: &State, i: usize) -> usize
 }
 
 // The slot of the next sibling on a side, from the recorded link and the parent's children.
-pub fn sibling_slot(state: &State, side: Side, i: usize) -> usize
+pub fn sibling_slot(state: &State, parents: &[u16], side: Side, i: usize) -> usize
     ensures { λ r. ⌜ OfSlot (now (state .entry)) i (λ f x. slotId (now (state .entry)) r ≡ head? (siblings side f x)) ⌝ }
 {
     match side {
-        Side::Following => following_slot(state, i),
-        Side::Preceding => preceding_slot(state, i),
+        Side::Following => following_slot(state, parents, i),
+        Side::Preceding => preceding_slot(state, parents, i),
     }
 }
 
 // That of the next one in order.
-fn following_slot(state: &State, i: usize) -> usize
+fn following_slot(state: &State, parents: &[u16], i: usize) -> usize
     ensures { λ r. ⌜ OfSlot (now (state .entry)) i (λ f x. slotId (now (state .entry)) r ≡ head? (siblings Following f x)) ⌝ }
 {
     let n = state_array::slots(state);
     let link = state_array::link_at(state, i);
-    let p = parent_slot(state, i);
+    let p = parent_slot(state, parents, i);
     if n <= p {
         return n;
     }
@@ -126,12 +126,12 @@ fn following_slot(state: &State, i: usize) -> usize
 }
 
 // That of the one before it.
-fn preceding_slot(state: &State, i: usize) -> usize
+fn preceding_slot(state: &State, parents: &[u16], i: usize) -> usize
     ensures { λ r. ⌜ OfSlot (now (state .entry)) i (λ f x. slotId (now (state .entry)) r ≡ head? (siblings Preceding f x)) ⌝ }
 {
     let n = state_array::slots(state);
     let link = state_array::link_at(state, i);
-    let p = parent_slot(state, i);
+    let p = parent_slot(state, parents, i);
     if n <= p {
         return n;
     }
@@ -156,14 +156,14 @@ fn child_entry(state: &State, own: NodeId, first: u64, k: usize) -> NodeId
 }
 
 // Whether the node or one of its ancestors is hidden.
-pub fn is_hidden(state: &State, i: usize) -> bool
+pub fn is_hidden(state: &State, parents: &[u16], i: usize) -> bool
     ensures { λ r. ⌜ OfSlot (now (state .entry)) i (λ f x. r ≡ isHidden f x) ⌝ }
 {
-    hidden_up(state, i, state_array::SLOTS)
+    hidden_up(state, parents, i, state_array::SLOTS)
 }
 
 // The same, asked of the parent in turn: right where there are fewer ancestors than `room`.
-fn hidden_up(state: &State, i: usize, room: usize) -> bool
+fn hidden_up(state: &State, parents: &[u16], i: usize, room: usize) -> bool
     ensures { λ r. ⌜ OfSlot (now (state .entry)) i (λ f x. (length (ancestors f x) < room → r ≡ isHidden f x)) ⌝ }
 {
     if room == 0 {
@@ -172,11 +172,11 @@ fn hidden_up(state: &State, i: usize, room: usize) -> bool
     if hidden_at(state, i) {
         return true;
     }
-    let p = parent_slot(state, i);
+    let p = parent_slot(state, parents, i);
     if state_array::slots(state) <= p {
         return false;
     }
-    hidden_up(state, p, room - 1)
+    hidden_up(state, parents, p, room - 1)
 }
 
 // The node's own hidden flag.
@@ -187,35 +187,35 @@ pub fn hidden_at(state: &State, i: usize) -> bool
 }
 
 // The bounding box: that of the node's bounds under its transform, if it has bounds.
-pub fn bounding_box(state: &State, i: usize) -> BoundingBox
+pub fn bounding_box(state: &State, parents: &[u16], i: usize) -> BoundingBox
     ensures { λ r. ⌜ OfSlot (now (state .entry)) i (λ f x. r ≡ boundingBox f x) ⌝ }
 {
     if state_array::word_at(state, state_array::FLAGS, i) / 16 % 2 != 1 {
         return BoundingBox::None;
     }
-    geometry_box::box_of(transform_of(state, i), state_array::bounds_at(state, i))
+    geometry_box::box_of(
+        transform_of(state, parents, i),
+        state_array::bounds_at(state, i),
+    )
 }
 
-// The node's transform under its ancestors'.
-pub fn transform_of(state: &State, i: usize) -> Affine
+// The node's transform under its ancestors', each multiplied on the left: right where there are fewer ancestors than room for them.
+pub fn transform_of(state: &State, parents: &[u16], i: usize) -> Affine
     ensures { λ r. ⌜ OfSlot (now (state .entry)) i (λ f x. r ≡ transform f x) ⌝ }
 {
-    transform_up(state, i, direct_transform(state, i), state_array::SLOTS)
-}
-
-// The transform `below` under those of the ancestors, each multiplied on the left: right where there are fewer ancestors than `room`.
-fn transform_up(state: &State, i: usize, below: Affine, room: usize) -> Affine
-    ensures { λ r. ⌜ OfSlot (now (state .entry)) i (λ f x. (length (ancestors f x) < room → r ≡ chain below (transformsAbove f x))) ⌝ }
-{
-    if room == 0 {
-        return below;
+    let n = state_array::slots(state);
+    let mut whole = direct_transform(state, i);
+    let mut p = parent_slot(state, parents, i);
+    let mut room = state_array::SLOTS;
+    while p < n {
+        if room == 0 {
+            return whole;
+        }
+        whole = geometry_box::product(direct_transform(state, p), whole);
+        p = parent_slot(state, parents, p);
+        room -= 1;
     }
-    let p = parent_slot(state, i);
-    if state_array::slots(state) <= p {
-        return below;
-    }
-    let above = direct_transform(state, p);
-    transform_up(state, p, geometry_box::product(above, below), room - 1)
+    whole
 }
 
 // The node's own transform.

@@ -1,7 +1,7 @@
 -- Module 8, the kept walk by worked cases: each call's number, its answer and the walk after it, every field. Derived by hand from document 01,
 -- "Filter and walks". Assumes nothing.
 use mathlib.Core.List.{List, [], _∷_}
-use mathlib.Core.Option.{Option, none, some}
+use mathlib.Core.Option.{none, some}
 use mathlib.Core.Path.{_≡_}
 use Prim.Native.Nat.{ℕ, _+_}
 use Rattle.ids.specs.declared.FullNodeId.{FullNodeId}

@@ -1,7 +1,7 @@
 -- Ids in ascending order: neighbours in order are all in order, an id stands in one slot, and bisection finds it. Assumes nothing.
 use mathlib.Core.Bool.{Bool, true, false}
 use mathlib.Core.List.{List}
-use mathlib.Core.Path.{_≡_, sym, ap, _∙_}
+use mathlib.Core.Path.{_≡_, refl, sym, ap, _∙_}
 use Prim.Native.Nat.{ℕ, zero, suc, _+_, _-_, _/_, _≤_, _<_}
 use native.Mathlib.Nat.{le-of-lt}
 use native.Mathlib.Numerals.{add-one}
@@ -68,39 +68,36 @@ module _ (id : ℕ → FullNodeId) (n : ℕ) (up : ascend n id ≡ true) where
 
 -- ## Bisection
 
--- The slot of x is looked for between `low` and `high`: in order, the slots below `low` stand before x, and those from `high` on do not.
-pub record Bisected (n : ℕ) (id : ℕ → FullNodeId) (x : FullNodeId) (low high : ℕ) : Type 0 where
-  pub order : low ≤ high
-  pub within : high ≤ n
+-- In order, the slots below `low` stand before x, and those from `low + left` on do not.
+pub record Bisected (n : ℕ) (id : ℕ → FullNodeId) (x : FullNodeId) (low left : ℕ) : Type 0 where
+  pub within : low + left ≤ n
   pub under : ascend n id ≡ true → (k : ℕ) → k < low → before (id k) x ≡ true
-  pub over : ascend n id ≡ true → (k : ℕ) → high ≤ k → k < n → before (id k) x ≡ false
+  pub over : ascend n id ≡ true → (k : ℕ) → low + left ≤ k → k < n → before (id k) x ≡ false
 
 module _ {n : ℕ} {id : ℕ → FullNodeId} {x : FullNodeId} where
   pub bisect-start : Bisected n id x 0 n
-  bisect-start = record { order = omega arith; within = omega arith; under = λ up k h. absurd (omega arith); over = λ up k h l. absurd (omega arith) }
+  bisect-start = record { within = omega arith; under = λ up k h. absurd (omega arith); over = λ up k h l. absurd (omega arith) }
 
-  -- the id y of the middle slot stands before x, or does not
-  module _ {low high : ℕ} (b : Bisected n id x low high) (apart : low < high) {y : FullNodeId} (is : y ≡ id (low + (high - low) / 2)) {r : Bool}
+  -- the id y of the slot in the middle stands before x, or does not
+  module _ {low left : ℕ} (b : Bisected n id x low left) (more : 1 < left) {y : FullNodeId} (is : y ≡ id (low + left / 2 - 1)) {r : Bool}
       (test : r ≡ before y x) where
     middle : ℕ
-    middle = low + (high - low) / 2
+    middle = low + left / 2 - 1
 
-    pub bisect-low : r ≡ true → Bisected n id x (low + (high - low) / 2 + 1) high
+    pub bisect-low : r ≡ true → Bisected n id x (low + left / 2) (left - left / 2)
     unfolding middle
     bisect-low e = record {
-      order = omega arith;
-      within = b .within;
+      within = omega (arith, b .within);
       under = λ up k l. before-slot id n up x middle k (omega (arith, b .within)) (rw is at (sym test ∙ e)) (omega arith);
-      over = b .over;
+      over = λ up k l h. b .over up k (omega arith) h;
     }
 
-    pub bisect-high : r ≡ false → Bisected n id x low (low + (high - low) / 2)
+    pub bisect-high : r ≡ false → Bisected n id x low (left - left / 2)
     unfolding middle
     bisect-high e = record {
-      order = omega arith;
       within = omega (arith, b .within);
       under = b .under;
-      over = λ up k l h. refuted (λ q. clash (rw is at (sym test ∙ e)) (before-slot id n up x k middle h q l));
+      over = λ up k l h. refuted (λ q. clash (rw is at (sym test ∙ e)) (before-slot id n up x k middle h q (omega arith)));
     }
 
   -- a slot where the id stands; m is n, in the contract
@@ -110,12 +107,25 @@ module _ {n : ℕ} {id : ℕ → FullNodeId} {x : FullNodeId} where
       let there = both (sym test ∙ q) in
       rw (← e) (record { within = le-of-lt (ltb-true i n (there .0)); hit = λ _. there .1; first = λ up. stands-first id n up x i (ltb-true i n (there .0)) (there .1) })
 
-  -- no slot
-  pub slot-none : {low high m : ℕ} {r : Bool} → Bisected n id x low high → high ≤ low → r ≡ inSlot n id x low → n ≡ m → r ≡ false → SlotAmong m id x n
-  slot-none {low} b l test e q = rw (← e) (record {
+  -- no slot: the last one left stands before the id, or none does from it on
+  nowhere : {low left : ℕ} → Bisected n id x low left → left ≤ 1 → inSlot n id x low ≡ false → inSlot n id x (low + 1) ≡ false
+      → (up : ascend n id ≡ true) → First (λ i. sameId x (id i)) n n
+  nowhere {low} b few here next up = go (before (id low) x) refl
+    where
+      go : (t : Bool) → before (id low) x ≡ t → First (λ i. sameId x (id i)) n n
+      go true q =
+          stands-nowhere id n up x (low + 1) (λ k l. by-order k low (λ m. b .under up k m) (λ m. let e : k ≡ low = omega arith in rw e q))
+          (λ k l h. b .over up k (omega arith) h) next
+      go false q =
+          stands-nowhere id n up x low (b .under up)
+          (λ k l h. by-order low k (λ m. b .over up k (omega arith) h) (λ m. let e : k ≡ low = omega arith in rw e q)) here
+
+  pub slot-none : {low left m : ℕ} {r t : Bool} → Bisected n id x low left → (1 < left → ⊥) → r ≡ inSlot n id x low → r ≡ false
+      → t ≡ inSlot n id x (low + 1) → t ≡ false → n ≡ m → SlotAmong m id x n
+  slot-none {low} b few one q two p e = rw (← e) (record {
     within = omega arith;
     hit = λ l. absurd (omega arith);
-    first = λ up. stands-nowhere id n up x low (b .under up) (λ k h. b .over up k (omega arith)) (sym test ∙ q);
+    first = nowhere b (omega arith) (sym one ∙ q) (sym two ∙ p);
   })
 
 -- ## The order of nodes

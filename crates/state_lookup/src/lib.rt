@@ -65,23 +65,53 @@ pub fn ordered(state: &State) -> bool
     true
 }
 
-// The slot of an id, or the number of slots, by bisection: right where the ids ascend.
+// The slot of an id, or the number of slots: right where the ids ascend. Where it would stand if the numbers went up by one is tried first.
 pub fn slot_of(state: &State, id: FullNodeId) -> usize
+    ensures { λ r. ⌜ SlotOf (now (state .entry)) id r ⌝ }
+{
+    slot_hinted(state, rank(state, id), id)
+}
+
+// The same, with the slot `hint` tried first.
+pub fn slot_hinted(state: &State, hint: usize, id: FullNodeId) -> usize
+    ensures { λ r. ⌜ SlotOf (now (state .entry)) id r ⌝ }
+{
+    let n = state_array::slots(state);
+    if stands(state, n, hint, id) {
+        return hint;
+    }
+    bisected(state, id)
+}
+
+// How far the id's number lies past that of the first slot.
+fn rank(state: &State, id: FullNodeId) -> usize {
+    let first = state_array::id_at(state, 0);
+    if id.node.0 < first.node.0 {
+        return 0;
+    }
+    (id.node.0 - first.node.0) as usize
+}
+
+// The same by bisection: the slots from `low` on that are `left` hold the last id that stands before `id`, if any does. A step goes no other way
+// for either answer, so that no guess of the machine's fails.
+fn bisected(state: &State, id: FullNodeId) -> usize
     ensures { λ r. ⌜ SlotOf (now (state .entry)) id r ⌝ }
 {
     let n = state_array::slots(state);
     let mut low = 0usize;
-    let mut high = n;
-    while low < high {
-        let middle = low + (high - low) / 2;
-        if ids::is_before(id_at(state, middle), id) {
-            low = middle + 1;
-        } else {
-            high = middle;
+    let mut left = n;
+    while 1 < left {
+        let half = left / 2;
+        if ids::is_before(id_at(state, low + half - 1), id) {
+            low += half;
         }
+        left -= half;
     }
     if stands(state, n, low, id) {
         return low;
+    }
+    if stands(state, n, low + 1, id) {
+        return low + 1;
     }
     n
 }
@@ -104,6 +134,26 @@ pub fn slot_near(state: &State, near: usize, id: FullNodeId) -> usize
         return near - 1;
     }
     slot_of(state, id)
+}
+
+// The slot that a list of hints has for slot i, whatever it is.
+pub fn hint_at(hints: &[u16], i: usize) -> usize {
+    if i < hints.len() {
+        hints[i] as usize
+    } else {
+        0
+    }
+}
+
+// Writes a hint for slot i.
+pub fn set_hint(hints: &mut [u16], i: usize, hint: usize) {
+    if hints.len() <= i {
+        return;
+    }
+    if 65536 <= hint {
+        return;
+    }
+    hints[i] = hint as u16;
 }
 
 // The number of the tree `id`, or how many numbers are taken where it is not there.

@@ -19,23 +19,39 @@ use state_focus::FoundNode;
 pub fn sound(state: &State) -> bool
     ensures { λ r. ⌜ r ≡ sound (view (now (state .entry)) .forest) ⌝ }
 {
+    let mut parents = [0u16; 320];
+    sound_noting(state, &mut parents)
+}
+
+// The same; `parents` gets the slot of each node's parent, as a hint.
+pub fn sound_noting<'a, 'b>(state: &'a State, parents: &'b mut [u16]) -> bool
+    ensures { λ r. ⌜ r ≡ sound (view (now (state .entry)) .forest) ⌝ }
+{
     if 256 < state_array::slots(state) {
         return false;
     }
     if 32 < state_array::trees(state) {
         return false;
     }
-    shape_is_sound(state) & state_fields::fields_are_ok(state) & focus_is_present(state)
+    shape_noting(state, parents) & state_fields::fields_are_ok(state) & focus_is_present(state)
 }
 
 // Whether its links and its trees are.
 pub fn shape_is_sound(state: &State) -> bool
     ensures { λ r. ⌜ r ≡ soundShape (view (now (state .entry)) .forest) ⌝ }
 {
+    let mut parents = [0u16; 320];
+    shape_noting(state, &mut parents)
+}
+
+// The same; `parents` gets the slot of each node's parent.
+fn shape_noting<'a, 'b>(state: &'a State, parents: &'b mut [u16]) -> bool
+    ensures { λ r. ⌜ r ≡ soundShape (view (now (state .entry)) .forest) ⌝ }
+{
     if !state_lookup::ordered(state) {
         return false;
     }
-    trees_are_sound(state) & walk::is_linked(state)
+    trees_are_sound(state) & walk::is_linked(state, parents)
 }
 
 // Whether no tree is grafted by two nodes: row 12. A tree whose low half has no mark yet is new; else the nodes before it are searched.

@@ -86,7 +86,7 @@ fn met_at(state: &State, near: usize, p: usize, j: usize, id: FullNodeId) -> usi
 
 // Whether going down from the node in slot r, which has no parent, meets every node, each recorded with its parent and place.
 // The nodes gone down from stand in `path`, the deepest last, each with the place of its next child in `nexts`.
-fn goes_down(state: &State, r: usize) -> bool
+fn goes_down<'a, 'b>(state: &'a State, r: usize, parents: &'b mut [u16]) -> bool
     requires { ⌜ (r < slotsOf (now state)) × (inOrder (now state) ≡ true) ⌝ }
     ensures { λ z. ⌜ z ≡ countedBelow (now (state .entry)) r ⌝ }
 {
@@ -109,6 +109,7 @@ fn goes_down(state: &State, r: usize) -> bool
             return false;
         }
         left -= 1;
+        state_lookup::set_hint(parents, near, p);
         nexts[top] = j + 1;
         path[depth] = near;
         nexts[depth] = 0;
@@ -118,7 +119,7 @@ fn goes_down(state: &State, r: usize) -> bool
 }
 
 // Whether going down from ROOT's root, which has no parent, meets each node once, by its recorded link.
-pub(crate) fn is_linked(state: &State) -> bool
+pub(crate) fn is_linked<'a, 'b>(state: &'a State, parents: &'b mut [u16]) -> bool
     requires { ⌜ inOrder (now state) ≡ true ⌝ }
     ensures { λ z. ⌜ z ≡ countedAll (now (state .entry)) ⌝ }
 {
@@ -137,5 +138,5 @@ pub(crate) fn is_linked(state: &State) -> bool
     if l.linked != 0 {
         return false;
     }
-    goes_down(state, r)
+    goes_down(state, r, parents)
 }

@@ -21,16 +21,16 @@ use Rattle.state_array.proofs.slots.Reads as slots-reads
 use Rattle.filters.proofs.+common_filter_up.{statement}
 use Rattle.filters.proofs.+common_filter_up.Tie.{close}
 
-abbrev μ-common-filter-up : Measures 1 common-filter-up-kinds.ps ℕ
-μ-common-filter-up κs a = length (ancestors (view (a .0 .now) .forest) (idIn (a .0 .now) (a .1 .1 .0)))
+abbrev μ-common-filter-up : Measures 2 common-filter-up-kinds.ps ℕ
+μ-common-filter-up κs a = length (ancestors (view (a .0 .now) .forest) (idIn (a .0 .now) (a .1 .1 .1 .0)))
 
-abbrev common-filter-up-at : ℕ → In 1 common-filter-up-kinds.ps
+abbrev common-filter-up-at : ℕ → In 2 common-filter-up-kinds.ps
 common-filter-up-at t =
-    and 1 common-filter-up-kinds.ps (is 1 common-filter-up-kinds.ps μ-common-filter-up t) common-filter-up.Pre
+    and 2 common-filter-up-kinds.ps (is 2 common-filter-up-kinds.ps μ-common-filter-up t) common-filter-up.Pre
 
-abbrev common-filter-up-below : ℕ → In 1 common-filter-up-kinds.ps
+abbrev common-filter-up-below : ℕ → In 2 common-filter-up-kinds.ps
 common-filter-up-below t =
-    and 1 common-filter-up-kinds.ps (falls 1 common-filter-up-kinds.ps _<_ μ-common-filter-up t) common-filter-up.Pre
+    and 2 common-filter-up-kinds.ps (falls 2 common-filter-up-kinds.ps _<_ μ-common-filter-up t) common-filter-up.Pre
 
 -- what the calls ask and give
 abbrev calls : ℕ → common-filter-up-lts.Claims
@@ -50,12 +50,12 @@ calls t = (
 )
 
 returns : (t : ℕ) → common-filter-up-lts.Need-returns (calls t) (common-filter-up-at t) common-filter-up.Post
-returns t c = let u = c .before .pre .1 in common-focused _ (u .is-sound) _ (u .focus) _ (u .within) (sym (c .if1 .taken))
+returns t c = let u = c .before .before .pre .1 in common-focused _ (u .is-sound) _ (u .focus) _ (u .within) (sym (c .if1 .taken))
 
 returns-2 : (t : ℕ) → common-filter-up-lts.Need-returns-2 (calls t) (common-filter-up-at t) common-filter-up.Post
 returns-2 t c =
     let g = c .before .before in
-    let u = g .before .pre .1 in
+    let u = g .before .before .pre .1 in
     common-transparent _ (u .is-sound) _ (u .focus) _ (u .within) (λ e. g .if1 .left (sym e)) (u .shown)
     (sym (c .before .is-transparent .ensures (u .is-sound) (u .within)) ∙ c .if2 .taken)
 
@@ -63,7 +63,7 @@ returns-3 : (t : ℕ) → common-filter-up-lts.Need-returns-3 (calls t) (common-
 returns-3 t c =
     let k = c .before .before .before in
     let g = k .before .before in
-    let u = g .before .pre .1 in
+    let u = g .before .before .pre .1 in
     common-root _ (u .is-sound) _ (u .focus) _ (u .within) (λ e. g .if1 .left (sym e)) (u .shown)
     (sym (k .before .is-transparent .ensures (u .is-sound) (u .within)) ∙ k .if2 .left) _ (c .before .before .parent-slot .ensures (u .is-sound) (u .within))
     (rw (c .before .slots .ensures) at (c .if3 .taken))
@@ -71,24 +71,24 @@ returns-3 t c =
 common-filter-up-requires : (t : ℕ) → common-filter-up-lts.Need-common-filter-up-requires (calls t) (common-filter-up-at t) common-filter-up.Post
 common-filter-up-requires t c κs =
     let start = c .before .before .before .before .before .before in
-    let u = start .pre .1 in
+    let u = start .before .pre .1 in
     let up = c .before .before .parent-slot .ensures (u .is-sound) (u .within) in
     let l = rw (c .before .slots .ensures) at (c .if3 .left) in
-    (omega (arith, start .pre .0, parent-nearer _ _ _ u _ up l), parent-unhidden _ _ _ u _ up l)
+    (omega (arith, start .before .pre .0, parent-nearer _ _ _ u _ up l), parent-unhidden _ _ _ u _ up l)
 
 returns-4 : (t : ℕ) → common-filter-up-lts.Need-returns-4 (calls t) (common-filter-up-at t) common-filter-up.Post
 returns-4 t c =
     let m = c .before .before .before in
     let k = m .before .before .before in
     let g = k .before .before in
-    let u = g .before .pre .1 in
+    let u = g .before .before .pre .1 in
     common-dropped _ (u .is-sound) _ (u .focus) _ (u .within) (λ e. g .if1 .left (sym e)) (u .shown)
     (sym (k .before .is-transparent .ensures (u .is-sound) (u .within)) ∙ k .if2 .left) _ (m .before .before .parent-slot .ensures (u .is-sound) (u .within))
     (rw (m .before .slots .ensures) at (m .if3 .left)) _ (c .before .before .common-filter-up .ensures)
     (sym (c .before .is-exclude-subtree .ensures) ∙ c .if4 .taken)
 
 is-clipped-requires : (t : ℕ) → common-filter-up-lts.Need-is-clipped-requires (calls t) (common-filter-up-at t) common-filter-up.Post
-is-clipped-requires t c κs = c .before .before .before .before .before .before .before .before .before .pre .1
+is-clipped-requires t c κs = c .before .before .before .before .before .before .before .before .before .before .pre .1
 
 returns-5 : (t : ℕ) → common-filter-up-lts.Need-returns-5 (calls t) (common-filter-up-at t) common-filter-up.Post
 returns-5 t c =
@@ -96,7 +96,7 @@ returns-5 t c =
     let m = d .before .before .before in
     let k = m .before .before .before in
     let g = k .before .before in
-    let u = g .before .pre .1 in
+    let u = g .before .before .pre .1 in
     let plain = sym (k .before .is-transparent .ensures (u .is-sound) (u .within)) ∙ k .if2 .left in
     common-clipped _ (u .is-sound) _ (u .focus) _ (u .within) (λ e. g .if1 .left (sym e)) (u .shown) plain _ (m .before .before .parent-slot .ensures (u .is-sound) (u .within))
     (rw (m .before .slots .ensures) at (m .if3 .left)) _ (d .before .before .common-filter-up .ensures)
@@ -109,7 +109,7 @@ returns-6 t c =
     let m = d .before .before .before in
     let k = m .before .before .before in
     let g = k .before .before in
-    let u = g .before .pre .1 in
+    let u = g .before .before .pre .1 in
     let plain = sym (k .before .is-transparent .ensures (u .is-sound) (u .within)) ∙ k .if2 .left in
     common-included _ (u .is-sound) _ (u .focus) _ (u .within) (λ e. g .if1 .left (sym e)) (u .shown) plain _ (m .before .before .parent-slot .ensures (u .is-sound) (u .within))
     (rw (m .before .slots .ensures) at (m .if3 .left)) _ (d .before .before .common-filter-up .ensures)

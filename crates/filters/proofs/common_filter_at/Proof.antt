@@ -7,7 +7,7 @@ use Rattle.filters.proofs.common_filter_at.Statement.{statement}
 use Rattle.filters.proofs.common_filter_at.Tie as tie
 
 returns : tie.Need-returns
-returns c = λ sound there. common-focused _ sound _ (c .before .pre .1) _ there (c .if1 .taken)
+returns c = λ sound there. common-focused _ sound _ (c .before .before .pre .1) _ there (c .if1 .taken)
 
 returns-2 : tie.Need-returns-2
 returns-2 c = λ sound there. absurd (omega (arith, c .before .slots .ensures))
@@ -15,14 +15,14 @@ returns-2 c = λ sound there. absurd (omega (arith, c .before .slots .ensures))
 returns-3 : tie.Need-returns-3
 returns-3 c = λ sound there.
     let g = c .before .before .before .before in
-    common-hidden _ sound _ (g .before .pre .1) _ there (g .if1 .left) (sym (c .before .is-hidden .ensures sound there) ∙ c .if3 .taken)
+    common-hidden _ sound _ (g .before .before .pre .1) _ there (g .if1 .left) (sym (c .before .is-hidden .ensures sound there) ∙ c .if3 .taken)
 
 common-filter-up-requires : tie.Need-common-filter-up-requires
 common-filter-up-requires c κs =
     let g = c .before .before .before .before in
-    let sound = g .before .pre .0 in
+    let sound = g .before .before .pre .0 in
     let there = rw (c .before .before .before .slots .ensures) at (c .before .before .if2 .left) in
-    record { is-sound = sound; focus = g .before .pre .1; within = there; shown = sym (c .before .is-hidden .ensures sound there) ∙ c .if3 .left }
+    record { is-sound = sound; focus = g .before .before .pre .1; within = there; shown = sym (c .before .is-hidden .ensures sound there) ∙ c .if3 .left }
 
 returns-4 : tie.Need-returns-4
 returns-4 c = λ sound there. c .common-filter-up .ensures

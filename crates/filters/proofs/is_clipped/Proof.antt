@@ -7,17 +7,17 @@ use Rattle.filters.proofs.is_clipped.Statement.{statement}
 use Rattle.filters.proofs.is_clipped.Tie as tie
 
 included-above-requires : tie.Need-included-above-requires
-included-above-requires c κs = (c .pre .is-sound, c .pre .focus)
+included-above-requires c κs = (c .before .pre .is-sound, c .before .pre .focus)
 
 returns : tie.Need-returns
 returns c = λ sound there plain.
-    let u = c .before .before .before .pre in
+    let u = c .before .before .before .before .pre in
     clipped-none _ _ _ u plain _ (c .before .before .included-above .ensures sound there (u .shown)) (rw (c .before .slots .ensures) at (c .if1 .taken))
 
 returns-2 : tie.Need-returns-2
 returns-2 c = λ sound there plain.
     let g = c .before .before in
-    let u = g .before .before .before .pre in
+    let u = g .before .before .before .before .pre in
     let l = rw (g .before .slots .ensures) at (g .if1 .left) in
     clipped-open _ _ _ u plain _ (g .before .before .included-above .ensures sound there (u .shown)) l
     (call-false (c .before .clips-children .ensures sound l) (c .if2 .taken))
@@ -26,7 +26,7 @@ returns-3 : tie.Need-returns-3
 returns-3 c = λ sound there plain.
     let k = c .before .before .before .before in
     let g = k .before .before in
-    let u = g .before .before .before .pre in
+    let u = g .before .before .before .before .pre in
     let l = rw (g .before .slots .ensures) at (g .if1 .left) in
     clipped-inside _ _ _ u plain _ (g .before .before .included-above .ensures sound there (u .shown)) l
     (call-true (k .before .clips-children .ensures sound l) (k .if2 .left)) _ _ (c .before .before .bounding-box2 .ensures sound there)
@@ -35,7 +35,7 @@ returns-3 c = λ sound there plain.
 
 is-first-sibling-requires : tie.Need-is-first-sibling-in-parent-bbox-requires
 is-first-sibling-requires c κs =
-    let u = c .before .before .before .before .before .before .before .before .before .pre in
+    let u = c .before .before .before .before .before .before .before .before .before .before .pre in
     (u .is-sound, u .focus)
 
 returns-4 : tie.Need-returns-4
@@ -43,7 +43,7 @@ returns-4 c = λ sound there plain.
     let m = c .before .before in
     let k = m .before .before .before .before in
     let g = k .before .before in
-    let u = g .before .before .before .pre in
+    let u = g .before .before .before .before .pre in
     let l = rw (g .before .slots .ensures) at (g .if1 .left) in
     clipped-next _ _ _ u plain _ (g .before .before .included-above .ensures sound there (u .shown)) l
     (call-true (k .before .clips-children .ensures sound l) (k .if2 .left)) _ _ (m .before .before .bounding-box2 .ensures sound there)
@@ -53,7 +53,7 @@ returns-4 c = λ sound there plain.
 
 is-first-sibling-requires-2 : tie.Need-is-first-sibling-in-parent-bbox-requires-2
 is-first-sibling-requires-2 c κs =
-    let u = c .before .before .before .before .before .before .before .before .before .before .before .pre in
+    let u = c .before .before .before .before .before .before .before .before .before .before .before .before .pre in
     (u .is-sound, u .focus)
 
 returns-5 : tie.Need-returns-5
@@ -61,7 +61,7 @@ returns-5 c = λ sound there plain.
     let m = c .before .before .before in
     let k = m .before .before .before .before in
     let g = k .before .before in
-    let u = g .before .before .before .pre in
+    let u = g .before .before .before .before .pre in
     let l = rw (g .before .slots .ensures) at (g .if1 .left) in
     clipped-last _ _ _ u plain _ (g .before .before .included-above .ensures sound there (u .shown)) l
     (call-true (k .before .clips-children .ensures sound l) (k .if2 .left)) _ _ (m .before .before .bounding-box2 .ensures sound there)

@@ -15,7 +15,7 @@ returns-2 c = λ sound there.
     let g = c .before .before .before in
     let l = rw (g .slots .ensures) at (c .before .before .if1 .left) in
     c .do-meet .ensures
-    ∙ ap (λ b. meet b (g .before .before .args .bbox)) (c .before .bounding-box .ensures sound l)
+    ∙ ap (λ b. meet b (g .before .before .before .args .bbox)) (c .before .bounding-box .ensures sound l)
     ∙ nearest-some _ _ _ _ _ _ (g .before .neighbour .ensures sound there) l
 
 pub is-first-sibling-in-parent-bbox-spec : {M : Type 1} → statement M

@@ -13,24 +13,24 @@ use Rattle.filters_plain.proofs.included_above.Statement.{statement}
 use Rattle.filters_plain.proofs.included_above.Tie as tie
 
 abbrev Inv-loop : tie.InvT-loop
-Inv-loop state focused i n p₀ level₀ p level =
+Inv-loop state parents focused i n p₀ level₀ p level =
     (n ≡ slotsOf state)
     × (level + length (upFrom state p) ≤ 320)
     × (i < slotsOf state → isHidden (view state .forest) (idIn state i) ≡ false → Climbed state (idIn state i) p level)
 
 abbrev μ-loop : tie.MeasureT-loop
-μ-loop state focused i n p₀ level₀ p level = length (upFrom state p)
+μ-loop state parents focused i n p₀ level₀ p level = length (upFrom state p)
 
 loop-holds : tie.Need-loop-holds Inv-loop μ-loop
 loop-holds c =
-    let sound = c .before .before .pre .0 in (
+    let sound = c .before .before .before .pre .0 in (
       c .before .slots .ensures,
       omega (arith, up-few _ sound (c .parent-slot .result)),
       λ there shown. climbed-start _ sound _ _ there shown (c .parent-slot .ensures sound there),
     )
 
 own-filter-at-requires : tie.Need-own-filter-at-requires Inv-loop μ-loop
-own-filter-at-requires c κs = c .before .before .before .before .pre .1
+own-filter-at-requires c κs = c .before .before .before .before .before .pre .1
 
 returns : tie.Need-returns Inv-loop μ-loop
 returns c = λ sound there shown.
@@ -42,7 +42,7 @@ returns c = λ sound there shown.
 next : tie.Need-loop-less Inv-loop μ-loop
 next c =
     let g = c .before .before .before .before .before in
-    let sound = g .before .before .before .pre .0 in
+    let sound = g .before .before .before .before .pre .0 in
     let m = rw (g .loop .inv .0) at (c .before .before .before .before .loop-test .taken) in
     omega (arith, ap length (up-next _ sound (g .loop .p) _ m (c .parent-slot2 .ensures sound m)))
 
@@ -52,7 +52,7 @@ add-level c = record { fits = omega arith }
 loop-again : tie.Need-loop-again Inv-loop μ-loop
 loop-again c =
     let g = c .before .before .before .before .before in
-    let sound = g .before .before .before .pre .0 in
+    let sound = g .before .before .before .before .pre .0 in
     let m = rw (g .loop .inv .0) at (c .before .before .before .before .loop-test .taken) in
     let up = c .parent-slot2 .ensures sound m in (
       g .loop .inv .0,

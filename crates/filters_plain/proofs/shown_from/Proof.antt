@@ -13,13 +13,13 @@ use Rattle.filters_plain.proofs.shown_from.Statement.{statement}
 use Rattle.filters_plain.proofs.shown_from.Tie as tie
 
 abbrev Inv-loop : tie.InvT-loop
-Inv-loop state focused side n here₀ here =
+Inv-loop state parents focused side n here₀ here =
     (n ≡ slotsOf state)
     × (flatMap (shown (ownFilter (view state)) side (view state .forest)) (metFrom side state here)
     ≡ flatMap (shown (ownFilter (view state)) side (view state .forest)) (metFrom side state here₀))
 
 abbrev μ-loop : tie.MeasureT-loop
-μ-loop state focused side n here₀ here = mass side (view state .forest) (metFrom side state here)
+μ-loop state parents focused side n here₀ here = mass side (view state .forest) (metFrom side state here)
 
 loop-holds : tie.Need-loop-holds Inv-loop μ-loop
 loop-holds c = (c .slots .ensures, refl)
@@ -30,13 +30,13 @@ returns c =
     sym (l .inv .1) ∙ listed-end _ _ _ (l .here) (rw (l .inv .0) at (c .if1 .taken))
 
 own-filter-at-requires : tie.Need-own-filter-at-requires Inv-loop μ-loop
-own-filter-at-requires c κs = c .before .before .before .pre .1
+own-filter-at-requires c κs = c .before .before .before .before .pre .1
 
 returns-2 : tie.Need-returns-2 Inv-loop μ-loop
 returns-2 c =
     let g = c .before .before .before in
     let l = g .before .loop in
-    let sound = g .before .before .before .pre .0 in
+    let sound = g .before .before .before .before .pre .0 in
     let there = rw (l .inv .0) at (g .if1 .left) in
     sym (l .inv .1)
     ∙ listed-here _ _ _ (l .here) sound there _ (c .before .before .own-filter-at .ensures sound there) (sym (c .before .is-include .ensures) ∙ c .if2 .taken)
@@ -45,7 +45,7 @@ loop-less : tie.Need-loop-less Inv-loop μ-loop
 loop-less c =
     let g = c .before .before .before .before in
     let l = g .before .loop in
-    let sound = g .before .before .before .pre .0 in
+    let sound = g .before .before .before .before .pre .0 in
     let there = rw (l .inv .0) at (g .if1 .left) in
     listed-less (ownFilter _) _ _ (l .here) sound there _ (c .before .before .before .own-filter-at .ensures sound there) _ (c .unlisted .ensures sound there)
     (sym (c .before .before .is-include .ensures) ∙ c .before .if2 .left)
@@ -54,7 +54,7 @@ loop-again : tie.Need-loop-again Inv-loop μ-loop
 loop-again c =
     let g = c .before .before .before .before in
     let l = g .before .loop in
-    let sound = g .before .before .before .pre .0 in
+    let sound = g .before .before .before .before .pre .0 in
     let there = rw (l .inv .0) at (g .if1 .left) in (
       l .inv .0,
       listed-on _ _ _ (l .here) sound there _ (c .before .before .before .own-filter-at .ensures sound there) _ (c .unlisted .ensures sound there)

@@ -10,16 +10,21 @@ use Rattle.iterators.proofs.filtered_child.Statement.{statement}
 use Rattle.iterators.proofs.filtered_child.Tie as tie
 
 returns : tie.Need-returns
-returns c = c .refused .ensures ∙ node-refused _ _ _ (c .before .before .asked .ensures .number-is) (c .before .if1 .taken)
+returns c = c .refused .ensures ∙ node-refused _ _ _ (c .before .before .before .asked .ensures .number-is) (c .before .if1 .taken)
+
+known-at-requires : tie.Need-known-at-requires
+known-at-requires c κs =
+    let sound = c .before .before .before .before .asked .ensures .stands (omega arith) .is-sound in
+    (sound, c .before .focused-slot .ensures sound)
 
 filtered-child-requires : tie.Need-filtered-child-requires
 filtered-child-requires c κs =
-    let sound = c .before .before .asked .ensures .stands (omega arith) .is-sound in
-    (sound, c .focused-slot .ensures sound)
+    let sound = c .before .before .before .before .before .before .asked .ensures .stands (omega arith) .is-sound in
+    (sound, (c .before .before .before .focused-slot .ensures sound, c .before .known-at .ensures))
 
 returns-2 : tie.Need-returns-2
 returns-2 c =
-    node-asked _ _ _ (c .before .before .before .before .asked .ensures) (omega arith) (filteredChildOn _ (filterOf _ _)) _ _ (c .before .filtered-child .ensures) (c .found .ensures)
+    node-asked _ _ _ (c .before .before .before .before .before .before .before .before .asked .ensures) (omega arith) (filteredChildOn _ (filterOf _ _)) _ _ (c .before .filtered-child .ensures .0) (c .found .ensures)
 
 pub filtered-child-spec : {M : Type 1} → statement M
-filtered-child-spec = tie.close (tie.spec (λ c κs. search needs) (λ c κs. search needs) returns (λ c κs. search needs) filtered-child-requires (λ c κs. search needs) returns-2)
+filtered-child-spec = tie.close (tie.spec (λ c. search needs) (λ c κs. search needs) (λ c κs. search needs) returns (λ c κs. search needs) (λ c. search needs) known-at-requires (λ c. search needs) filtered-child-requires (λ c κs. search needs) returns-2)

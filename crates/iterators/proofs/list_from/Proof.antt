@@ -11,5 +11,8 @@ put-requires c κs = omega (arith, c .before .before .before .collect .ensures .
 returns : tie.Need-returns
 returns c = puts-collected _ _ _ _ _ _ _ (c .before .before .before .before .before .before .collect .ensures) (c .before .before .put .ensures)
 
+collect-requires : tie.Need-collect-requires
+collect-requires c κs = let pre = c .before .before .before .pre in (pre .0, (pre .1 .0, (pre .1 .1, omega arith)))
+
 pub list-from-spec : {M : Type 1} → statement M
-list-from-spec = tie.close (tie.spec (λ c. search needs) (λ c κs. search needs) (λ c. search needs) put-requires (λ c. search needs) returns)
+list-from-spec = tie.close (tie.spec (λ c. search needs) collect-requires (λ c. search needs) put-requires (λ c. search needs) returns)

@@ -16,12 +16,12 @@ use Rattle.iterators_lists.proofs.siblings_run.Tie as tie
 
 returns : tie.Need-returns
 returns c =
-    let a = c .before .before .before .args in
-    let pre = c .before .before .before .pre in
+    let a = c .before .before .before .before .args in
+    let pre = c .before .before .before .before .pre in
     run-none (now (a .state)) (pre .0) (a .i) (pre .1) (a .side) _ (c .before .before .link-at .ensures) _ (c .if1 .taken) refl
 
 abbrev start : tie.After-child-count → tie.Start
-start c = c .before .before .before .before .before
+start c = c .before .before .before .before .before .before
 
 abbrev link : tie.After-child-count → LinkRow
 link c = c .before .before .before .before .link-at .result
@@ -49,8 +49,8 @@ run c n e =
     run-linked (now (s .args .state)) (s .pre .0) (s .args .i) (s .pre .1) (s .args .side) _ read (c .before .before .if1 .left) _ up _ refl refl
     (e ∙ ap (countBeside (s .args .side) (link c .index)) (c .child-count .ensures (s .pre .0) there))
 
-sub-t10 : tie.Need-sub-t10
-sub-t10 c = omega (arith, index-below (c .before .before))
+sub-t12 : tie.Need-sub-t12
+sub-t12 c = omega (arith, index-below (c .before .before))
 
 sub-t11 : tie.Need-sub-t11
 sub-t11 c = omega (arith, index-below (c .before .before))
@@ -74,8 +74,8 @@ siblings-run-spec =
     (λ c κs. search needs)
     (λ c κs. search needs)
     (λ c. search needs)
-    sub-t10
     sub-t11
+    sub-t12
     (λ c. search needs)
     returns-2
     returns-3)

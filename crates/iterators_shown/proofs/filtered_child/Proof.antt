@@ -6,7 +6,7 @@ use Rattle.iterators_shown.proofs.filtered_child.Statement.{statement}
 use Rattle.iterators_shown.proofs.filtered_child.Tie as tie
 
 returns : tie.Need-returns
-returns c = λ sound there. child-found _ _ sound (filterOf _ _) _ _ (c .shown-child .ensures sound there)
+returns c = (λ sound there. child-found _ _ sound (filterOf _ _) _ _ (c .shown-child .ensures .0 sound there), c .shown-child .ensures .1)
 
 pub filtered-child-spec : {M : Type 1} → statement M
 filtered-child-spec = tie.close (tie.spec (λ c κs. search needs) returns)

@@ -7,7 +7,7 @@ use Rattle.iterators_shown.proofs.filtered_parent.Statement.{statement}
 use Rattle.iterators_shown.proofs.filtered_parent.Tie as tie
 
 returns : tie.Need-returns
-returns c = λ sound there. c .included-from .ensures ∙ sym (parent-from (filterOf _ _) _ sound _ _ there (c .before .parent-slot .ensures sound there))
+returns c = λ sound there. c .nearest .ensures .0 ∙ sym (parent-from (filterOf _ _) _ sound _ _ there (c .before .parent-slot .ensures sound there))
 
 pub filtered-parent-spec : {M : Type 1} → statement M
 filtered-parent-spec = tie.close (tie.spec (λ c κs. search needs) (λ c κs. search needs) returns)

@@ -6,7 +6,7 @@ use Rattle.iterators_shown.proofs.shown_after.Statement.{statement}
 use Rattle.iterators_shown.proofs.shown_after.Tie as tie
 
 returns : tie.Need-returns
-returns c = λ sound there. ap (flatMap _) (sym (c .before .after .ensures sound there)) ∙ c .shown-from .ensures
+returns c = λ sound there. ap (flatMap _) (sym (c .before .after .ensures sound there)) ∙ c .shown-from .ensures .0
 
 pub shown-after-spec : {M : Type 1} → statement M
 shown-after-spec = tie.close (tie.spec (λ c κs. search needs) (λ c κs. search needs) returns)

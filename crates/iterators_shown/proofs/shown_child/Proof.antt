@@ -7,8 +7,10 @@ use Rattle.iterators_shown.proofs.shown_child.Statement.{statement}
 use Rattle.iterators_shown.proofs.shown_child.Tie as tie
 
 returns : tie.Need-returns
-returns c = λ sound there.
-    ap (flatMap _) (sym (met-children _ _ sound _ _ there (c .before .first-child-slot .ensures sound there))) ∙ c .shown-from .ensures
+returns c = (
+  λ sound there. ap (flatMap _) (sym (met-children _ _ sound _ _ there (c .before .first-child-slot .ensures sound there))) ∙ c .shown-from .ensures .0,
+  c .shown-from .ensures .1,
+)
 
 pub shown-child-spec : {M : Type 1} → statement M
 shown-child-spec = tie.close (tie.spec (λ c κs. search needs) (λ c κs. search needs) returns)

@@ -1,32 +1,57 @@
 -- `iterators_shown::shown_sibling` meets its contract: no ancestor is included, the nearest included one has no filtered child, or the list goes on
 -- from what is ahead. Assumes nothing.
+use denote.Ref.{now}
+use mathlib.Core.Path.{sym, _∙_}
 use native.Mathlib.Omega.{arith}
 use borrow.Author.Needs.{needs}
 use Rattle.questions.specs.Filters.{filterOf}
+use Rattle.node_links.proofs.Slots.{slot-id-some}
+use Rattle.filters_plain.proofs.Above.{upFrom}
+use Rattle.filters.proofs.Near.{first-is}
 use Rattle.iterators_shown.proofs.Shown.{siblings-orphan, siblings-childless, siblings-listed}
 use Rattle.iterators_shown.proofs.shown_sibling.Statement.{statement}
 use Rattle.iterators_shown.proofs.shown_sibling.Tie as tie
 
 returns : tie.Need-returns
-returns c = λ sound there.
-    let n = c .before .before .before .slots .ensures in
-    siblings-orphan _ _ sound (filterOf _ _) _ _ (c .before .before .climb .ensures sound there) _ (c .before .included-from .ensures) _
-    (rw n at (c .if1 .taken)) (omega (arith, n))
+returns c =
+    let n = c .before .before .before .before .slots .ensures in
+    let near = c .before .before .nearest .ensures in (
+      λ sound there.
+          siblings-orphan _ _ sound (filterOf _ _) _ _ (c .before .before .before .climb .ensures sound there) _ (near .0) _ (rw n at (c .if1 .taken)) (omega (arith, n)),
+      near .1,
+    )
+
+known-included-requires : tie.Need-known-included-requires
+known-included-requires c κs = λ l.
+    first-is (filterOf _ _) (upFrom (now (c .before .before .before .before .before .before .args .state)) (c .before .before .before .climb .result .slot)) _ (sym (c .before .before .nearest .ensures .0) ∙ slot-id-some _ _ l)
+
+filtered-child-requires : tie.Need-filtered-child-requires
+filtered-child-requires c κs = let pre = c .before .before .before .before .before .before .before .pre in (pre .0, (pre .1, c .known-included .ensures))
 
 returns-2 : tie.Need-returns-2
-returns-2 c = λ sound there.
-    let n = c .before .before .before .before .before .slots .ensures in
-    let up = rw n at (c .before .before .if1 .left) in
-    siblings-childless _ _ sound (filterOf _ _) _ _ (c .before .before .before .before .climb .ensures sound there) _
-    (c .before .before .before .included-from .ensures) _ up _ (c .before .filtered-child .ensures sound up) (rw n at (c .if2 .taken)) (omega (arith, n))
+returns-2 c =
+    let n = c .before .before .before .before .before .before .before .slots .ensures in
+    let near = c .before .before .before .before .before .nearest .ensures in
+    let up = rw n at (c .before .before .before .if1 .left) in (
+      λ sound there.
+          siblings-childless _ _ sound (filterOf _ _) _ _ (c .before .before .before .before .before .before .climb .ensures sound there) _ (near .0) _ up _ (c .before .filtered-child .ensures .0 sound up)
+          (rw n at (c .if2 .taken)) (omega (arith, n)),
+      near .1,
+    )
+
+shown-after-requires : tie.Need-shown-after-requires
+shown-after-requires c κs = let pre = c .before .before .before .before .before .before .before .before .before .pre in (pre .0, (pre .1, c .before .before .before .before .before .nearest .ensures .1))
 
 returns-3 : tie.Need-returns-3
-returns-3 c = λ sound there.
-    let n = c .before .before .before .before .before .before .slots .ensures in
-    let up = rw n at (c .before .before .before .if1 .left) in
-    siblings-listed _ _ sound (filterOf _ _) _ _ (c .before .before .before .before .before .climb .ensures sound there) _
-    (c .before .before .before .before .included-from .ensures) _ up _ (c .before .before .filtered-child .ensures sound up)
-    (rw n at (c .before .if2 .left)) (c .shown-after .ensures sound there)
+returns-3 c =
+    let n = c .before .before .before .before .before .before .before .before .slots .ensures in
+    let near = c .before .before .before .before .before .before .nearest .ensures in
+    let up = rw n at (c .before .before .before .before .if1 .left) in (
+      λ sound there.
+          siblings-listed _ _ sound (filterOf _ _) _ _ (c .before .before .before .before .before .before .before .climb .ensures sound there) _ (near .0) _ up _ (c .before .before .filtered-child .ensures .0 sound up)
+          (rw n at (c .before .if2 .left)) (c .shown-after .ensures sound there),
+      near .1,
+    )
 
 pub shown-sibling-spec : {M : Type 1} → statement M
 shown-sibling-spec =
@@ -36,7 +61,8 @@ shown-sibling-spec =
     (λ c κs. search needs)
     (λ c κs. search needs)
     returns
-    (λ c κs. search needs)
+    known-included-requires
+    filtered-child-requires
     returns-2
-    (λ c κs. search needs)
+    shown-after-requires
     returns-3)

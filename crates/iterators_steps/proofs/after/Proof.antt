@@ -11,13 +11,13 @@ use Rattle.iterators_steps.proofs.after.Statement.{statement}
 use Rattle.iterators_steps.proofs.after.Tie as tie
 
 abbrev Inv-loop : tie.InvT-loop
-Inv-loop state side n i₀ level₀ i level =
+Inv-loop state parents side n i₀ level₀ i level =
     (n ≡ slotsOf state)
     × (Sound state → i₀ < slotsOf state
     → (i < slotsOf state) × (ahead side (view state .forest) level (idIn state i) ≡ ahead side (view state .forest) level₀ (idIn state i₀)))
 
 abbrev μ-loop : tie.MeasureT-loop
-μ-loop state side n i₀ level₀ i level = level
+μ-loop state parents side n i₀ level₀ i level = level
 
 loop-holds : tie.Need-loop-holds Inv-loop μ-loop
 loop-holds c = (c .slots .ensures, λ sound there. (there, refl))

@@ -11,13 +11,13 @@ use Rattle.iterators_steps.proofs.into.Tie as tie
 
 returns : tie.Need-returns
 returns c = λ sound there.
-    let a = c .before .before .before .before .args in
+    let a = c .before .before .before .before .before .args in
     ap (λ (k : ℕ). metFrom (a .side) (now (a .state)) (record { slot = c .before .before .before .first-child-slot .result; level = k })) (c .one-more .ensures)
     ∙ step-into (a .side) _ sound (a .at .slot) (a .at .level) there _ (c .before .before .before .first-child-slot .ensures sound there) (omega arith)
 
 returns-2 : tie.Need-returns-2
 returns-2 c = λ sound there.
-    let a = c .before .before .before .before .args in
+    let a = c .before .before .before .before .before .args in
     c .after .ensures sound there
     ∙ step-childless (a .side) _ sound (a .at .slot) (a .at .level) there _ (c .before .before .before .first-child-slot .ensures sound there) (omega arith)
 

@@ -10,16 +10,16 @@ use Rattle.iterators_walk.proofs.plain_at.Tie as tie
 
 returns : tie.Need-returns
 returns c = λ sound there.
-    let a = c .before .before .before .args in
+    let a = c .before .before .before .before .args in
     let run = c .before .before .siblings-run .ensures in
     place-nothing (siblings (a .side) (view (now (a .state)) .forest) (idIn (now (a .state)) (a .i))) (a .count) (omega (arith, run .count-is, c .if1 .taken))
 
 sibling-at-requires : tie.Need-sibling-at-requires
-sibling-at-requires c κs = (c .before .before .before .pre .0, c .before .before .siblings-run .ensures .stands _ (c .if1 .left))
+sibling-at-requires c κs = (c .before .before .before .before .pre .0, c .before .before .siblings-run .ensures .stands _ (c .if1 .left))
 
 returns-2 : tie.Need-returns-2
 returns-2 c = λ sound there.
-    let a = c .before .before .before .before .args in
+    let a = c .before .before .before .before .before .args in
     place-found (siblings (a .side) (view (now (a .state)) .forest) (idIn (now (a .state)) (a .i))) (a .count) _ _ (c .sibling-at .ensures) (c .before .before .before .siblings-run .ensures .each _ (c .before .if1 .left))
 
 pub plain-at-spec : {M : Type 1} → statement M

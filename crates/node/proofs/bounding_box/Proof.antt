@@ -11,17 +11,17 @@ use Rattle.node.proofs.bounding_box.Tie as tie
 
 returns : tie.Need-returns
 returns c =
-    let n = c .before .before in
-    let a = n .before .args in
+    let n = c .before .before .before in
+    let a = n .before .before .args in
     box-refused (view (now (a .state)) .forest) (a .id) _ (n .asked .ensures .number-is) (c .if1 .taken)
 
 returns-2 : tie.Need-returns-2
 returns-2 c =
-    let z = c .before .if1 .left in
-    let n = c .before .before .before in
-    let a = n .before .args in
+    let z = c .before .before .if1 .left in
+    let n = c .before .before .before .before .before in
+    let a = n .before .before .args in
     box-given (view (now (a .state)) .forest) (a .id) (sym (n .asked .ensures .number-is) ∙ z) _
     (of-asked (now (a .state)) (a .id) _ (n .asked .ensures .stands z) (λ f x. c .bounding-box .result ≡ boundingBox f x) (c .bounding-box .ensures))
 
 pub bounding-box-spec : {M : Type 1} → statement M
-bounding-box-spec = tie.close (tie.spec (λ c κs. search needs) returns (λ c κs. search needs) returns-2)
+bounding-box-spec = tie.close (tie.spec (λ c. search needs) (λ c κs. search needs) returns (λ c. search needs) (λ c κs. search needs) returns-2)

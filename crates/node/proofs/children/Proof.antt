@@ -17,16 +17,16 @@ use Rattle.node.proofs.children.Tie as tie
 
 returns : tie.Need-returns
 returns c =
-    let n = c .before .before in
-    let a = n .before .before .args in
+    let n = c .before .before .before in
+    let a = n .before .before .before .args in
     list-refused (view (now (a .state)) .forest) (a .id) _ _ (now (a .out)) _ (n .asked .ensures .number-is) (c .if1 .taken)
 
 returns-2 : tie.Need-returns-2
 returns-2 c =
     let k = c .before in
     let z = k .before .if1 .left in
-    let n = k .before .before .before in
-    let a = n .before .before .args in
+    let n = k .before .before .before .before in
+    let a = n .before .before .before .args in
     let f = view (now (a .state)) .forest in
     let count = of-asked (now (a .state)) (a .id) _ (n .asked .ensures .stands z) (λ f x. k .child-count .result ≡ length (childIds f x)) (k .child-count .ensures) in
     list-short f (a .id) _ _ (now (a .out)) (sym (n .asked .ensures .number-is) ∙ z) (omega (arith, id-words-length (childIds f (a .id)), c .if2 .taken))
@@ -34,8 +34,8 @@ returns-2 c =
 put-children-requires : tie.Need-put-children-requires
 put-children-requires c κs =
     let k = c .before .before in
-    let n = k .before .before .before in
-    let a = n .before .before .args in
+    let n = k .before .before .before .before in
+    let a = n .before .before .before .args in
     let at = n .asked .ensures .stands (k .before .if1 .left) in
     (asked-here (now (a .state)) (a .id) _ at, (k .child-count .ensures (at .is-sound) (at .within), omega (arith, c .before .if2 .left)))
 
@@ -44,8 +44,8 @@ returns-3 c =
     let p = c .before .before in
     let k = p .before .before .before in
     let z = k .before .if1 .left in
-    let n = k .before .before .before in
-    let a = n .before .before .args in
+    let n = k .before .before .before .before in
+    let a = n .before .before .before .args in
     let f = view (now (a .state)) .forest in
     let at = n .asked .ensures .stands z in
     let count = of-asked (now (a .state)) (a .id) _ at (λ f x. k .child-count .result ≡ length (childIds f x)) (k .child-count .ensures) in
@@ -56,6 +56,7 @@ pub children-spec : {M : Type 1} → statement M
 children-spec =
     tie.close
     (tie.spec
+    (λ c. search needs)
     (λ c κs. search needs)
     returns
     (λ c κs. search needs)

@@ -13,20 +13,20 @@ use Rattle.node.proofs.parent.Tie as tie
 returns : tie.Need-returns
 unfolding parentAnswer
 returns c =
-    let n = c .before .before in
-    let a = n .before .args in
+    let n = c .before .before .before in
+    let a = n .before .before .args in
     node-refused _ (parentAt (view (now (a .state)) .forest .nodes) (a .id)) _ (n .asked .ensures .number-is) (c .if1 .taken)
 
 returns-2 : tie.Need-returns-2
 unfolding parentAnswer
 returns-2 c =
     let p = c .before in
-    let z = p .before .if1 .left in
-    let n = p .before .before .before in
-    let a = n .before .args in
+    let z = p .before .before .if1 .left in
+    let n = p .before .before .before .before .before in
+    let a = n .before .before .args in
     node-given _ (parentAt (view (now (a .state)) .forest .nodes) (a .id)) (sym (n .asked .ensures .number-is) ∙ z) _
     (c .node-at .ensures
     ∙ of-asked (now (a .state)) (a .id) _ (n .asked .ensures .stands z) (λ f x. slotId (now (a .state)) (p .parent-slot .result) ≡ parentAt (f .nodes) x) (p .parent-slot .ensures))
 
 pub parent-spec : {M : Type 1} → statement M
-parent-spec = tie.close (tie.spec (λ c κs. search needs) returns (λ c κs. search needs) (λ c κs. search needs) returns-2)
+parent-spec = tie.close (tie.spec (λ c. search needs) (λ c κs. search needs) returns (λ c. search needs) (λ c κs. search needs) (λ c κs. search needs) returns-2)

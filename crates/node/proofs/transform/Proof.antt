@@ -11,17 +11,17 @@ use Rattle.node.proofs.transform.Tie as tie
 
 returns : tie.Need-returns
 returns c =
-    let n = c .before .before .before in
-    let a = n .before .args in
+    let n = c .before .before .before .before in
+    let a = n .before .before .args in
     transform-refused (view (now (a .state)) .forest) (a .id) _ (n .asked .ensures .number-is) (c .before .if1 .taken) _ (c .no-transform .ensures)
 
 returns-2 : tie.Need-returns-2
 returns-2 c =
-    let z = c .before .if1 .left in
-    let n = c .before .before .before in
-    let a = n .before .args in
+    let z = c .before .before .if1 .left in
+    let n = c .before .before .before .before .before in
+    let a = n .before .before .args in
     transform-given (view (now (a .state)) .forest) (a .id) (sym (n .asked .ensures .number-is) ∙ z) _
     (of-asked (now (a .state)) (a .id) _ (n .asked .ensures .stands z) (λ f x. c .transform-of .result ≡ boxes.transform f x) (c .transform-of .ensures))
 
 pub transform-spec : {M : Type 1} → statement M
-transform-spec = tie.close (tie.spec (λ c κs. search needs) (λ c κs. search needs) returns (λ c κs. search needs) returns-2)
+transform-spec = tie.close (tie.spec (λ c. search needs) (λ c κs. search needs) (λ c κs. search needs) returns (λ c. search needs) (λ c κs. search needs) returns-2)

@@ -15,15 +15,15 @@ use Rattle.state_array.proofs.slots.Reads as slots-reads
 use Rattle.node_links.proofs.+hidden_up.{statement}
 use Rattle.node_links.proofs.+hidden_up.Tie.{close}
 
-abbrev μ-hidden-up : Measures 1 hidden-up-kinds.ps ℕ
-μ-hidden-up κs a = a .1 .1 .0
+abbrev μ-hidden-up : Measures 2 hidden-up-kinds.ps ℕ
+μ-hidden-up κs a = a .1 .1 .1 .0
 
-abbrev hidden-up-at : ℕ → In 1 hidden-up-kinds.ps
-hidden-up-at t = and 1 hidden-up-kinds.ps (is 1 hidden-up-kinds.ps μ-hidden-up t) hidden-up.Pre
+abbrev hidden-up-at : ℕ → In 2 hidden-up-kinds.ps
+hidden-up-at t = and 2 hidden-up-kinds.ps (is 2 hidden-up-kinds.ps μ-hidden-up t) hidden-up.Pre
 
-abbrev hidden-up-below : ℕ → In 1 hidden-up-kinds.ps
+abbrev hidden-up-below : ℕ → In 2 hidden-up-kinds.ps
 hidden-up-below t =
-    and 1 hidden-up-kinds.ps (falls 1 hidden-up-kinds.ps _<_ μ-hidden-up t) hidden-up.Pre
+    and 2 hidden-up-kinds.ps (falls 2 hidden-up-kinds.ps _<_ μ-hidden-up t) hidden-up.Pre
 
 -- what the calls ask and give
 abbrev calls : ℕ → hidden-up-lts.Claims
@@ -54,7 +54,7 @@ returns-3 t c = λ sound there few.
 
 hidden-up-requires : (t : ℕ) → hidden-up-lts.Need-hidden-up-requires (calls t) (hidden-up-at t) hidden-up.Post
 hidden-up-requires t c κs =
-    let start = c .before .before .before .before .before .before in
+    let start = c .before .before .before .before .before .before .before in
     (omega (arith, start .pre .0), start .pre .1)
 
 returns-4 : (t : ℕ) → hidden-up-lts.Need-returns-4 (calls t) (hidden-up-at t) hidden-up.Post

@@ -10,8 +10,8 @@ returns c = λ sound there.
 
 returns-2 : tie.Need-returns-2
 returns-2 c = λ sound there.
-    parent-some _ sound _ there _ (c .before .before .before .link-at .ensures) _ (c .before .if1 .left) (c .slot-near .ensures)
+    parent-some _ sound _ there _ (c .before .before .before .before .link-at .ensures) _ (c .before .before .if1 .left) (c .slot-hinted .ensures)
 
 pub parent-slot-spec : {M : Type 1} → statement M
 parent-slot-spec =
-    tie.close (tie.spec (λ c κs. search needs) (λ c κs. search needs) returns (λ c κs. search needs) returns-2)
+    tie.close (tie.spec (λ c κs. search needs) (λ c κs. search needs) returns (λ c κs. search needs) (λ c κs. search needs) returns-2)

@@ -15,4 +15,5 @@ is-linked-spec =
     (λ c κs. search needs)
     (λ c. search (needs, linked-parented))
     (λ c κs. search needs)
+    (λ c. search needs)
     (λ c. search (needs, linked-below)))

@@ -1,4 +1,4 @@
--- `iterators_lists::collect_siblings` meets its contract: the siblings passed are collected. Assumes nothing.
+-- `iterators_lists::put_siblings` meets its contract: the siblings passed are written. Assumes nothing.
 use denote.Ref.{now}
 use mathlib.Core.List.{List}
 use mathlib.Core.Path.{_≡_, refl}
@@ -11,49 +11,49 @@ use Rattle.ids.specs.declared.FullNodeId.{FullNodeId}
 use Rattle.questions.specs.declared.Side.{Side}
 use Rattle.iterators_lists.specs.Lists.{RunOf}
 use Rattle.iterators_lists.proofs.Lists.{CollectedTo, collected-none, collected-length, collected-room, collected-more, collected-all}
-use Rattle.iterators_lists.proofs.collect_siblings.Statement.{statement}
-use Rattle.iterators_lists.proofs.collect_siblings.Tie as tie
+use Rattle.iterators_lists.proofs.put_siblings.Statement.{statement}
+use Rattle.iterators_lists.proofs.put_siblings.Tie as tie
 
 -- the list
 abbrev aside : List ℕ → Side → ℕ → List FullNodeId
 aside state side i = siblings side (view state .forest) (idIn state i)
 
 abbrev Inv-loop : tie.InvT-loop
-Inv-loop state side i ids₀ run n k₀ ids k =
-    (k ≤ n) × (n ≡ run .count) × RunOf state side (aside state side i) run × CollectedTo (aside state side i) ids₀ k ids
+Inv-loop state parents side i out₀ run n k₀ out k =
+    (k ≤ n) × (n ≡ run .count) × RunOf state side (aside state side i) run × CollectedTo (aside state side i) out₀ k out
 
 abbrev μ-loop : tie.MeasureT-loop
-μ-loop state side i ids₀ run n k₀ ids k = n - k
+μ-loop state parents side i out₀ run n k₀ out k = n - k
 
 loop-holds : tie.Need-loop-holds Inv-loop μ-loop
 loop-holds c =
-    let a = c .before .before .args in
-    (omega arith, refl, c .siblings-run .ensures, collected-none (aside (now (a .state)) (a .side) (a .i)) (now (a .ids)))
+    let a = c .before .before .before .args in
+    (omega arith, refl, c .siblings-run .ensures, collected-none (aside (now (a .state)) (a .side) (a .i)) (now (a .out)))
 
 sibling-at-requires : tie.Need-sibling-at-requires Inv-loop μ-loop
-sibling-at-requires c κs = (c .before .before .before .before .before .pre .0, c .before .before .loop .inv .2 .stands _ (c .before .loop-test .taken))
+sibling-at-requires c κs = (c .before .before .before .before .before .before .pre .0, c .before .before .loop .inv .2 .stands _ (c .before .loop-test .taken))
 
 store-requires : tie.Need-store-requires Inv-loop μ-loop
 store-requires c κs =
     let l = c .before .before .before .loop in
     let s = c .before .before .before .before .before .before in
-    let a = s .args in
+    let a = s .before .args in
     let run = l .inv .2 in
-    collected-room (aside (now (a .state)) (a .side) (a .i)) (now (a .ids)) (omega (arith, run .count-is, run .few)) (s .pre .1 .1) (l .k) (l .ids) (l .inv .3) _
+    collected-room (aside (now (a .state)) (a .side) (a .i)) (now (a .out)) (omega (arith, run .count-is, run .few)) (s .before .pre .1 .1) (l .k) (l .out) (l .inv .3) _
     (run .each (l .k) (c .before .before .loop-test .taken))
 
 loop-again : tie.Need-loop-again Inv-loop μ-loop
 loop-again c =
     let l = c .before .before .before .before .before .before .loop in
     let s = c .before .before .before .before .before .before .before .before .before in
-    let a = s .args in
+    let a = s .before .args in
     let run = l .inv .2 in
     let test = c .before .before .before .before .before .loop-test .taken in (
       omega arith,
       refl,
       run,
       rw (c .before .before .store .ensures, c .before .before .before .sibling-at .ensures)
-          (collected-more (aside (now (a .state)) (a .side) (a .i)) (now (a .ids)) (omega (arith, run .count-is, run .few)) (s .pre .1 .1) (l .k) (l .ids) (l .inv .3) _
+          (collected-more (aside (now (a .state)) (a .side) (a .i)) (now (a .out)) (omega (arith, run .count-is, run .few)) (s .before .pre .1 .1) (l .k) (l .out) (l .inv .3) _
           (run .each (l .k) test)),
     )
 
@@ -61,23 +61,21 @@ same-length : tie.Need-same-length Inv-loop μ-loop
 same-length c =
     let l = c .before .loop in
     let s = c .before .before .before .before in
-    let a = s .args in
+    let a = s .before .args in
     let run = l .inv .2 in
-    collected-length (aside (now (a .state)) (a .side) (a .i)) (now (a .ids)) (omega (arith, run .count-is, run .few)) (s .pre .1 .1) (l .k) (l .ids) (l .inv .3)
+    collected-length (aside (now (a .state)) (a .side) (a .i)) (now (a .out)) (omega (arith, run .count-is, run .few)) (s .before .pre .1 .1) (l .k) (l .out) (l .inv .3)
 
 returns : tie.Need-returns Inv-loop μ-loop
 returns c =
     let l = c .before .loop in
-    let s = c .before .before .before .before in
+    let s = c .before .before .before .before .before in
     let a = s .args in
     let run = l .inv .2 in
-    let done : l .k ≡ c .before .before .siblings-run .result .count = omega (arith, l .inv .1, c .loop-test .left) in
-    rw (← done)
-    (collected-all (aside (now (a .state)) (a .side) (a .i)) (now (a .ids)) (omega (arith, run .count-is, run .few)) (s .pre .1 .1) (l .k) (l .ids) (l .inv .3)
-    (omega (arith, run .count-is)))
+    collected-all (aside (now (a .state)) (a .side) (a .i)) (now (a .out)) (omega (arith, run .count-is, run .few)) (s .pre .1 .1) (l .k) (l .out) (l .inv .3)
+    (omega (arith, run .count-is, c .loop-test .left, l .inv .1)) .words-are
 
-pub collect-siblings-spec : {M : Type 1} → statement M
-collect-siblings-spec =
+pub put-siblings-spec : {M : Type 1} → statement M
+put-siblings-spec =
     tie.close
     (tie.spec
     Inv-loop

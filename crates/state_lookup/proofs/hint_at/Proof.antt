@@ -1,0 +1,12 @@
+-- `state_lookup::hint_at` is safe: what is read fits. Assumes nothing.
+use native.Mathlib.Omega.{arith}
+use borrow.Author.Needs.{needs}
+use Rattle.state_lookup.proofs.hint_at.Statement.{statement}
+use Rattle.state_lookup.proofs.hint_at.Tie as tie
+
+cast-result : tie.Need-cast-result
+cast-result c = omega (arith, c .shared-slice-known .given (c .before .before .args .i))
+
+pub hint-at-spec : {M : Type 1} → statement M
+hint-at-spec =
+    tie.close (tie.spec (λ c. search needs) (λ c. search needs) cast-result (λ c. search needs) (λ c. search needs))
