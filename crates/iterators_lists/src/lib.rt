@@ -3,8 +3,9 @@
 ghost use mathlib.Core.Path.{_≡_};
 ghost use Prim.Native.Nat.{_*_, _+_, _<_, _≤_};
 ghost use lib.ListN.{length, set};
+ghost use Rattle.ids.specs.Ids.{idWords};
 ghost use Rattle.state_array.specs.View.{idIn, slotsOf, view};
-ghost use Rattle.questions.specs.Answers.{idWords, written};
+ghost use Rattle.questions.specs.Answers.{written};
 ghost use Rattle.questions.specs.Links.{siblings};
 ghost use Rattle.node_links.specs.Slots.{Sound};
 ghost use Rattle.iterators_lists.specs.Lists.{InRun, inRun, RunOf};

@@ -4,11 +4,12 @@ use mathlib.Core.Path.{sym, ap, _∙_}
 use native.Mathlib.Omega.{arith}
 use lib.ListN.{length}
 use borrow.Author.Needs.{needs}
+use Rattle.ids.specs.Ids.{idWords}
 use Rattle.ids.specs.declared.FullNodeId.{FullNodeId}
+use Rattle.ids.proofs.Ids.{id-words-length}
 use Rattle.state_array.specs.View.{view}
-use Rattle.questions.specs.Answers.{idWords, written}
+use Rattle.questions.specs.Answers.{written}
 use Rattle.questions.specs.Links.{siblings}
-use Rattle.questions.proofs.Slices.{words-length}
 use Rattle.node.proofs.Answers.{list-refused, list-short, list-written}
 use Rattle.iterators.proofs.siblings.Statement.{statement}
 use Rattle.iterators.proofs.siblings.Tie as tie
@@ -27,7 +28,7 @@ returns-2 c =
     let xs = siblings (a .side) (view (now (a .state)) .forest) (a .id) in
     let count = rw (n .asked .ensures .stands z .id-is) at (c .before .before .siblings-run .ensures .count-is) in
     rw (c .no-list2 .ensures)
-    (list-short _ (a .id) (length xs) (idWords xs) (now (a .out)) (sym (n .asked .ensures .number-is) ∙ z) (omega (arith, words-length xs, count, c .before .if2 .taken)))
+    (list-short _ (a .id) (length xs) (idWords xs) (now (a .out)) (sym (n .asked .ensures .number-is) ∙ z) (omega (arith, id-words-length xs, count, c .before .if2 .taken)))
 
 put-siblings-requires : tie.Need-put-siblings-requires
 put-siblings-requires c κs =
@@ -42,7 +43,7 @@ returns-3 c =
     let at = n .asked .ensures .stands z in
     let xs = siblings (a .side) (view (now (a .state)) .forest) (a .id) in
     let count = rw (at .id-is) at (c .before .before .before .before .before .before .siblings-run .ensures .count-is) in
-    list-written _ (a .id) (length xs) (idWords xs) (now (a .out)) (sym (n .asked .ensures .number-is) ∙ z) (omega (arith, words-length xs, count, c .before .before .before .before .before .if2 .left)) _ count
+    list-written _ (a .id) (length xs) (idWords xs) (now (a .out)) (sym (n .asked .ensures .number-is) ∙ z) (omega (arith, id-words-length xs, count, c .before .before .before .before .before .if2 .left)) _ count
     _ (c .before .before .put-siblings .ensures ∙ ap (λ (y : FullNodeId). written (idWords (siblings (a .side) (view (now (a .state)) .forest) y)) (now (a .out))) (at .id-is))
 
 pub siblings-spec : {M : Type 1} → statement M
