@@ -1,17 +1,17 @@
 -- A law of where a node's children end. Assumes nothing.
 use mathlib.Core.Bool.{Bool, true, false}
 use mathlib.Core.List.{List}
+use mathlib.Core.Path.{_≡_}
 use Prim.Native.Nat.{ℕ, _+_, _<_}
 use native.Mathlib.Omega.{arith}
 use lib.Dec.{ltb}
-use lib.ListN.{getD}
+use lib.ListN.{length, getD}
 use Rattle.base.specs.Tests.{if_then_else_}
 use Rattle.base.specs.Bytes.{le}
 use Rattle.base.proofs.Bytes.{le-one, le-add}
 use Rattle.record.specs.Layout.{nodeCount, recordAt}
-use Rattle.record_reader.specs.Reader.{fieldAt}
+use Rattle.record_reader.specs.Reader.{batchIn, listedAt, fieldAt}
 use Rattle.record_reader.proofs.Reader.{children-count}
-use Rattle.record_view.specs.View.{childrenEnd}
 
 module _ (s : List ℕ) (byte : (k : ℕ) → getD s k 0 < 256) where
   -- a number of two bytes is below 65536
@@ -28,5 +28,5 @@ module _ (s : List ℕ) (byte : (k : ℕ) → getD s k 0 < 256) where
       go false = omega arith
 
   -- so where a node's children end is no large number
-  pub end-small : (i : ℕ) → childrenEnd s i < 131072
-  end-small i = omega (arith, field-small i 32, children-count s i, field-small i 34)
+  pub end-small : (i : ℕ) {a n : ℕ} → a ≡ fieldAt 2 s i 32 → n ≡ length (listedAt (batchIn s) i .body .children) → a + n < 131072
+  end-small i e f = omega (arith, field-small i 32, children-count s i, field-small i 34)
