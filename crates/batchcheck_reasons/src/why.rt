@@ -202,7 +202,7 @@ fn namer(batch: &[u8], j: usize) -> usize {
     let k = record_reader::node_count(batch);
     let mut i = 0usize;
     while i < k {
-        if j < end_of(batch, i) {
+        if j < record_view::children_end(batch, i) {
             return i;
         }
         i += 1;
@@ -210,27 +210,19 @@ fn namer(batch: &[u8], j: usize) -> usize {
     k
 }
 
-// Where the children of listed node i end among the child entries.
-fn end_of(batch: &[u8], i: usize) -> usize {
-    std::num::wrapping_add_usize(
-        record_reader::first_child(batch, i),
-        record_reader::child_count(batch, i),
-    )
-}
-
 // 10 and 11: the graft node that has children, or that grafts ROOT.
 fn bad_graft(batch: &[u8], scope: Scope, n: u8) {
     let i = first_bad_graft(batch, scope.listed, n);
     let x = listed(batch, scope, i);
-    let t = record_reader::graft(batch, i);
-    tell(b"node @ grafts $", x, x, t, 0);
+    let node = record_view::read_node(batch, i);
+    tell(b"node @ grafts $", x, x, node.graft, 0);
     if n == 11 {
         put(b", which no node may graft");
         return;
     }
     put(b" and has ");
     count(
-        record_reader::child_count(batch, i) as u64,
+        node.child_count as u64,
         b" child of its own",
         b" children of its own",
     );

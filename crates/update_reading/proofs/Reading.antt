@@ -13,18 +13,17 @@ use lib.Dec.{ltb, eqb}
 use lib.ListN.{length, getD, take, length-append, set}
 use lib.Seq.{take-suc, getD-set-same, getD-set-other}
 use Rattle.base.specs.Tests.{_&&_, if_then_else_, isSome, sameOption, position}
-use Rattle.base.specs.Bytes.{le, listOf}
+use Rattle.base.specs.Bytes.{listOf}
 use Rattle.base.proofs.Tests.{and-false, and-right}
-use Rattle.base.proofs.Bytes.{le-one, le-add, length-list-of, list-of-at}
+use Rattle.base.proofs.Bytes.{length-list-of, list-of-at}
 use Rattle.ids.specs.Ids.{sameTree}
 use Rattle.ids.specs.declared.TreeId.{TreeId}
 use Rattle.ids.specs.declared.TreeIndex.{TreeIndex}
 use Rattle.ids.specs.declared.NodeId.{NodeId}
 use Rattle.record.specs.Batch.{graft?, Listed, listedIds, namedIds}
-use Rattle.record.specs.Layout.{nodeCount, recordAt}
 use Rattle.record.proofs.Batch.{listed-length, listed-at, named-append}
 use Rattle.record_reader.specs.Reader.{batchIn, noNode, noListed, listedAt, fieldAt, entriesOf}
-use Rattle.record_reader.proofs.Reader.{children-count, entries-are, first-child-is}
+use Rattle.record_reader.proofs.Reader.{entries-are, first-child-is}
 use Rattle.state.specs.State.{graftAt}
 use Rattle.state_array.specs.View.{slotsOf}
 use Rattle.update.specs.Words.{here, claim}
@@ -164,23 +163,6 @@ mark-is slot slot′ count i v w same mark law =
     mark (found .0) (found .1) ∙ sym (law (found .0) (first-cong _ _ count (found .0) (λ j l. ap (λ k. eqb k i) (same j l)) (found .1)))
 
 -- ## The record
-
--- a number of two bytes is below 65536
-le-two : (s : List ℕ) → ((k : ℕ) → getD s k 0 < 256) → (at : ℕ) → le 2 s at < 65536
-le-two s byte at = rw (le-add s at 1 1, le-one s at, le-one s (at + 1)) (omega (arith, byte at, byte (at + 1)))
-
--- so is a number of two bytes within a node record
-field-small : (s : List ℕ) → ((k : ℕ) → getD s k 0 < 256) → (i offset : ℕ) → fieldAt 2 s i offset < 65536
-unfolding fieldAt
-field-small s byte i offset = go (ltb i (nodeCount s))
-  where
-    go : (t : Bool) → (if t then le 2 s (recordAt i + offset) else 0) < 65536
-    go true = le-two s byte (recordAt i + offset)
-    go false = omega arith
-
--- so where a node's children end is no large number
-pub end-small : (s : List ℕ) → ((k : ℕ) → getD s k 0 < 256) → (i : ℕ) {a n : ℕ} → a ≡ fieldAt 2 s i 32 → n ≡ length (listedAt (batchIn s) i .body .children) → a + n < 131072
-end-small s byte i e f = omega (arith, field-small s byte i 32, children-count s i, field-small s byte i 34)
 
 -- the children that one more node names
 named-next : (ls : List Listed) (i : ℕ) (d : Listed) → i < length ls

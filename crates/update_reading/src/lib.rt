@@ -52,7 +52,7 @@ fn write_named<'a>(state: &'a State, batch: &'a [u8], scope: Scope, notes: &mut 
     let k = scope.named;
     let mut i = 0usize;
     while i < k {
-        let x = record_reader::child_entry(batch, i);
+        let x = record_view::read_entry(batch, i);
         notes[update_notes::NAMED + i] = x.0;
         i += 1;
     }

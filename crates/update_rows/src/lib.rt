@@ -58,16 +58,17 @@ pub fn start_rows(batch: &[u8]) -> Refusal
 pub fn scope_of<'a>(state: &'a State, batch: &'a [u8]) -> Scope
     ensures { λ r. ⌜ (wellFormed (now (batch .entry)) ≡ true → Scoped (view (now (state .entry)) .forest) (batchIn (now (batch .entry))) r) ⌝ }
 {
-    let id = record_reader::tree_id(batch);
+    let header = record_view::read_header(batch);
+    let id = header.tree;
     let number = state_lookup::find_tree(state, id) as u32;
     let after = root_after(state, batch);
     let root = after.node;
     Scope {
         tree: TreeIndex(number),
         is_root_tree: is_root_id(id),
-        listed: record_reader::node_count(batch),
+        listed: header.nodes,
         named: entries_of(batch),
-        with_tree_data: record_reader::has_tree_data(batch),
+        with_tree_data: header.has_tree_data,
         rooted: after.rooted,
         root,
     }
@@ -77,14 +78,16 @@ pub fn scope_of<'a>(state: &'a State, batch: &'a [u8]) -> Scope
 pub fn start_scope(batch: &[u8]) -> Scope
     ensures { λ r. ⌜ (startRows (now (batch .entry)) ≡ 0 → Scoped (seed (batchIn (now (batch .entry)))) (withoutTreeData (batchIn (now (batch .entry)))) r) ⌝ }
 {
+    let header = record_view::read_header(batch);
+    let root = header.root;
     Scope {
         tree: TreeIndex(0),
         is_root_tree: true,
-        listed: record_reader::node_count(batch),
+        listed: header.nodes,
         named: entries_of(batch),
         with_tree_data: false,
         rooted: true,
-        root: record_reader::tree_root(batch),
+        root,
     }
 }
 
@@ -289,7 +292,7 @@ fn entries_of(batch: &[u8]) -> usize
     if k < 1 {
         return 0;
     }
-    record_reader::first_child(batch, k - 1) + record_reader::child_count(batch, k - 1)
+    record_view::children_end(batch, k - 1)
 }
 
 // The number of 12's second part and of rows 15 to 20.

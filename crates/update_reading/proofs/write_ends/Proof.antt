@@ -6,7 +6,8 @@ use lib.ListN.{length}
 use Rattle.record_reader.specs.Reader.{batchIn, listedAt, fieldAt}
 use Rattle.update_notes.specs.Layout.{ENDS}
 use Rattle.update_notes.proofs.Told.{few-listed, told-filled}
-use Rattle.update_reading.proofs.Reading.{end-is, end-small}
+use Rattle.record_view.proofs.View.{end-small}
+use Rattle.update_reading.proofs.Reading.{end-is}
 use native.Mathlib.Omega.{arith}
 use borrow.Author.Needs.{needs}
 use Rattle.base.proofs.Loops.{Filling, filling-begins, filling-goes, filling-ends}

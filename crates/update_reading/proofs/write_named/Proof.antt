@@ -34,5 +34,5 @@ write-named-spec =
     (λ c. filling-begins (omega (arith, few-named)))
     (λ c κs. search needs)
     (λ c. search needs) (λ c. search needs) (λ c. search needs) (λ c. search needs) (λ c. search needs)
-    (λ c. filling-goes (c .before .before .loop .inv) (c .before .loop-test .taken) (ap (λ (x : NodeId). x .0) (c .child-entry .ensures)))
+    (λ c. filling-goes (c .before .before .loop .inv) (c .before .loop-test .taken) (ap (λ (x : NodeId). x .0) (c .read-entry .ensures)))
     returns)

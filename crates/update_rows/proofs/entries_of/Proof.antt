@@ -1,28 +1,22 @@
 -- `update_rows::entries_of` meets its contract: without nodes no children are named. Assumes nothing.
 use denote.Ref.{now}
-use mathlib.Core.Path.{_≡_, ap₂, _∙_}
+use mathlib.Core.Path.{_≡_, _∙_}
 use Prim.Native.Nat.{_+_, _-_}
 use lib.ListN.{length}
 use Rattle.record_reader.specs.Reader.{batchIn}
-use Rattle.update_reading.proofs.Reading.{end-small}
 use Rattle.update_rows.proofs.Given.{entries-none, entries-last}
 use borrow.Author.Needs.{needs}
 use native.Mathlib.Omega.{arith}
 use Rattle.update_rows.proofs.entries_of.Statement.{statement}
 use Rattle.update_rows.proofs.entries_of.Tie as tie
 
-add-result : tie.Need-add-result
-add-result c =
-    let s = now (c .before .before .before .before .before .args .batch) in
-    omega (arith, end-small s (λ k. omega (arith, c .before .before .before .before .shared-slice-known .given k)) _ (c .before .first-child .ensures) (c .child-count .ensures))
-
 returns-2 : tie.Need-returns-2
 returns-2 c =
-    let bytes = now (c .before .before .before .before .before .args .batch) in
-    let k = c .before .before .before .node-count .result in
+    let bytes = now (c .before .before .before .before .args .batch) in
+    let k = c .before .before .node-count .result in
     λ formed.
-    let last : k - 1 + 1 ≡ length (batchIn bytes .nodes) = omega (arith, c .before .before .before .node-count .ensures) in
-    ap₂ _+_ (c .before .first-child .ensures) (c .child-count .ensures) ∙ entries-last bytes formed (k - 1) last
+    let last : k - 1 + 1 ≡ length (batchIn bytes .nodes) = omega (arith, c .before .before .node-count .ensures) in
+    c .children-end .ensures ∙ entries-last bytes formed (k - 1) last
 
 pub entries-of-spec : {M : Type 1} → statement M
 entries-of-spec =
@@ -30,6 +24,5 @@ entries-of-spec =
     (tie.spec
     (λ c κs. search needs)
     (λ c formed. entries-none _ (omega (arith, c .before .node-count .ensures)))
-    (λ c κs. search needs) (λ c κs. search needs)
-    add-result
+    (λ c κs. search needs)
     returns-2)

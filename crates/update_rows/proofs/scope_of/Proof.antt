@@ -6,6 +6,7 @@ use Rattle.base.specs.Tests.{if_then_else_}
 use Rattle.ids.specs.Ids.{ROOT, sameTree}
 use Rattle.ids.specs.declared.TreeIndex.{TreeIndex}
 use Rattle.record_reader.specs.Reader.{batchIn}
+use Rattle.record_reader.specs.declared.BatchHeader.{BatchHeader}
 use Rattle.update.specs.Words.{here, withTreeData}
 use Rattle.update_notes.specs.Setting.{rootIn}
 use Rattle.update_rows.proofs.Outcomes.{number-is}
@@ -15,17 +16,18 @@ use Rattle.update_rows.proofs.scope_of.Tie as tie
 
 returns : tie.Need-returns
 unfolding withTreeData rootIn here
-returns c = let a = c .before .before .before .before .before .before .before .before .before .args in
-    let id = c .before .before .before .before .before .before .before .tree-id .ensures in
-    let after = c .before .before .before .before .before .root-after in
-    let tree = number-is (now (a .state)) (batchIn (now (a .batch))) _ (rw id at (c .before .before .before .before .before .before .find-tree .ensures)) in
+returns c = let a = c .before .before .before .before .before .before .before .before .args in
+    let header = c .before .before .before .before .before .before .read-header .ensures in
+    let id = ap (λ (h : BatchHeader). h .tree) header in
+    let after = c .before .before .before .root-after in
+    let tree = number-is (now (a .state)) (batchIn (now (a .batch))) _ (rw id at (c .before .before .before .before .find-tree .ensures)) in
     λ formed.
     record {
       tree = tree;
-      root-tree = c .before .before .before .is-root-id .ensures ∙ ap (λ t. sameTree t ROOT) id;
-      listed = c .before .before .node-count .ensures;
-      named = c .before .entries-of .ensures formed;
-      tree-data = c .has-tree-data .ensures;
+      root-tree = c .before .is-root-id .ensures ∙ ap (λ t. sameTree t ROOT) id;
+      listed = ap (λ (h : BatchHeader). h .nodes) header;
+      named = c .entries-of .ensures formed;
+      tree-data = ap (λ (h : BatchHeader). h .«has_tree_data») header;
       root = ap (λ (t : TreeIndex). if after .result .rooted then some (record { tree = t; node = after .result .node }) else none) tree ∙ after .ensures;
     }
 
@@ -35,5 +37,5 @@ scope-of-spec =
     (tie.spec
     (λ c κs. search needs) (λ c κs. search needs)
     (λ c. search needs)
-    (λ c κs. search needs) (λ c κs. search needs) (λ c κs. search needs) (λ c κs. search needs) (λ c κs. search needs)
+    (λ c κs. search needs) (λ c κs. search needs) (λ c κs. search needs)
     returns)

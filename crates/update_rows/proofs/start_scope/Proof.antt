@@ -1,7 +1,8 @@
 -- `update_rows::start_scope` meets its contract, part by part. Assumes nothing.
 use denote.Ref.{now}
-use mathlib.Core.Path.{refl, sym}
+use mathlib.Core.Path.{refl, sym, ap}
 use Rattle.record_reader.specs.Reader.{batchIn}
+use Rattle.record_reader.specs.declared.BatchHeader.{BatchHeader}
 use Rattle.update.specs.Words.{withTreeData}
 use Rattle.update.specs.Calls.{withoutTreeData}
 use Rattle.update_notes.specs.Setting.{rootIn}
@@ -14,17 +15,18 @@ use Rattle.update_rows.proofs.start_scope.Tie as tie
 returns : tie.Need-returns
 unfolding withTreeData withoutTreeData rootIn
 returns c = let bytes = now (c .before .before .before .before .args .batch) in
+    let header = c .before .before .read-header .ensures in
     λ e.
     let p = start-begun bytes e in
     record {
       tree = start-number (batchIn bytes) (p .root-tree);
       root-tree = sym (p .root-tree);
-      listed = c .before .before .node-count .ensures;
-      named = c .before .entries-of .ensures (p .formed);
+      listed = ap (λ (h : BatchHeader). h .nodes) header;
+      named = c .entries-of .ensures (p .formed);
       tree-data = refl;
-      root = rw (c .tree-root .ensures) (sym (start-root (batchIn bytes) (p .root-tree) (p .rooted)));
+      root = rw (ap (λ (h : BatchHeader). h .root) header) (sym (start-root (batchIn bytes) (p .root-tree) (p .rooted)));
     }
 
 pub start-scope-spec : {M : Type 1} → statement M
 start-scope-spec =
-    tie.close (tie.spec (λ c κs. search needs) (λ c κs. search needs) (λ c κs. search needs) returns)
+    tie.close (tie.spec (λ c κs. search needs) (λ c κs. search needs) returns)

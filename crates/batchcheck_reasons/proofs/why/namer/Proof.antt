@@ -16,8 +16,8 @@ node-count-requires c κs = search needs
 loop-holds : tie.Need-loop-holds Inv-loop μ-loop
 loop-holds c = search needs
 
-end-of-requires : tie.Need-end-of-requires Inv-loop μ-loop
-end-of-requires c κs = search needs
+children-end-requires : tie.Need-children-end-requires Inv-loop μ-loop
+children-end-requires c κs = search needs
 
 returns : tie.Need-returns Inv-loop μ-loop
 returns c = search needs
@@ -42,7 +42,7 @@ namer-spec =
     μ-loop
     node-count-requires
     loop-holds
-    end-of-requires
+    children-end-requires
     returns
     add-i
     loop-less

@@ -1,0 +1,3 @@
+mod Thin
+mod Read
+pub mod View
