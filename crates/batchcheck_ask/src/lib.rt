@@ -1,0 +1,4 @@
+// The questions that a text of `batchcheck` asks about a node, and their answers. Proved safe and ending, no more.
+pub mod answer;
+mod float;
+mod question;
