@@ -1,7 +1,7 @@
 // What a question answers, in a line or a line for each node.
-use crate::float::value;
-use crate::float::values;
 use crate::question;
+use batchcheck_floats::value;
+use batchcheck_floats::values;
 use batchcheck_nodes::print;
 use filters::FilterAnswer;
 use geometry::Affine;

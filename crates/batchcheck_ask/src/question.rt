@@ -7,7 +7,8 @@ use program_text::cursor::Cursor;
 use program_text::decimal;
 use program_text::faults;
 
-// What can be asked, by its place in `which_question`: what the node has itself or from its ancestors,
+// What can be asked, by its place in `which_question`: what a node has itself or from its ancestors (the last, 4, is its box), lists, one node (the
+// last, 15, is the deepest last filtered child), and what a filter says.
 pub(crate) const READ: u64 = 0;
 
 pub(crate) const LABEL: u64 = 1;
@@ -16,9 +17,6 @@ pub(crate) const HIDDEN: u64 = 2;
 
 pub(crate) const TRANSFORM: u64 = 3;
 
-// `box` is 4,
-
-// lists,
 pub(crate) const CHILDREN: u64 = 5;
 
 pub(crate) const FILTERED_CHILDREN: u64 = 6;
@@ -27,7 +25,6 @@ pub(crate) const SIBLINGS: u64 = 7;
 
 const FILTERED_SIBLINGS: u64 = 8;
 
-// one node,
 pub(crate) const PARENT: u64 = 9;
 
 pub(crate) const WALK: u64 = 10;
@@ -40,7 +37,6 @@ pub(crate) const LAST_CHILD: u64 = 13;
 
 pub(crate) const DEEPEST_FIRST_CHILD: u64 = 14;
 
-// `deepest-last-child` is 15; and what a filter says.
 pub(crate) const FILTER: u64 = 16;
 
 // How many there are.
@@ -204,5 +200,7 @@ fn has_side(what: u64) -> bool {
 
 // Whether a question has a filter.
 fn has_filter(what: u64) -> bool {
-    (what == FILTERED_CHILDREN) | (what == FILTERED_SIBLINGS) | ((WALK <= what) & (what < QUESTIONS))
+    (what == FILTERED_CHILDREN)
+        | (what == FILTERED_SIBLINGS)
+        | ((WALK <= what) & (what < QUESTIONS))
 }

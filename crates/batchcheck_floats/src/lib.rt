@@ -1,5 +1,5 @@
-// An f64 as a person writes it: a decimal of at most 15 digits that a text of calls would read as this very number, or, with `~` before it, the
-// nearest one.
+// How `batchcheck` prints an f64: as a decimal of at most 15 digits that a text of calls would read as this very number, or, with `~` before it,
+// as the nearest one. Proved safe and ending, no more.
 use program_text::decimal;
 use program_text::print::number;
 use program_text::print::of_number;
@@ -24,7 +24,7 @@ struct Decimal {
 }
 
 // Four numbers, a space before each.
-pub(crate) fn values(x: f64, y: f64, z: f64, w: f64) {
+pub fn values(x: f64, y: f64, z: f64, w: f64) {
     value(x);
     value(y);
     value(z);
@@ -32,7 +32,7 @@ pub(crate) fn values(x: f64, y: f64, z: f64, w: f64) {
 }
 
 // A number, a space before it.
-pub(crate) fn value(x: f64) {
+pub fn value(x: f64) {
     put(b" ");
     if x != x {
         put(b"NaN");
