@@ -26,13 +26,13 @@ struct RecordLength {
 }
 
 // Runs a call that is due on a state; its record stands in the draft, unless it is raw. A question is answered from its line.
-pub(crate) fn perform(
+pub(crate) fn perform<'a>(
     state: &mut State,
     p: Call,
     draft: &Draft,
-    line: &[u8],
+    line: &'a [u8],
     show: Show,
-    roles: &[u8; 4096],
+    roles: &'a [u8; 4096],
 ) {
     if p.kind == script::ASK {
         ask(state, line, p.line, roles);
