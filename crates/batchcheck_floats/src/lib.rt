@@ -40,16 +40,16 @@ pub fn value(x: f64) {
     }
     // 1 over -0 is negative.
     if (x < 0.0) | (1.0 / x < 0.0) {
-        put(b"-");
-        magnitude(-x);
+        magnitude(b"-", -x);
         return;
     }
-    magnitude(x);
+    magnitude(b"", x);
 }
 
-// A number that is not negative.
-fn magnitude(x: f64) {
+// A sign and a number that is not negative.
+fn magnitude(sign: &[u8], x: f64) {
     if !geometry::is_finite(x) {
+        put(sign);
         put(b"inf");
         return;
     }
@@ -57,6 +57,7 @@ fn magnitude(x: f64) {
     if !is_exactly(d, x) {
         put(b"~");
     }
+    put(sign);
     if 0 < d.up {
         number(d.digits);
         of_number(b"e#", d.up);
@@ -83,13 +84,13 @@ fn nearest(x: f64) -> Decimal {
 
 // The least power of ten by which a number is divided to have at most 15 digits before the point.
 fn divided_by(x: f64) -> u64 {
-    let mut rest = TOO_MANY;
+    let mut bound = TOO_MANY;
     let mut power: u64 = 0;
     while power < MOST_POWER {
-        if x < rest {
+        if x < bound {
             return power;
         }
-        rest = rest * 10.0;
+        bound = bound * 10.0;
         power += 1;
     }
     power

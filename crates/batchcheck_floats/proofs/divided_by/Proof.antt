@@ -5,10 +5,10 @@ use Rattle.batchcheck_floats.proofs.divided_by.Statement.{statement}
 use Rattle.batchcheck_floats.proofs.divided_by.Tie as tie
 
 abbrev Inv-loop : tie.InvT-loop
-Inv-loop x rest₀ power₀ rest power = power ≤ 308
+Inv-loop x bound₀ power₀ bound power = power ≤ 308
 
 abbrev μ-loop : tie.MeasureT-loop
-μ-loop x rest₀ power₀ rest power = 308 - power
+μ-loop x bound₀ power₀ bound power = 308 - power
 
 pub divided-by-spec : {M : Type 1} → statement M
 divided-by-spec =
