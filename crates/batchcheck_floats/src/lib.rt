@@ -1,5 +1,5 @@
 // How `batchcheck` prints an f64: as a decimal of at most 15 digits that a text of calls would read as this very number, or, with `~` before it,
-// as the nearest one. Proved safe and ending, no more.
+// as one of 15 digits near it. Proved safe and ending, no more.
 use program_text::decimal;
 use program_text::print::number;
 use program_text::print::of_number;
@@ -53,7 +53,7 @@ fn magnitude(sign: &[u8], x: f64) {
         put(b"inf");
         return;
     }
-    let d = shorter(nearest(x));
+    let d = shorter(rounded(x));
     if !is_exactly(d, x) {
         put(b"~");
     }
@@ -71,8 +71,8 @@ fn magnitude(sign: &[u8], x: f64) {
     with_point(d.digits, d.down);
 }
 
-// The decimal of 15 digits that is nearest to a number.
-fn nearest(x: f64) -> Decimal {
+// A decimal of 15 digits near a number, and the number itself where it is one and the power of ten is exact.
+fn rounded(x: f64) -> Decimal {
     let up = divided_by(x);
     let down = multiplied_by(x);
     Decimal {
