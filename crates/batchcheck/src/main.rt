@@ -1,7 +1,6 @@
-// Reads texts of calls and says, call by call, which batch is taken and which is refused, and why: docs/BATCHCHECK.md. What decides that is the
-// library `cartgravel`. Nothing of this program is proved but that it is safe and ends.
+// Reads texts of calls and says, call by call, which batch is taken and which is refused, and why; answers the questions between them:
+// docs/BATCHCHECK.md. What decides is the library `cartgravel`. Nothing of this program is proved but that it is safe and ends.
 mod perform;
-mod say;
 
 use batchcheck_calls::script;
 use batchcheck_calls::script::Call;
@@ -18,6 +17,7 @@ use program_text::roles;
 struct Options {
     quiet: bool,
     tree: bool,
+    heard: bool,
     files: usize,
     // Whether an option stands after the last file, and whether every option is known.
     late: bool,
@@ -28,7 +28,7 @@ struct Options {
 fn main() {
     let o = all_options();
     if !o.good | o.late {
-        put(b"usage: batchcheck [--quiet] [--tree] [FILE..]\n");
+        put(b"usage: batchcheck [--quiet] [--tree] [--heard] [FILE..]\n");
         return;
     }
     if o.files < 1 {
@@ -43,6 +43,7 @@ fn no_options() -> Options {
     Options {
         quiet: false,
         tree: false,
+        heard: false,
         files: 0,
         late: false,
         good: true,
@@ -74,10 +75,12 @@ fn with_argument(options: Options, i: usize) -> Options {
     }
     let quiet = check::same(word, b"--quiet");
     let tree = check::same(word, b"--tree");
+    let heard = check::same(word, b"--heard");
     o.quiet = options.quiet | quiet;
     o.tree = options.tree | tree;
+    o.heard = options.heard | heard;
     o.late = 0 < options.files;
-    o.good = options.good & (quiet | tree);
+    o.good = options.good & (quiet | tree | heard);
     o
 }
 
@@ -86,6 +89,7 @@ fn shown(o: Options) -> Show {
     Show {
         quiet: o.quiet,
         tree: o.tree,
+        heard: o.heard,
     }
 }
 

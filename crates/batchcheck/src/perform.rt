@@ -1,10 +1,12 @@
 // Runs the calls through the library, and has each printed.
-use crate::say;
-use crate::say::Seen;
+use batchcheck_ask::answer::ask;
 use batchcheck_calls::script;
 use batchcheck_calls::script::Call;
+use batchcheck_heard::items;
+use batchcheck_nodes::draw::draw;
 use batchcheck_record::draft;
 use batchcheck_record::draft::Draft;
+use batchcheck_say::Seen;
 use program_text::cursor;
 use program_text::faults;
 use program_text::lines;
@@ -14,6 +16,7 @@ use state_array::State;
 pub(crate) struct Show {
     pub(crate) quiet: bool,
     pub(crate) tree: bool,
+    pub(crate) heard: bool,
 }
 
 // How long a record is, and whether it could be read.
@@ -22,15 +25,19 @@ struct RecordLength {
     good: bool,
 }
 
-// Runs a call that is due on a state; its record stands in the draft, unless it is raw.
-pub(crate) fn perform(
+// Runs a call that is due on a state; its record stands in the draft, unless it is raw. A question is answered from its line.
+pub(crate) fn perform<'a>(
     state: &mut State,
     p: Call,
     draft: &Draft,
-    line: &[u8],
+    line: &'a [u8],
     show: Show,
-    roles: &[u8; 4096],
+    roles: &'a [u8; 4096],
 ) {
+    if p.kind == script::ASK {
+        ask(state, line, p.line, roles);
+        return;
+    }
     let mut bytes = [0u8; 12489];
     let l = loaded(p, draft, line, &mut bytes);
     if !l.good {
@@ -44,9 +51,19 @@ pub(crate) fn perform(
         call: p.number,
         line: p.line,
         quiet: show.quiet,
-        tree: show.tree,
     };
     answer(seen, state, record(&bytes, l), p.focused, p.room, roles);
+    show_state(state, show, roles);
+}
+
+// The state after a call, as the options ask for it.
+fn show_state<'a>(state: &'a State, show: Show, roles: &'a [u8; 4096]) {
+    if show.tree {
+        draw(state, roles);
+    }
+    if show.heard {
+        items(state, roles);
+    }
 }
 
 // Puts the call's record into `bytes`.
@@ -119,14 +136,14 @@ fn start<'a>(
 ) {
     let before = *state;
     let reply = calls::start(state, batch, host_focused);
-    say::tell(seen, &before, state, reply, batch, &[], roles);
+    batchcheck_say::tell(seen, &before, state, reply, batch, &[], roles);
 }
 
 // A host focus change.
 fn host_focus(seen: Seen, state: &mut State, host_focused: u32, roles: &[u8; 4096]) {
     let before = *state;
     let reply = calls::host_focus(state, host_focused);
-    say::tell(seen, &before, state, reply, &[], &[], roles);
+    batchcheck_say::tell(seen, &before, state, reply, &[], &[], roles);
 }
 
 // A batch, with `room` elements lent for the lists.
@@ -155,5 +172,5 @@ fn lent<'a>(
 ) {
     let before = *state;
     let reply = calls::update(state, batch, changes);
-    say::tell(seen, &before, state, reply, batch, changes, roles);
+    batchcheck_say::tell(seen, &before, state, reply, batch, changes, roles);
 }

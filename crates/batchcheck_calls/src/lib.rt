@@ -1,3 +1,3 @@
 // The calls that a text of `batchcheck` says: each is read line by line. Proved safe and ending, no more.
-mod node;
+mod node_line;
 pub mod script;

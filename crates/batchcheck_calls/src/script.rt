@@ -1,5 +1,5 @@
 // The calls that a file's lines say: each is read line by line, and is due once its last line is read without a fault.
-use crate::node;
+use crate::node_line;
 use batchcheck_record::draft;
 use batchcheck_record::draft::Draft;
 use program_text::cursor;
@@ -16,6 +16,9 @@ pub const START: u8 = 0;
 pub const BATCH: u8 = 1;
 
 pub const HOST: u8 = 2;
+
+// No call: a question, whose line is read where it is answered.
+pub const ASK: u8 = 3;
 
 // How far a call is read.
 const NONE: u8 = 0;
@@ -103,9 +106,9 @@ pub fn at_end(call: Call, number: u64) -> Call {
     skipped(call)
 }
 
-// Whether a line begins a call.
+// Whether a line begins a call or asks a question.
 fn is_opening(line: &[u8], c: Cursor) -> bool {
-    cursor::which(line, c, b"start batch host") < 3
+    cursor::which(line, c, b"start batch host ask") < 4
 }
 
 // ## Lines outside a call
@@ -120,14 +123,24 @@ fn outside(
     roles: &mut [u8; 4096],
 ) -> Call {
     let d = cursor::next(line, c);
-    let word = cursor::which(line, c, b"start batch host role");
+    let word = cursor::which(line, c, b"start batch host role ask");
     match word {
         0 => start(opened(call, draft, START, number), line, number, d),
         1 => batch(opened(call, draft, BATCH, number), line, number, d),
         2 => host(opened(call, draft, HOST, number), line, number, d),
         3 => reported(call, line, number, declared(line, d, roles)),
+        4 => asked(call, number),
         _ => reported(call, line, number, cursor::failed(c, faults::OUTSIDE)),
     }
+}
+
+// A question, which is due at once and has no place among the calls.
+fn asked(call: Call, line: u64) -> Call {
+    let mut p = call;
+    p.kind = ASK;
+    p.stage = DUE;
+    p.line = line;
+    p
 }
 
 // Names a role.
@@ -137,7 +150,7 @@ fn declared(line: &[u8], c: Cursor, roles: &mut [u8; 4096]) -> Cursor {
         return d;
     }
     let name = cursor::word(line, d);
-    if !roles::is_name(name) | node::is_property(line, d) {
+    if !roles::is_name(name) | node_line::is_property(line, d) {
         return cursor::failed(d, faults::ROLE_NAME);
     }
     let other = roles::find(roles, name);
@@ -241,7 +254,7 @@ fn inside(
 fn record_line(draft: &mut Draft, line: &[u8], c: Cursor, roles: &[u8; 4096]) -> Cursor {
     let word = cursor::which(line, c, b"node root focus tree");
     match word {
-        0 => node::all_listed(draft, line, cursor::next(line, c), roles),
+        0 => node_line::all_listed(draft, line, cursor::next(line, c), roles),
         1 => root(draft, line, c),
         2 => focus(draft, line, c),
         3 => tree(draft, line, c),
@@ -251,7 +264,7 @@ fn record_line(draft: &mut Draft, line: &[u8], c: Cursor, roles: &[u8; 4096]) ->
 
 // The tree data.
 fn root(draft: &mut Draft, line: &[u8], c: Cursor) -> Cursor {
-    let d = node::once(draft, line, c, node::ROOT);
+    let d = node_line::once(draft, line, c, node_line::ROOT);
     let n = decimal::whole(line, d, u64::MAX, faults::NODE);
     draft::set_root(draft, n.number);
     n
@@ -259,7 +272,7 @@ fn root(draft: &mut Draft, line: &[u8], c: Cursor) -> Cursor {
 
 // The focus.
 fn focus(draft: &mut Draft, line: &[u8], c: Cursor) -> Cursor {
-    let d = node::once(draft, line, c, node::FOCUS);
+    let d = node_line::once(draft, line, c, node_line::FOCUS);
     let n = decimal::whole(line, d, u64::MAX, faults::NODE);
     draft::set_focus(draft, n.number);
     n
@@ -267,7 +280,7 @@ fn focus(draft: &mut Draft, line: &[u8], c: Cursor) -> Cursor {
 
 // The tree.
 fn tree(draft: &mut Draft, line: &[u8], c: Cursor) -> Cursor {
-    let d = node::once(draft, line, c, node::TREE);
+    let d = node_line::once(draft, line, c, node_line::TREE);
     let n = decimal::tree(line, d, faults::TREE);
     draft::set_tree(draft, n.high, n.number);
     n
@@ -275,7 +288,7 @@ fn tree(draft: &mut Draft, line: &[u8], c: Cursor) -> Cursor {
 
 // The line that ends a call, which has said its focus.
 fn ended(draft: &Draft, line: &[u8], c: Cursor) -> Cursor {
-    if draft::is_said(draft, node::FOCUS) {
+    if draft::is_said(draft, node_line::FOCUS) {
         return cursor::next(line, c);
     }
     cursor::failed(c, faults::FOCUS)

@@ -36,7 +36,7 @@ pub fn draw<'a>(state: &'a State, roles: &'a [u8; 4096]) {
 }
 
 // Two spaces, and two more a level.
-fn indent(depth: usize) {
+pub fn indent(depth: usize) {
     put(b"  ");
     let mut left = depth;
     while 0 < left {
@@ -168,7 +168,7 @@ fn root_slot(state: &State, t: TreeId) -> usize {
 }
 
 // A node that is present.
-fn present(state: &State, x: FullNodeId) -> usize {
+pub fn present(state: &State, x: FullNodeId) -> usize {
     let i = state_lookup::find_in(state, x);
     if state_array::slots(state) <= i {
         return 320;

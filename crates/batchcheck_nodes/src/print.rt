@@ -1,12 +1,47 @@
-// Pieces of what is printed: roles, labels, nodes, and how much a state has.
+// Pieces of what is printed: numbers of document 01's table, roles, labels, nodes and lists of them, and how much a state has.
 ghost use Prim.Native.Nat.{_+_, _≤_, _<_};
 use ids::FullNodeId;
+use ids::NodeId;
+use ids::TreeIndex;
 use program_text::print::count;
 use program_text::print::id;
 use program_text::print::number;
+use program_text::print::of_number;
 use program_text::print::put;
+use program_text::print::put_line;
 use state_array::State;
 use state_focus::FoundNode;
+
+// A number of document 01's table and its row.
+pub fn row(n: u8) {
+    of_number(b"#, ", n as u64);
+    put_line(
+        b"accepted\n\
+        the state handed in is not sound\n\
+        the record breaks the layout or a limit\n\
+        a start without tree data\n\
+        a start for a tree other than ROOT\n\
+        a node listed twice\n\
+        tree data for a tree that no graft holds, not ROOT\n\
+        no tree data for a tree that does not exist, not ROOT\n\
+        a new tree id while 32 numbers are taken\n\
+        a child named twice in the batch\n\
+        a graft node with children\n\
+        a graft of ROOT\n\
+        a second graft of one tree\n\
+        listed nodes left without a place\n\
+        named children neither present nor listed\n\
+        the focus chain meets a graft whose tree does not exist\n\
+        the root is absent\n\
+        the effective focus is absent\n\
+        a node both added or updated, and removed\n\
+        the links or trees of the outcome are not sound\n\
+        more than 256 nodes in the outcome\n\
+        a lent list too short for what it should hold\n\
+        the node asked about is not in the state\n",
+        n as u64,
+    );
+}
 
 // How many nodes a state has, and how many trees that exist.
 pub fn sizes(state: &State) {
@@ -58,6 +93,13 @@ pub fn heard<'a>(state: &'a State, found: FoundNode, roles: &'a [u8; 4096]) {
         put(b"nothing");
         return;
     };
+    spoken(state, x, roles);
+    put(b" ");
+    id(x);
+}
+
+// A node's label and role.
+pub fn spoken<'a>(state: &'a State, x: FullNodeId, roles: &'a [u8; 4096]) {
     let i = state_lookup::find_in(state, x);
     if state_array::label_len(state, i) < 1 {
         put(b"no label");
@@ -66,12 +108,47 @@ pub fn heard<'a>(state: &'a State, found: FoundNode, roles: &'a [u8; 4096]) {
     }
     put(b", ");
     role(roles, state_array::role_at(state, i));
-    put(b" ");
-    id(x);
+}
+
+// A list of n nodes, two numbers each, that starts at a place, each node on a line of its own; where it ends.
+pub fn list<'a>(
+    word: &'a [u8],
+    state: &'a State,
+    numbers: &'a [u64],
+    from: usize,
+    n: usize,
+    roles: &'a [u8; 4096],
+) -> usize {
+    let mut at = from;
+    let mut left = n;
+    while 0 < left {
+        if numbers.len() <= at {
+            return at;
+        }
+        put(word);
+        node(state, listed_id(numbers, at), roles);
+        put(b"\n");
+        at = std::num::wrapping_add_usize(at, 2);
+        left -= 1;
+    }
+    at
+}
+
+// The id whose two numbers stand at a place, zeros past the end.
+fn listed_id(numbers: &[u64], at: usize) -> FullNodeId {
+    FullNodeId {
+        tree: TreeIndex((element(numbers, at) % 4294967296) as u32),
+        node: NodeId(element(numbers, std::num::wrapping_add_usize(at, 1))),
+    }
+}
+
+// Element i, 0 past the last.
+fn element(numbers: &[u64], i: usize) -> u64 {
+    if i < numbers.len() { numbers[i] } else { 0 }
 }
 
 // A role's name, or its number where it has none.
-fn role(roles: &[u8; 4096], r: u64) {
+pub fn role(roles: &[u8; 4096], r: u64) {
     let names: &[u8] = roles;
     let at = 16 * ((r % 256) as usize);
     let end = name_end(roles, at);
@@ -110,6 +187,13 @@ fn label(state: &State, i: usize) {
     }
     out[at] = b'"';
     put_first(&out, at + 1);
+}
+
+// A byte of a label, escaped where it needs to be.
+pub fn letter(byte: u8) {
+    let mut out = [0u8; 132];
+    let end = escaped(&mut out, 0, byte);
+    put_first(&out, end);
 }
 
 // How long the label of the node in a slot is.

@@ -1,5 +1,4 @@
-// Why a call is refused: the number's row in plain words, and what in this call makes the row hold, by the first node or child in the order of
-// the batch.
+// Why a call is refused: what in this call makes the number's row hold, by the first node or child in the order of the batch.
 use crate::outcome;
 use batchcheck_record::malformed;
 use ids::FullNodeId;
@@ -8,42 +7,10 @@ use ids::TreeId;
 use ids::TreeIndex;
 use program_text::print::count;
 use program_text::print::of_node;
-use program_text::print::of_number;
 use program_text::print::put;
-use program_text::print::put_line;
 use program_text::print::tell;
 use state_array::State;
 use update_notes::Scope;
-
-// A number of document 01's table and its row.
-pub fn row(n: u8) {
-    of_number(b"#, ", n as u64);
-    put_line(
-        b"accepted\n\
-        the state handed in is not sound\n\
-        the record breaks the layout or a limit\n\
-        a start without tree data\n\
-        a start for a tree other than ROOT\n\
-        a node listed twice\n\
-        tree data for a tree that no graft holds, not ROOT\n\
-        no tree data for a tree that does not exist, not ROOT\n\
-        a new tree id while 32 numbers are taken\n\
-        a child named twice in the batch\n\
-        a graft node with children\n\
-        a graft of ROOT\n\
-        a second graft of one tree\n\
-        listed nodes left without a place\n\
-        named children neither present nor listed\n\
-        the focus chain meets a graft whose tree does not exist\n\
-        the root is absent\n\
-        the effective focus is absent\n\
-        a node both added or updated, and removed\n\
-        the links or trees of the outcome are not sound\n\
-        more than 256 nodes in the outcome\n\
-        a lent list too short for what it should hold\n",
-        n as u64,
-    );
-}
 
 // The reason for a number but 21. `kind` is 0 for a start; `before` is the state before the call.
 pub fn because<'a>(kind: u8, before: &'a State, n: u8, batch: &'a [u8]) {

@@ -206,14 +206,14 @@ fn distance(a: u64, b: u64) -> u64 {
 }
 
 // A number times a power of ten, divided by another.
-fn scaled(value: u64, up: u64, down: u64) -> f64 {
+pub fn scaled(value: u64, up: u64, down: u64) -> f64 {
     let x = std::num::nearest_u64_to_f64(value);
     let factor = ten_to(distance(up, down));
     if up < down { x / factor } else { x * factor }
 }
 
 // A power of ten.
-fn ten_to(power: u64) -> f64 {
+pub fn ten_to(power: u64) -> f64 {
     let mut x = 1.0;
     let mut i: u64 = 0;
     while i < power {

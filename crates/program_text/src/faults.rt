@@ -58,6 +58,16 @@ pub const FILE_END: u8 = 25;
 
 pub const SHORTER: u8 = 26;
 
+pub const ASKED_NODE: u8 = 27;
+
+pub const QUESTION: u8 = 28;
+
+pub const SIDE: u8 = 29;
+
+pub const FILTER: u8 = 30;
+
+pub const COUNT: u8 = 31;
+
 // Says what is wrong with a line.
 pub fn tell(number: u64, line: &[u8], c: Cursor) {
     print::of_number(b"line #: ", number);
@@ -113,7 +123,7 @@ fn letter(byte: u8) {
 fn expected(fault: u8) {
     print::put_line(
         b"\n\
-        role, start, batch or host, since no call is open\n\
+        role, start, batch, host or ask, since no call is open\n\
         node, root, focus, tree or end\n\
         a node number, 0 to 18446744073709551615\n\
         a node number, 0 to 18446744073709551615, or FIRST..LAST\n\
@@ -138,7 +148,13 @@ fn expected(fault: u8) {
         a focus line before it\n\
         end, since a call is open\n\
         end, since a call is open\n\
-        a shorter line\n",
+        a shorter line\n\
+        a node number, 0 to 18446744073709551615, or (TREE, NODE), two numbers\n\
+        read, label, hidden, transform, box, parent, children, siblings, filter, filtered-parent, filtered-children, first-child, \
+        last-child, deepest-first-child, deepest-last-child, filtered-siblings or walk\n\
+        following or preceding\n\
+        common, root-exception or without-parent-checks\n\
+        how many were handed out, 0 to 18446744073709551615, behind a filter or none\n",
         fault as u64,
     );
 }

@@ -1,14 +1,14 @@
--- `batchcheck::say::list` meets its contract. The measure is what is left of the list. Assumes nothing.
+-- `batchcheck_nodes::print::list` meets its contract. The measure is what is left of the list. Assumes nothing.
 use Prim.Native.Nat.{_≤_}
 use borrow.Author.Needs.{needs}
-use Rattle.batchcheck.proofs.say.list.Statement.{statement}
-use Rattle.batchcheck.proofs.say.list.Tie as tie
+use Rattle.batchcheck_nodes.proofs.print.list.Statement.{statement}
+use Rattle.batchcheck_nodes.proofs.print.list.Tie as tie
 
 abbrev Inv-loop : tie.InvT-loop
-Inv-loop word state changes from n roles at₀ left₀ t9 at left = 0 ≤ left
+Inv-loop word state numbers from n roles at₀ left₀ t9 at left = 0 ≤ left
 
 abbrev μ-loop : tie.MeasureT-loop
-μ-loop word state changes from n roles at₀ left₀ t9 at left = left
+μ-loop word state numbers from n roles at₀ left₀ t9 at left = left
 
 loop-holds : tie.Need-loop-holds Inv-loop μ-loop
 loop-holds c = search needs

@@ -1,8 +1,8 @@
--- `batchcheck_calls::node::properties` meets its contract: the turns are counted down. Assumes nothing.
+-- `batchcheck_calls::node_line::properties` meets its contract: the turns are counted down. Assumes nothing.
 use Prim.Native.Nat.{_≤_}
 use borrow.Author.Needs.{needs}
-use Rattle.batchcheck_calls.proofs.node.properties.Statement.{statement}
-use Rattle.batchcheck_calls.proofs.node.properties.Tie as tie
+use Rattle.batchcheck_calls.proofs.node_line.properties.Statement.{statement}
+use Rattle.batchcheck_calls.proofs.node_line.properties.Tie as tie
 
 abbrev Inv-loop : tie.InvT-loop
 Inv-loop draft₀ line roles c₀ turns₀ draft c turns = 0 ≤ turns

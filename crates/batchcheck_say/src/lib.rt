@@ -1,8 +1,9 @@
-// What is said of a call: a block, or one line.
+// What `batchcheck` says of a call: a block, or one line. Proved safe and ending, no more.
 ghost use Prim.Native.Nat.{_<_};
-use batchcheck_nodes::draw;
 use batchcheck_nodes::print::heard;
+use batchcheck_nodes::print::list;
 use batchcheck_nodes::print::node;
+use batchcheck_nodes::print::row;
 use batchcheck_nodes::print::sizes;
 use batchcheck_reasons::why;
 use calls::Lengths;
@@ -22,17 +23,16 @@ use state_array::State;
 use state_focus::FoundNode;
 
 // A call and how it is told. `kind`: 0 start, 1 batch, 2 host focus change. `line`: where the call begins. `call`: its place in the file, from 1.
-pub(crate) struct Seen {
-    pub(crate) kind: u8,
-    pub(crate) call: u64,
-    pub(crate) line: u64,
-    pub(crate) quiet: bool,
-    pub(crate) tree: bool,
+pub struct Seen {
+    pub kind: u8,
+    pub call: u64,
+    pub line: u64,
+    pub quiet: bool,
 }
 
-// Prints a call's block. `before` and `now` are the state before and after the call, `batch` the record handed in (empty for a host focus
+// Prints a call's line or block. `before` and `now` are the state before and after the call, `batch` the record handed in (empty for a host focus
 // change), `changes` the lent slice afterwards, `roles` 16 bytes a role number, zeros after its name.
-pub(crate) fn tell<'a>(
+pub fn tell<'a>(
     seen: Seen,
     before: &'a State,
     now: &'a State,
@@ -42,22 +42,6 @@ pub(crate) fn tell<'a>(
     roles: &'a [u8; 4096],
 ) {
     print::call(seen.call, seen.line);
-    answered(seen, before, now, r, batch, changes, roles);
-    if seen.tree {
-        draw::draw(now, roles);
-    }
-}
-
-// What it answered, in one line or in a block of lines.
-fn answered<'a>(
-    seen: Seen,
-    before: &'a State,
-    now: &'a State,
-    r: Reply,
-    batch: &'a [u8],
-    changes: &'a [u64],
-    roles: &'a [u8; 4096],
-) {
     if seen.quiet {
         one_line(seen.kind, now, r, roles);
         return;
@@ -92,7 +76,7 @@ fn found(x: OptionalId) -> FoundNode {
 fn one_line<'a>(kind: u8, now: &'a State, r: Reply, roles: &'a [u8; 4096]) {
     if r.number != 0 {
         put(b"refused ");
-        why::row(row_of(r));
+        row(row_of(r));
         put(b"\n");
         return;
     }
@@ -155,7 +139,7 @@ fn taken<'a>(
     roles: &'a [u8; 4096],
 ) {
     put(b"  taken: ");
-    why::row(0);
+    row(0);
     put(b"\n");
     match kind {
         0 => {}
@@ -221,7 +205,7 @@ fn host(host_focused: u64) {
 // A refused call: its number, the reason, and the state that stands.
 fn refused<'a>(kind: u8, before: &'a State, now: &'a State, n: u8, batch: &'a [u8], room: usize) {
     put(b"  refused: ");
-    why::row(n);
+    row(n);
     put(b"\n  because  ");
     because(kind, before, n, batch, room);
     put(b"\n  the state is ");
@@ -285,41 +269,4 @@ fn changed<'a>(
         roles,
     );
     list(b"  relinked ", now, changes, relinked_at, l.relinked, roles);
-}
-
-// A list of n nodes that starts at a place, each on a line of its own; where it ends.
-fn list<'a>(
-    word: &'a [u8],
-    state: &'a State,
-    changes: &'a [u64],
-    from: usize,
-    n: usize,
-    roles: &'a [u8; 4096],
-) -> usize {
-    let mut at = from;
-    let mut left = n;
-    while 0 < left {
-        if changes.len() <= at {
-            return at;
-        }
-        put(word);
-        node(state, listed_id(changes, at), roles);
-        put(b"\n");
-        at = std::num::wrapping_add_usize(at, 2);
-        left -= 1;
-    }
-    at
-}
-
-// The id whose two numbers stand at a place, zeros past the end.
-fn listed_id(changes: &[u64], at: usize) -> FullNodeId {
-    FullNodeId {
-        tree: TreeIndex((element(changes, at) % 4294967296) as u32),
-        node: NodeId(element(changes, std::num::wrapping_add_usize(at, 1))),
-    }
-}
-
-// Element i, 0 past the last.
-fn element(changes: &[u64], i: usize) -> u64 {
-    if i < changes.len() { changes[i] } else { 0 }
 }

@@ -1,8 +1,8 @@
--- `batchcheck_calls::node::label` meets its contract: the turns are counted down. Assumes nothing.
+-- `batchcheck_calls::node_line::label` meets its contract: the turns are counted down. Assumes nothing.
 use Prim.Native.Nat.{_≤_}
 use borrow.Author.Needs.{needs}
-use Rattle.batchcheck_calls.proofs.node.label.Statement.{statement}
-use Rattle.batchcheck_calls.proofs.node.label.Tie as tie
+use Rattle.batchcheck_calls.proofs.node_line.label.Statement.{statement}
+use Rattle.batchcheck_calls.proofs.node_line.label.Tie as tie
 
 abbrev Inv-loop : tie.InvT-loop
 Inv-loop draft₀ line c d before at₀ turns₀ draft at turns = 0 ≤ turns

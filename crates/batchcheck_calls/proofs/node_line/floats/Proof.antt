@@ -1,8 +1,8 @@
--- `batchcheck_calls::node::floats` meets its contract: the place rises to the end. Assumes nothing.
+-- `batchcheck_calls::node_line::floats` meets its contract: the place rises to the end. Assumes nothing.
 use Prim.Native.Nat.{_≤_, _-_}
 use borrow.Author.Needs.{needs}
-use Rattle.batchcheck_calls.proofs.node.floats.Statement.{statement}
-use Rattle.batchcheck_calls.proofs.node.floats.Tie as tie
+use Rattle.batchcheck_calls.proofs.node_line.floats.Statement.{statement}
+use Rattle.batchcheck_calls.proofs.node_line.floats.Tie as tie
 
 abbrev Inv-loop : tie.InvT-loop
 Inv-loop draft₀ line first end c₀ place₀ draft c place = 0 ≤ place

@@ -1,8 +1,8 @@
--- `batchcheck_calls::node::children` meets its contract: the turns are counted down. Assumes nothing.
+-- `batchcheck_calls::node_line::children` meets its contract: the turns are counted down. Assumes nothing.
 use Prim.Native.Nat.{_≤_}
 use borrow.Author.Needs.{needs}
-use Rattle.batchcheck_calls.proofs.node.children.Statement.{statement}
-use Rattle.batchcheck_calls.proofs.node.children.Tie as tie
+use Rattle.batchcheck_calls.proofs.node_line.children.Statement.{statement}
+use Rattle.batchcheck_calls.proofs.node_line.children.Tie as tie
 
 abbrev Inv-loop : tie.InvT-loop
 Inv-loop draft₀ line c₀ turns₀ draft c turns = 0 ≤ turns

@@ -1,0 +1,3 @@
+// The questions that a text of `batchcheck` asks about a node, and their answers. Proved safe and ending, no more.
+pub mod answer;
+mod question;
