@@ -6,7 +6,7 @@
 The program `calls` makes the calls and questions and answers them with the crate's real source (README.md). It runs three times: for histories
 near 256 nodes, which have the calls of number 20, for the other calls, and for questions about made screens; it prints how many questions are left
 out, and why. Everything that it prints is taken, in its order. Of each answer the list has every part, the state as a digest;
-crates/replay/src/frame.rt says how a call or a question is laid out. The expected output is counted from the crate's answers; the program is not
+crates/replay_frame/src/lib.rt says how a call or a question is laid out. The expected output is counted from the crate's answers; the program is not
 run. The same seed gives the same files. The script stops if a number from 0 to 21 has fewer than 20 calls, if there are fewer than 3,000 questions
 or if one, with its side and filter, is asked fewer than 20 times.
 """
@@ -63,7 +63,7 @@ LISTS = ('added', 'updated', 'removed', 'relinked')
 WORD = 1 << 64
 
 
-# ## The digest of a state: crates/replay/src/digest.rt
+# ## The digest of a state: crates/replay_frame/src/digest.rt
 
 def digest(t):
     d = 0xcbf29ce484222325
@@ -73,7 +73,7 @@ def digest(t):
     return d
 
 
-# ## The frame of a call: crates/replay/src/frame.rt
+# ## The frame of a call: crates/replay_frame/src/lib.rt
 
 def node(x):
     return struct.pack('<HIQ', 0, 0, 0) if x is None else struct.pack('<HIQ', 1, *x)

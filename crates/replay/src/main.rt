@@ -1,17 +1,12 @@
 // Runs a fixed list of calls and questions and compares each answer, whole, with the crate's. Standard input is the list: four bytes say how
-// many there are, and a frame for each follows (frame.rt). It writes a line for each that differs, with its place in the list and the parts that
+// many there are, and a frame for each follows (replay_frame). It writes a line for each that differs, with its place in the list and the parts that
 // differ; then how many calls had each number and how many questions of each kind there were; then how many of both there were and how many
 // differ. Nothing of it is proved but that it is safe and ends.
-mod asked;
-mod called;
-mod digest;
-mod frame;
-mod lent;
-
 use libc::STDIN_FILENO;
 use program_text::print::of_number;
 use program_text::print::put;
 use program_text::print::put_line;
+use replay_frame::parts::part_if;
 use state_array::State;
 
 // What has been seen of the list.
@@ -25,7 +20,7 @@ struct Tally {
 
 const QUESTIONS: u64 = 256;
 
-// How many parts of an answer can differ: the lines of `tell_parts`.
+// How many parts of an answer can differ: the lines of `tell_part`.
 const PARTS: u64 = 7;
 
 // The list, one after the other, and what was seen of it.
@@ -50,8 +45,8 @@ fn run(total: u64) -> Tally {
     let mut i: u64 = 0;
     while i < total {
         let mut space = [0u8; 98304];
-        let n = frame::read(&mut space);
-        if !frame::is_whole(&space, n) {
+        let n = replay_frame::read(&mut space);
+        if !replay_frame::is_whole(&space, n) {
             tell_end(i);
             return t;
         }
@@ -63,16 +58,16 @@ fn run(total: u64) -> Tally {
 
 // With a frame, the i-th of the list.
 fn with_frame(t: Tally, i: u64, f: &[u8; 98304], state: &mut State) -> Tally {
-    frame::put_state(f, state);
-    if frame::is_question(f) {
+    replay_frame::put_state(f, state);
+    if replay_frame::is_question(f) {
         return with_question(t, i, f, state);
     }
     with_call(t, i, f, state)
 }
 
 // With a call.
-fn with_call(t: Tally, i: u64, f: &[u8; 98304], state: &mut State) -> Tally {
-    let c = called::compared(f, state);
+fn with_call(t: Tally, i: u64, f: &[u8], state: &mut State) -> Tally {
+    let c = replay_calls::compared(f, state);
     tell_parts(b"call # differs:", i, c.parts);
     let mut u = counted(t, c.number % QUESTIONS, c.parts);
     u.calls = std::num::wrapping_add_u64(t.calls, 1);
@@ -80,9 +75,9 @@ fn with_call(t: Tally, i: u64, f: &[u8; 98304], state: &mut State) -> Tally {
 }
 
 // With a question.
-fn with_question(t: Tally, i: u64, f: &[u8; 98304], state: &State) -> Tally {
-    let which = frame::which(f);
-    let parts = asked::compared(f, state);
+fn with_question(t: Tally, i: u64, f: &[u8], state: &State) -> Tally {
+    let which = replay_frame::which(f);
+    let parts = replay_questions::compared(f, state);
     if parts != 0 {
         replay_questions::tell(which);
     }
@@ -99,7 +94,7 @@ fn counted(t: Tally, place: u64, parts: u64) -> Tally {
     let k = (place % 512) as usize;
     counts[k] = std::num::wrapping_add_u64(counts[k], 1);
     u.counts = counts;
-    u.differ = std::num::wrapping_add_u64(t.differ, lent::bit_if(parts != 0, 1));
+    u.differ = std::num::wrapping_add_u64(t.differ, part_if(parts != 0, 1));
     u
 }
 

@@ -70,7 +70,8 @@ fn large_enough(r: &mut Rng, most: usize) -> State {
 fn nodes(r: &mut Rng, s: &State) -> Vec<usize> {
     let all: Vec<usize> = (0..s.nodes.len()).collect();
     let among = |link: &Link| link.is_some_and(|(p, _)| s.nodes[&p].1.children.len() > 1);
-    let some: Vec<usize> = all.iter().copied().zip(s.nodes.values()).filter(|x| among(&x.1.0)).map(|x| x.0).collect();
+    let some: Vec<usize> =
+        all.iter().copied().zip(s.nodes.values()).filter(|x| among(&x.1.0)).map(|x| x.0).collect();
     let mut out = vec![r.pick(&all)];
     while out.len() < SAMPLE {
         let i = r.pick(if some.len() < SAMPLE { &all } else { &some });

@@ -1,8 +1,7 @@
-// The slice that calls and questions are lent, before and after; and the bits that say which parts differ.
-use crate::frame;
+// The slice that calls and questions are lent, before and after.
 
 // What is lent: 900000, 900001, ..
-pub(crate) fn unwritten() -> [u64; 1024] {
+pub fn unwritten() -> [u64; 1024] {
     let mut lent = [0u64; 1024];
     let mut i: usize = 0;
     while i < 1024 {
@@ -18,8 +17,8 @@ fn filler(i: usize) -> u64 {
 }
 
 // Whether the first elements are those of the frame, and the others are as they were lent.
-pub(crate) fn is_filled(lent: &[u64; 1024], f: &[u8; 98304]) -> bool {
-    is_slice(lent, f, frame::lists_at(f), frame::lists_length(f))
+pub fn is_filled(lent: &[u64], f: &[u8]) -> bool {
+    is_slice(lent, f, crate::lists_at(f), crate::lists_length(f))
 }
 
 // Whether the first n elements are those from a place of the frame on, and the others are as they were lent.
@@ -43,9 +42,4 @@ fn element(f: &[u8], at: usize, i: usize, n: usize) -> u64 {
     } else {
         filler(i)
     }
-}
-
-// A bit where it holds, else 0.
-pub(crate) fn bit_if(holds: bool, bit: u64) -> u64 {
-    if holds { bit } else { 0 }
 }

@@ -1,40 +1,48 @@
-// A call of the list, and the parts of its answer that are not the crate's.
+// A call of the list that the program `replay` runs, and the parts of its answer that are not the crate's. Proved safe and ending, no more.
 ghost use Prim.Native.Nat.{_≤_};
-use crate::digest;
-use crate::frame;
-use crate::lent;
-use crate::lent::bit_if;
 use calls::Lengths;
 use calls::OptionalId;
 use calls::Reply;
+use replay_frame::digest;
+use replay_frame::lent;
+use replay_frame::parts;
+use replay_frame::parts::part_if;
 use state_array::State;
 
 // The number that a call answered, and the parts that differ, each a bit.
-pub(crate) struct Verdict {
-    pub(crate) number: u64,
-    pub(crate) parts: u64,
+pub struct Verdict {
+    pub number: u64,
+    pub parts: u64,
 }
 
 // Makes the call of a frame on a state and compares its answer.
-pub(crate) fn compared(f: &[u8; 98304], state: &mut State) -> Verdict {
+pub fn compared(f: &[u8], state: &mut State) -> Verdict {
     let mut slice = lent::unwritten();
     let before = digest::before(f, state);
     let r = answer(f, state, &mut slice);
     Verdict {
         number: r.number as u64,
         parts: differing(r, f)
-            | bit_if(digest::of(state) != frame::digest_after(f, before), 2)
-            | bit_if(!lent::is_filled(&slice, f), 32),
+            | part_if(
+                digest::of(state) != replay_frame::digest_after(f, before),
+                parts::STATE,
+            )
+            | part_if(!lent::is_filled(&slice, f), parts::SLICE),
     }
 }
 
 // What the call of a frame answers.
-fn answer(f: &[u8; 98304], state: &mut State, lent: &mut [u64; 1024]) -> Reply {
-    let host = frame::host(f);
-    let kind = frame::field(f, 0);
+fn answer(f: &[u8], state: &mut State, lent: &mut [u64]) -> Reply {
+    let host = replay_frame::host(f);
+    let kind = replay_frame::field(f, 0);
     match kind {
-        0 => calls::start(state, frame::record(f), host),
-        1 => update(state, frame::record(f), lent, frame::field(f, 10)),
+        0 => calls::start(state, replay_frame::record(f), host),
+        1 => update(
+            state,
+            replay_frame::record(f),
+            lent,
+            replay_frame::field(f, 10),
+        ),
         _ => calls::host_focus(state, host),
     }
 }
@@ -48,20 +56,29 @@ fn update(state: &mut State, batch: &[u8], lent: &mut [u64], room: usize) -> Rep
 }
 
 // The parts of a reply that are not as the frame says.
-fn differing(r: Reply, f: &[u8; 98304]) -> u64 {
+fn differing(r: Reply, f: &[u8]) -> u64 {
     let x = r.report;
-    bit_if(r.number as usize != frame::field(f, 6), 1)
-        | bit_if(!are_lengths(r.lengths, f), 4)
-        | bit_if(!are_nodes(x.focus_before, x.focus_after, f, 28), 8)
-        | bit_if(!are_nodes(x.extra_before, x.extra_after, f, 56), 16)
+    part_if(
+        r.number as usize != replay_frame::field(f, 6),
+        parts::NUMBER,
+    )
+        | part_if(!are_lengths(r.lengths, f), parts::LENGTHS)
+        | part_if(
+            !are_nodes(x.focus_before, x.focus_after, f, 28),
+            parts::FOCUS,
+        )
+        | part_if(
+            !are_nodes(x.extra_before, x.extra_after, f, 56),
+            parts::EXTRA,
+        )
 }
 
 // Whether the lists' lengths are those of the frame.
 fn are_lengths(n: Lengths, f: &[u8]) -> bool {
-    (n.added == frame::field(f, 12))
-        & (n.updated == frame::field(f, 14))
-        & (n.removed == frame::field(f, 16))
-        & (n.relinked == frame::field(f, 18))
+    (n.added == replay_frame::field(f, 12))
+        & (n.updated == replay_frame::field(f, 14))
+        & (n.removed == replay_frame::field(f, 16))
+        & (n.relinked == replay_frame::field(f, 18))
 }
 
 // Whether two nodes, or none, are the ones at a place of the frame and behind it.

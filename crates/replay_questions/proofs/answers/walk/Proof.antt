@@ -1,9 +1,9 @@
--- `replay_questions::walk` meets its contract: the steps are counted down, and the slice keeps its length. Assumes nothing.
+-- `replay_questions::answers::walk` meets its contract: the steps are counted down, and the slice keeps its length. Assumes nothing.
 use mathlib.Core.Path.{_≡_}
 use lib.ListN.{length}
 use borrow.Author.Needs.{needs}
-use Rattle.replay_questions.proofs.walk.Statement.{statement}
-use Rattle.replay_questions.proofs.walk.Tie as tie
+use Rattle.replay_questions.proofs.answers.walk.Statement.{statement}
+use Rattle.replay_questions.proofs.answers.walk.Tie as tie
 
 abbrev Inv-loop : tie.InvT-loop
 Inv-loop state which out₀ first w₀ at₀ left₀ out w at left = length out ≡ length out₀
