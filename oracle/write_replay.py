@@ -1,12 +1,14 @@
 #!/usr/bin/env python3
-"""Writes the list of calls that the program `replay` runs, and what it must print: crates/replay/stdin and crates/replay/stdout.
+"""Writes the list of calls and questions that the program `replay` runs, and what it must print: crates/replay/stdin and crates/replay/stdout.
 
-    ACCESSKIT_CONSUMER_SRC=.. python3 oracle/write_replay.py --seed 5 --calls 2200
+    ACCESSKIT_CONSUMER_SRC=.. python3 oracle/write_replay.py --seed 5 --calls 2200 --screens 34
 
-The program `calls` makes the calls and answers them with the crate's real source (README.md). It runs twice: for histories near 256 nodes, which
-have the calls of number 20, and for the rest. Every call that it prints is taken, in its order. Of each answer the list has every part, the state
-as a digest; crates/replay/src/frame.rt says how a call is laid out. The expected output is counted from the crate's answers; the program is not
-run. The same seed gives the same files. The script stops if a number from 0 to 21 has fewer than 20 calls.
+The program `calls` makes the calls and questions and answers them with the crate's real source (README.md). It runs three times: for histories
+near 256 nodes, which have the calls of number 20, for the other calls, and for questions about made screens; it prints how many questions are left
+out, and why. Everything that it prints is taken, in its order. Of each answer the list has every part, the state as a digest;
+crates/replay_frame/src/lib.rt says how a call or a question is laid out. The expected output is counted from the crate's answers; the program is not
+run. The same seed gives the same files. The script stops if a number from 0 to 21 has fewer than 20 calls, if there are fewer than 3,000 questions
+or if one, with its side and filter, is asked fewer than 20 times.
 """
 import argparse, collections, json, os, struct, subprocess, sys
 
@@ -61,7 +63,7 @@ LISTS = ('added', 'updated', 'removed', 'relinked')
 WORD = 1 << 64
 
 
-# ## The digest of a state: crates/replay/src/digest.rt
+# ## The digest of a state: crates/replay_frame/src/digest.rt
 
 def digest(t):
     d = 0xcbf29ce484222325
@@ -71,7 +73,7 @@ def digest(t):
     return d
 
 
-# ## The frame of a call: crates/replay/src/frame.rt
+# ## The frame of a call: crates/replay_frame/src/lib.rt
 
 def node(x):
     return struct.pack('<HIQ', 0, 0, 0) if x is None else struct.pack('<HIQ', 1, *x)
@@ -97,8 +99,37 @@ def frame(j, left):
     return head + state + record + struct.pack(f'<{len(filled)}Q', *filled)
 
 
+# ## The frame of a question; its number: crates/replay_questions/src/lib.rt
+
+QUESTION = 3
+QUESTIONS = ('parent', 'filtered parent', 'first filtered child', 'last filtered child', 'deepest first filtered child',
+             'deepest last filtered child', 'children', 'siblings', 'filtered children', 'filtered siblings', 'walk', 'hidden',
+             'transform', 'box', 'filter')
+SIDES = ('', ', following', ', preceding')
+FILTERS = ('', ', common filter', ', with root exception', ', without parent checks')
+# How many there are with each side and filter: 5 with neither, siblings and walks without a filter on 2 sides, 7 under 3 filters, siblings and
+# walks under these on 2 sides.
+ASKED = 5 + 4 + 21 + 12
+
+
+def name(which):
+    return QUESTIONS[which // 12] + SIDES[which % 3] + FILTERS[which // 3 % 4]
+
+
+def question(k, j):
+    """The bytes of question k, and its number."""
+    kind, words = QUESTIONS.index(j['kind']), j['words']
+    which = 12 * kind + 3 * j['filter'] + j['side']
+    # a walk goes two steps past its end; another question is lent as many elements as it needs, or a few more
+    room = len(words) + (4 if j['kind'] == 'walk' else (0, 1, 6)[k % 3])
+    state = b'' if j['state'] is None else struct.pack(f'<{WORDS}Q', *in_memory(j['state']))
+    head = struct.pack('<6H', QUESTION, which, int(state != b''), 0, 0, room) + struct.pack('<4HQ', len(words) // 2, 0, 0, 0, j['value'])
+    return head + node(j['id']) + 3 * node(None) + state + struct.pack(f'<{len(words)}Q', *words), which
+
+
+# ## Zeros counted
+
 def coded(frame):
-    """With its zeros counted."""
     out, zeros = bytearray(), 0
     for byte in frame + b'\1':
         while byte and zeros:
@@ -116,32 +147,75 @@ def coded(frame):
 
 def made(*options):
     driver = os.path.join(os.environ.get('CARGO_TARGET_DIR', os.path.join(HERE, 'target')), 'release', 'calls')
-    said = subprocess.run([driver, *map(str, options)], stdout=subprocess.PIPE, stderr=subprocess.DEVNULL, text=True, check=True)
-    return said.stdout.splitlines()
+    said = subprocess.run([driver, *map(str, options)], capture_output=True, text=True, check=True)
+    return [json.loads(line) for line in said.stdout.splitlines()], said.stderr
+
+
+def calls(count, seed):
+    """The frames of the calls, and how many have each number."""
+    crowded = made('--crowded', OVERFLOWS, '--seed', seed)[0]
+    frames, left, counts = [], None, collections.Counter()
+    for j in made('--calls', count - len(crowded), '--seed', seed)[0] + crowded:
+        frames.append(frame(j, left))
+        left = j['after']
+        counts[j['number']] += 1
+    few = [n for n in range(22) if counts[n] < 20]
+    if few or len(frames) != count:
+        sys.exit(f'{len(frames)} calls, fewer than 20 of the numbers {few}')
+    return frames, counts
+
+
+def questions(screens, seed):
+    """The frames of the questions, and how many there are by their numbers."""
+    lines, left_out = made('--screens', screens, '--seed', seed)
+    frames, counts = [], collections.Counter()
+    for k, j in enumerate(lines):
+        bytes_, which = question(k, j)
+        frames.append(bytes_)
+        counts[which] += 1
+    few = [name(n) for n in counts if counts[n] < 20]
+    if few or len(counts) != ASKED or len(frames) < 3000:
+        sys.exit(f'{len(frames)} questions, {len(counts)} with each side and filter, fewer than 20 of {few}')
+    print(left_out, end='')
+    return frames, counts
+
+
+def spoiled(frames):
+    """The questions with one answer of each number changed: its last word, or its value where there are no words."""
+    out, seen = [], set()
+    for f in frames:
+        which, pairs = struct.unpack_from('<H', f, 2)[0], struct.unpack_from('<H', f, 12)[0]
+        if which not in seen and (pairs or QUESTIONS[which // 12] in ('hidden', 'filter')):
+            seen.add(which)
+            at = len(f) - 8 if pairs else 20
+            f = f[:at] + bytes([f[at] ^ 1]) + f[at + 1:]
+        out.append(f)
+    return out
+
+
+def packed(frames):
+    bodies = [coded(f) for f in frames]
+    return struct.pack('<I', len(bodies)) + b''.join(struct.pack('<H', len(b)) + b for b in bodies)
 
 
 def main():
     options = argparse.ArgumentParser()
     options.add_argument('--calls', type=int, default=2200)
+    options.add_argument('--screens', type=int, default=34)
     options.add_argument('--seed', type=int, default=5)
+    options.add_argument('--spoil', metavar='FILE', help='write only this file: the list with one answer of each question changed, which the program must notice')
     o = options.parse_args()
     if not os.environ.get(SOURCE):
         sys.exit(f"{SOURCE} is not set: it must name the folder with accesskit_consumer 0.39.2's src/*.rs")
     subprocess.run(['cargo', 'build', '--release', '--offline', '--quiet', '-p', 'calls'], cwd=HERE, check=True)
-    crowded = made('--crowded', OVERFLOWS, '--seed', o.seed)
-    lines = made('--calls', o.calls - len(crowded), '--seed', o.seed) + crowded
-    out, left, counts = struct.pack('<I', len(lines)), None, collections.Counter()
-    for line in lines:
-        j = json.loads(line)
-        body = coded(frame(j, left))
-        out += struct.pack('<H', len(body)) + body
-        left = j['after']
-        counts[j['number']] += 1
-    few = [n for n in range(22) if counts[n] < 20]
-    if few or len(lines) != o.calls:
-        sys.exit(f'{len(lines)} calls, fewer than 20 of the numbers {few}')
-    said = ''.join(f'number {n}: {counts[n]}\n' for n in sorted(counts)) + f'{len(lines)} calls, 0 differ\n'
-    open(f'{REPOSITORY}/crates/replay/stdin', 'wb').write(out)
+    called, numbers = calls(o.calls, o.seed)
+    asked, kinds = questions(o.screens, o.seed)
+    if o.spoil:
+        open(o.spoil, 'wb').write(packed(called + spoiled(asked)))
+        return
+    said = ''.join(f'number {n}: {numbers[n]}\n' for n in sorted(numbers)) + ''.join(f'{name(n)}: {kinds[n]}\n' for n in sorted(kinds))
+    said += f'{len(called)} calls, {len(asked)} questions, 0 differ\n'
+    open(f'{REPOSITORY}/crates/replay/stdin', 'wb').write(packed(called + asked))
     open(f'{REPOSITORY}/crates/replay/stdout', 'w', encoding='ascii').write(said)
     print(said, end='')
 

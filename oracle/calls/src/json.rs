@@ -1,5 +1,6 @@
-//! One call and its whole answer as a line of JSON. Numbers are decimal, f64s
+//! One call or question and its whole answer as a line of JSON. Numbers are decimal, f64s
 //! their bits, options `null` or the value.
+use crate::asked::Asked;
 use crate::judge::{Answer, Call, Input};
 use crate::plain::*;
 use std::fmt::Display;
@@ -88,5 +89,19 @@ pub fn line(before: Option<&State>, call: &Call, a: &Answer) -> String {
         option(a.extra.1, id),
         numbers(&a.slice),
         a.said
+    )
+}
+
+/// A question and its answer, with the state that it is the first to ask about.
+pub fn question(of: Option<&State>, node: Id, q: &Asked) -> String {
+    format!(
+        r#"{{"state":{},"id":{},"kind":"{}","filter":{},"side":{},"value":{},"words":{}}}"#,
+        option(of, state),
+        id(node),
+        q.kind,
+        q.filter,
+        q.side,
+        q.value,
+        numbers(&q.words)
     )
 }

@@ -3,14 +3,16 @@
 //!
 //!     calls --calls 3000 --seed 1
 //!     calls --crowded 24 --seed 1
+//!     calls --screens 34 --seed 1
 //!
 //! The second makes histories of states near 256 nodes instead, and prints all
-//! their calls until 24 had number 20.
+//! their calls until 24 had number 20. The third prints questions about so many
+//! made screens instead, a line each.
 use calls::judge::{Answer, Call, Held, Input, judge, on_unsound};
 use calls::make::{self, Rng, World};
 use calls::plain::{NODES, State, TREES};
 use calls::shows::shows;
-use calls::{cases, json};
+use calls::{asked, cases, json};
 use std::collections::BTreeMap;
 use std::io::{BufWriter, Write};
 
@@ -162,6 +164,17 @@ fn crowded(r: &mut Rng, sink: &mut Sink) {
     }
 }
 
+/// Questions about so many made screens, and on standard error what is left out of them.
+fn questions(screens: u64, seed: u64) {
+    let mut out = BufWriter::new(std::io::stdout());
+    let (count, left_out) = asked::print(screens, seed, |line| writeln!(out, "{line}").unwrap());
+    out.flush().unwrap();
+    eprintln!("{count} questions about {screens} screens");
+    for ((what, why), n) in left_out {
+        eprintln!("{n:6}  left out: {what}, {why:?}");
+    }
+}
+
 fn main() {
     // the crate's panics are answers; this program's own are not
     std::panic::set_hook(Box::new(|p| {
@@ -169,18 +182,22 @@ fn main() {
             eprintln!("{p}");
         }
     }));
-    let (mut calls, mut overflows, mut seed) = (3000, 0, 1);
+    let (mut calls, mut overflows, mut screens, mut seed) = (3000, 0, 0, 1);
     let args: Vec<String> = std::env::args().skip(1).collect();
     for pair in args.chunks(2) {
         match (pair[0].as_str(), pair.get(1).and_then(|v| v.parse::<u64>().ok())) {
             ("--calls", Some(n)) => calls = n as usize,
             ("--crowded", Some(n)) => overflows = n as usize,
+            ("--screens", Some(n)) => screens = n,
             ("--seed", Some(n)) => seed = n,
             _ => {
-                eprintln!("usage: calls [--calls N | --crowded N] [--seed N]");
+                eprintln!("usage: calls [--calls N | --crowded N | --screens N] [--seed N]");
                 std::process::exit(2);
             }
         }
+    }
+    if screens > 0 {
+        return questions(screens, seed);
     }
     let outcome = std::panic::catch_unwind(|| {
         if overflows > 0 {

@@ -1,8 +1,8 @@
--- `replay::unwritten` meets its contract: the place stays within the elements. Assumes nothing.
+-- `replay_frame::lent::unwritten` meets its contract: the place stays within the elements. Assumes nothing.
 use Prim.Native.Nat.{_≤_, _-_}
 use borrow.Author.Needs.{needs}
-use Rattle.replay.proofs.unwritten.Statement.{statement}
-use Rattle.replay.proofs.unwritten.Tie as tie
+use Rattle.replay_frame.proofs.lent.unwritten.Statement.{statement}
+use Rattle.replay_frame.proofs.lent.unwritten.Tie as tie
 
 abbrev Inv-loop : tie.InvT-loop
 Inv-loop lent₀ i₀ lent i = i ≤ 1024

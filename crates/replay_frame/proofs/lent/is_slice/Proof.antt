@@ -1,9 +1,9 @@
--- `replay::is_slice` meets its contract: the place stays within the elements. Assumes nothing.
+-- `replay_frame::lent::is_slice` meets its contract: the place stays within the elements. Assumes nothing.
 use Prim.Native.Nat.{_≤_, _-_}
 use lib.ListN.{length}
 use borrow.Author.Needs.{needs}
-use Rattle.replay.proofs.is_slice.Statement.{statement}
-use Rattle.replay.proofs.is_slice.Tie as tie
+use Rattle.replay_frame.proofs.lent.is_slice.Statement.{statement}
+use Rattle.replay_frame.proofs.lent.is_slice.Tie as tie
 
 abbrev Inv-loop : tie.InvT-loop
 Inv-loop lent f from n at₀ i₀ at i = i ≤ length lent

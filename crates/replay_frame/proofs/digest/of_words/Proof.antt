@@ -1,9 +1,9 @@
--- `replay::digest::of_words` meets its contract: the place stays within the column. Assumes nothing.
+-- `replay_frame::digest::of_words` meets its contract: the place stays within the column. Assumes nothing.
 use Prim.Native.Nat.{_≤_, _-_}
 use lib.ListN.{length}
 use borrow.Author.Needs.{needs}
-use Rattle.replay.proofs.digest.of_words.Statement.{statement}
-use Rattle.replay.proofs.digest.of_words.Tie as tie
+use Rattle.replay_frame.proofs.digest.of_words.Statement.{statement}
+use Rattle.replay_frame.proofs.digest.of_words.Tie as tie
 
 abbrev Inv-loop : tie.InvT-loop
 Inv-loop digest column d₀ i₀ d i = i ≤ length column

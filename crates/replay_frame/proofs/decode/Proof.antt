@@ -1,8 +1,8 @@
--- `replay::frame::decode` meets its contract: the places stay within the coded bytes and the frame. Assumes nothing.
+-- `replay_frame::decode` meets its contract: the places stay within the coded bytes and the frame. Assumes nothing.
 use Prim.Native.Nat.{_≤_, _-_}
 use borrow.Author.Needs.{needs}
-use Rattle.replay.proofs.frame.decode.Statement.{statement}
-use Rattle.replay.proofs.frame.decode.Tie as tie
+use Rattle.replay_frame.proofs.decode.Statement.{statement}
+use Rattle.replay_frame.proofs.decode.Tie as tie
 
 abbrev Inv-loop : tie.InvT-loop
 Inv-loop coded n frame₀ i₀ at₀ frame i at = (i ≤ 65537) × (at ≤ 114687)

@@ -1,15 +1,14 @@
 // A digest of a state, 64 bits over every word of it. Each step is one to one, so one wrong word always gives another digest.
-use crate::frame;
 use state_array::State;
 
 // The digest of a state.
-pub(crate) fn of(state: &State) -> u64 {
+pub fn of(state: &State) -> u64 {
     of_words(14695981039346656037, state)
 }
 
 // The digest of the state that a call is handed; a start, which does not look at it, hands back the blank one where it is refused.
-pub(crate) fn before(f: &[u8], state: &State) -> u64 {
-    if frame::field(f, 0) == 0 {
+pub fn before(f: &[u8], state: &State) -> u64 {
+    if crate::field(f, 0) == 0 {
         let blank = [0u64; state_array::WORDS];
         return of(&blank);
     }
