@@ -181,7 +181,7 @@ module _ (s : Forest) (h : Shape s) where
       let none-met : Met = record { id = e; link = none } in
       let m : Met = getD (belowId s x) i none-met in
       let k = some-met x (wayDown s) 0 (d .once x there) in
-      let within : i < length (belowId s x) = omega (arith, l, length-map (λ (m : Met). m .id) (belowId s x)) in
+      let within : i < length (belowId s x) = omega (arith, l, length-map (belowId s x) (λ (m : Met). m .id)) in
       let met = below-met s h r (k .0) m (k .1) (rw (k .2) (member-at (belowId s x) i none-met within)) in
       ap (linkAt (s .nodes)) (get-map (λ (m : Met). m .id) (belowId s x) i e none-met within)
       ∙ d .parented m met

@@ -4,12 +4,14 @@ use crate::inputs::{Batch, Shape};
 use crate::questions::*;
 use crate::screens::{Screen, clipping_chain};
 use calls::plain::Id;
-use cartgravel::{CHANGES, STACK, sys};
+use cartgravel::{CHANGES, STACK, TreeId, sys};
 use std::hint::black_box;
 use std::ptr::with_exposed_provenance;
 
 const PAINTED: usize = 512 * 1024;
 const PAINT: u8 = 0xA5;
+/// The longest label.
+const LABEL: usize = 32;
 
 /// Paints the memory below the caller's frame; answers where it begins.
 #[inline(never)]
@@ -48,8 +50,25 @@ pub fn print() {
     for (words, size, question, id) in questions(root, last) {
         line(words, size, question_stack(&screen, question, id));
     }
+    reading(&screen.ours, last);
     let mut walk = sys::Walk { node: named(last), side: FOLLOWING, filter: COMMON, count: 0 };
     line("`cartgravel_next`", size_of::<sys::FoundId>(), stack_of(&mut || done(walk.next(&screen.ours))));
+}
+
+/// The questions about a node's own data, the trees and the focus.
+fn reading(state: &sys::State, last: Id) {
+    let (found, id, mut label) = (size_of::<sys::FoundId>(), named(last), [0; LABEL]);
+    line("`cartgravel_node`", size_of::<sys::PlainNode>(), stack_of(&mut || done(state.node(id))));
+    line("`cartgravel_label`", size_of::<sys::Listed>(), stack_of(&mut || done(state.label(id, &mut label))));
+    line("`cartgravel_focus`", found, stack_of(&mut || done(state.focus())));
+    line("`cartgravel_root`", found, stack_of(&mut || done(state.root())));
+    line("`cartgravel_tree_id`", size_of::<sys::PlainTreeId>(), stack_of(&mut || done(state.tree_id(0))));
+    line(
+        "`cartgravel_tree_index`",
+        size_of::<sys::PlainIndex>(),
+        stack_of(&mut || done(state.tree_index(TreeId::ROOT))),
+    );
+    line("`cartgravel_tree_ends`", size_of::<sys::PlainEnds>(), stack_of(&mut || done(state.tree_ends(0))));
 }
 
 /// The stack of a question.
@@ -97,6 +116,7 @@ fn questions(root: Id, last: Id) -> Vec<(&'static str, usize, Question, Id)> {
         ("`cartgravel_last_filtered_child`", found, Question::LastChild(COMMON), (last.0, last.1 - 1)),
         ("`cartgravel_deepest_first_filtered_child`", found, Question::DeepestFirst(COMMON), root),
         ("`cartgravel_deepest_last_filtered_child`", found, Question::DeepestLast(COMMON), root),
+        ("`cartgravel_siblings`", listed, Question::Siblings(FOLLOWING), last),
         ("`cartgravel_filtered_children`", listed, Question::FilteredChildren(COMMON), (last.0, last.1 - 1)),
         ("`cartgravel_filtered_siblings`", listed, Question::FilteredSiblings(COMMON, FOLLOWING), last),
     ]

@@ -41,7 +41,11 @@ pub fn worst() -> Vec<Worst> {
     let kinds: [(&'static str, Vec<Batch>, Vec<Batch>); 6] = [
         ("nothing listed, 256 nodes, an ascending chain", chain(|i| i), vec![Batch::of(vec![])]),
         ("nothing listed, 256 nodes, a descending chain", chain(|i| 1000 - i), vec![nothing_on(1000)]),
-        ("nothing listed, 255 grafts that share one half of their tree ids", shared_half(), vec![nothing_on(0)]),
+        (
+            "nothing listed, 255 grafts that share one half of their tree ids",
+            shared_half(),
+            vec![nothing_on(0)],
+        ),
         ("60 listed, 216 child entries, 191 grafts, 32 trees", panes(), claims().to_vec()),
         ("the same, refused with 12 at the last node", panes(), vec![refused()]),
         ("64 listed, 256 children of which none is there", small(), vec![unknown_children()]),
