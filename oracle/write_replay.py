@@ -1,13 +1,13 @@
 #!/usr/bin/env python3
 """Writes the list of calls and questions that the program `replay` runs, and what it must print: crates/replay/stdin and crates/replay/stdout.
 
-    ACCESSKIT_CONSUMER_SRC=.. python3 oracle/write_replay.py --seed 5 --calls 2200 --screens 34
+    ACCESSKIT_CONSUMER_SRC=.. python3 oracle/write_replay.py --seed 5 --calls 2200 --screens 40 --screens-seed 775
 
 The program `calls` makes the calls and questions and answers them with the crate's real source (README.md). It runs three times: for histories
 near 256 nodes, which have the calls of number 20, for the other calls, and for questions about made screens; it prints how many questions are left
 out, and why. Everything that it prints is taken, in its order. Of each answer the list has every part, the state as a digest;
 crates/replay_frame/src/lib.rt says how a call or a question is laid out. The expected output is counted from the crate's answers; the program is not
-run. The same seed gives the same files. The script stops if a number from 0 to 21 has fewer than 20 calls, if there are fewer than 3,000 questions
+run. The same seeds give the same files. The script stops if a number from 0 to 21 has fewer than 20 calls, if there are fewer than 3,000 questions
 or if one, with its side and filter, is asked fewer than 20 times.
 """
 import argparse, collections, json, os, struct, subprocess, sys
@@ -201,15 +201,16 @@ def packed(frames):
 def main():
     options = argparse.ArgumentParser()
     options.add_argument('--calls', type=int, default=2200)
-    options.add_argument('--screens', type=int, default=34)
-    options.add_argument('--seed', type=int, default=5)
+    options.add_argument('--screens', type=int, default=40)
+    options.add_argument('--seed', type=int, default=5, help='of the calls')
+    options.add_argument('--screens-seed', type=int, default=775)
     options.add_argument('--spoil', metavar='FILE', help='write only this file: the list with one answer of each question changed, which the program must notice')
     o = options.parse_args()
     if not os.environ.get(SOURCE):
         sys.exit(f"{SOURCE} is not set: it must name the folder with accesskit_consumer 0.39.2's src/*.rs")
     subprocess.run(['cargo', 'build', '--release', '--offline', '--quiet', '-p', 'calls'], cwd=HERE, check=True)
     called, numbers = calls(o.calls, o.seed)
-    asked, kinds = questions(o.screens, o.seed)
+    asked, kinds = questions(o.screens, o.screens_seed)
     if o.spoil:
         open(o.spoil, 'wb').write(packed(called + spoiled(asked)))
         return

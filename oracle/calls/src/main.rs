@@ -3,7 +3,7 @@
 //!
 //!     calls --calls 3000 --seed 1
 //!     calls --crowded 24 --seed 1
-//!     calls --screens 34 --seed 1
+//!     calls --screens 40 --seed 1
 //!
 //! The second makes histories of states near 256 nodes instead, and prints all
 //! their calls until 24 had number 20. The third prints questions about so many
