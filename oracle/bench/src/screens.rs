@@ -114,6 +114,8 @@ pub fn worst(nodes: u64) -> Vec<Screen> {
     let plans = [
         saved_by_siblings(nodes),
         wide_below_a_chain(nodes),
+        outside_below_a_chain(nodes),
+        dropped_below_a_chain(nodes),
         nested_empty(nodes),
         containers_alone(nodes),
         scattered_four(nodes),
@@ -156,6 +158,32 @@ fn wide_below_a_chain(nodes: u64) -> Plan {
         name: "wide below a clipping chain",
         nodes,
         parent: Box::new(parent),
+        data: Box::new(data),
+        number: consecutive,
+    }
+}
+
+/// The same, but the others lie outside the box of the chain's end, so that both neighbours of each are asked.
+fn outside_below_a_chain(nodes: u64) -> Plan {
+    let last = nodes * 2 / 3;
+    let data = move |i: u64| {
+        let outside = boxed([0.0, 0.0, 10.0, 10.0], [5000.0, 0.0]);
+        with(if i <= last { meeting() } else { outside }, ORDINARY, CLIPS)
+    };
+    Plan { name: "the same, each outside", data: Box::new(data), ..wide_below_a_chain(nodes) }
+}
+
+/// A chain of clipping nodes of which the last third is dropped, since its first node lies outside.
+fn dropped_below_a_chain(nodes: u64) -> Plan {
+    let last = nodes * 2 / 3;
+    let data = move |i: u64| {
+        let outside = boxed([0.0, 0.0, 1000.0, 1000.0], [5000.0, 0.0]);
+        with(if i == last { outside } else { meeting() }, ORDINARY, CLIPS)
+    };
+    Plan {
+        name: "a chain, clipping, its last third dropped",
+        nodes,
+        parent: Box::new(above),
         data: Box::new(data),
         number: consecutive,
     }
