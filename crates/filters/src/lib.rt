@@ -34,7 +34,7 @@ pub enum FilterAnswer {
 pub fn filter(state: &State, id: FullNodeId, filter: Filter) -> FilterAnswer
     ensures { λ r. ⌜ r ≡ filterAnswer (view (now (state .entry))) id filter ⌝ }
 {
-    let mut parents = [0u16; 320];
+    let mut parents = [0u16; state_array::SLOTS];
     let asked = node_asked::asked(state, id, &mut parents);
     let number = asked.number;
     if number != 0 {

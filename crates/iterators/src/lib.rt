@@ -30,6 +30,9 @@ const WRITTEN: u8 = 0;
 
 const TOO_SHORT: u8 = 21;
 
+// The words of the longest list: two for each of 256 ids.
+const LIST_WORDS: usize = 512;
+
 // The siblings on a side, nearest first.
 pub fn siblings<'a, 'b>(
     state: &'a State,
@@ -39,7 +42,7 @@ pub fn siblings<'a, 'b>(
 ) -> ListAnswer
     ensures { λ r. ⌜ ListOf (view (now (state .entry)) .forest) id (links.siblings side (view (now (state .entry)) .forest) id) (now (out .entry)) r (now (out .exit)) ⌝ }
 {
-    let mut parents = [0u16; 320];
+    let mut parents = [0u16; state_array::SLOTS];
     let asked = node_asked::asked(state, id, &mut parents);
     let number = asked.number;
     if number != 0 {
@@ -66,7 +69,7 @@ pub fn filtered_children<'a, 'b>(
 ) -> ListAnswer
     ensures { λ r. ⌜ ChildList (view (now (state .entry))) id filter (now (out .entry)) r (now (out .exit)) ⌝ }
 {
-    let mut parents = [0u16; 320];
+    let mut parents = [0u16; state_array::SLOTS];
     let asked = node_asked::asked(state, id, &mut parents);
     let number = asked.number;
     if number != 0 {
@@ -98,7 +101,7 @@ pub fn filtered_siblings<'a, 'b>(
 ) -> ListAnswer
     ensures { λ r. ⌜ SiblingList (view (now (state .entry))) id filter side (now (out .entry)) r (now (out .exit)) ⌝ }
 {
-    let mut parents = [0u16; 320];
+    let mut parents = [0u16; state_array::SLOTS];
     let asked = node_asked::asked(state, id, &mut parents);
     let number = asked.number;
     if number != 0 {
@@ -124,7 +127,7 @@ fn list_from<'a, 'b>(
     requires { ⌜ Knows (now state) (start .known) ⌝ }
     ensures { λ r. ⌜ PutsList (listedFrom (filterOf filter (view (now (state .entry)))) side (now (state .entry)) (start .place)) (now (out .entry)) r (now (out .exit)) ⌝ }
 {
-    let mut ids = [0u64; 512];
+    let mut ids = [0u64; LIST_WORDS];
     let n = iterators_shown::collect(
         state,
         parents,
@@ -169,7 +172,7 @@ fn no_list(number: u8) -> ListAnswer
 pub fn filtered_parent(state: &State, id: FullNodeId, filter: Filter) -> NodeAnswer
     ensures { λ r. ⌜ NodeOf (view (now (state .entry))) id filter filteredParent r ⌝ }
 {
-    let mut parents = [0u16; 320];
+    let mut parents = [0u16; state_array::SLOTS];
     let asked = node_asked::asked(state, id, &mut parents);
     let number = asked.number;
     if number != 0 {
@@ -214,7 +217,7 @@ pub fn deepest_last_filtered_child(state: &State, id: FullNodeId, filter: Filter
 fn filtered_child(state: &State, id: FullNodeId, filter: Filter, side: Side) -> NodeAnswer
     ensures { λ r. ⌜ NodeOf (view (now (state .entry))) id filter (filteredChildOn side) r ⌝ }
 {
-    let mut parents = [0u16; 320];
+    let mut parents = [0u16; state_array::SLOTS];
     let asked = node_asked::asked(state, id, &mut parents);
     let number = asked.number;
     if number != 0 {
@@ -233,7 +236,7 @@ fn filtered_child(state: &State, id: FullNodeId, filter: Filter, side: Side) -> 
 fn deepest_child(state: &State, id: FullNodeId, filter: Filter, side: Side) -> NodeAnswer
     ensures { λ r. ⌜ NodeOf (view (now (state .entry))) id filter (deepestOn side) r ⌝ }
 {
-    let mut parents = [0u16; 320];
+    let mut parents = [0u16; state_array::SLOTS];
     let asked = node_asked::asked(state, id, &mut parents);
     let number = asked.number;
     if number != 0 {

@@ -30,7 +30,7 @@ pub fn step(state: &State, walk: Walk) -> Stepped
     ensures { λ r. ⌜ r ≡ steppedOf (nextOf (view (now (state .entry))) walk) ⌝ }
 {
     let node = walk.node;
-    let mut parents = [0u16; 320];
+    let mut parents = [0u16; state_array::SLOTS];
     let asked = node_asked::asked(state, node, &mut parents);
     let number = number_of(asked.number, walk.side, walk.filter);
     if number != 0 {

@@ -122,7 +122,7 @@ pub struct CountsAnswer {
 pub fn read(state: &State, id: FullNodeId) -> NodeReading
     ensures { λ r. ⌜ r ≡ reading (view (now (state .entry)) .forest) id ⌝ }
 {
-    let mut parents = [0u16; 320];
+    let mut parents = [0u16; state_array::SLOTS];
     let node = node_asked::asked(state, id, &mut parents);
     if node.number != 0 {
         return no_reading(node.number);
@@ -134,7 +134,7 @@ pub fn read(state: &State, id: FullNodeId) -> NodeReading
 pub fn label<'a, 'b>(state: &'a State, id: FullNodeId, out: &'b mut [u8]) -> ListAnswer
     ensures { λ r. ⌜ Labels (view (now (state .entry)) .forest) id (now (out .entry)) r (now (out .exit)) ⌝ }
 {
-    let mut parents = [0u16; 320];
+    let mut parents = [0u16; state_array::SLOTS];
     let node = node_asked::asked(state, id, &mut parents);
     if node.number != 0 {
         return ListAnswer {
@@ -157,7 +157,7 @@ pub fn label<'a, 'b>(state: &'a State, id: FullNodeId, out: &'b mut [u8]) -> Lis
 pub fn parent(state: &State, id: FullNodeId) -> NodeAnswer
     ensures { λ r. ⌜ r ≡ parentAnswer (view (now (state .entry)) .forest) id ⌝ }
 {
-    let mut parents = [0u16; 320];
+    let mut parents = [0u16; state_array::SLOTS];
     let node = node_asked::asked(state, id, &mut parents);
     if node.number != 0 {
         return NodeAnswer {
@@ -175,7 +175,7 @@ pub fn parent(state: &State, id: FullNodeId) -> NodeAnswer
 pub fn children<'a, 'b>(state: &'a State, id: FullNodeId, out: &'b mut [u64]) -> ListAnswer
     ensures { λ r. ⌜ Children (view (now (state .entry)) .forest) id (now (out .entry)) r (now (out .exit)) ⌝ }
 {
-    let mut parents = [0u16; 320];
+    let mut parents = [0u16; state_array::SLOTS];
     let node = node_asked::asked(state, id, &mut parents);
     if node.number != 0 {
         return ListAnswer {
@@ -198,7 +198,7 @@ pub fn children<'a, 'b>(state: &'a State, id: FullNodeId, out: &'b mut [u64]) ->
 pub fn is_hidden(state: &State, id: FullNodeId) -> HiddenAnswer
     ensures { λ r. ⌜ r ≡ hiddenAnswer (view (now (state .entry)) .forest) id ⌝ }
 {
-    let mut parents = [0u16; 320];
+    let mut parents = [0u16; state_array::SLOTS];
     let node = node_asked::asked(state, id, &mut parents);
     if node.number != 0 {
         return HiddenAnswer {
@@ -216,7 +216,7 @@ pub fn is_hidden(state: &State, id: FullNodeId) -> HiddenAnswer
 pub fn transform(state: &State, id: FullNodeId) -> TransformAnswer
     ensures { λ r. ⌜ r ≡ transformAnswer (view (now (state .entry)) .forest) id ⌝ }
 {
-    let mut parents = [0u16; 320];
+    let mut parents = [0u16; state_array::SLOTS];
     let node = node_asked::asked(state, id, &mut parents);
     if node.number != 0 {
         return TransformAnswer {
@@ -234,7 +234,7 @@ pub fn transform(state: &State, id: FullNodeId) -> TransformAnswer
 pub fn bounding_box(state: &State, id: FullNodeId) -> BoxAnswer
     ensures { λ r. ⌜ r ≡ boxAnswer (view (now (state .entry)) .forest) id ⌝ }
 {
-    let mut parents = [0u16; 320];
+    let mut parents = [0u16; state_array::SLOTS];
     let node = node_asked::asked(state, id, &mut parents);
     if node.number != 0 {
         return BoxAnswer {

@@ -146,10 +146,10 @@ fn preceding_slot(state: &State, parents: &[u16], i: usize) -> usize
 fn child_entry(state: &State, own: NodeId, first: u64, k: usize) -> NodeId
     ensures { λ r. ⌜ r ≡ record { 0 = child (now (state .entry)) (own .0) (first + k) } ⌝ }
 {
-    if 512 <= first {
+    if state_array::ENTRIES as u64 <= first {
         return own;
     }
-    if 512 <= k {
+    if state_array::ENTRIES <= k {
         return own;
     }
     NodeId(state_array::child_at(state, own.0, first as usize + k))

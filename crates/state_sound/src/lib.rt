@@ -19,7 +19,7 @@ use state_focus::FoundNode;
 pub fn sound(state: &State) -> bool
     ensures { λ r. ⌜ r ≡ sound (view (now (state .entry)) .forest) ⌝ }
 {
-    let mut parents = [0u16; 320];
+    let mut parents = [0u16; state_array::SLOTS];
     sound_noting(state, &mut parents)
 }
 
@@ -40,7 +40,7 @@ pub fn sound_noting<'a, 'b>(state: &'a State, parents: &'b mut [u16]) -> bool
 pub fn shape_is_sound(state: &State) -> bool
     ensures { λ r. ⌜ r ≡ soundShape (view (now (state .entry)) .forest) ⌝ }
 {
-    let mut parents = [0u16; 320];
+    let mut parents = [0u16; state_array::SLOTS];
     shape_noting(state, &mut parents)
 }
 

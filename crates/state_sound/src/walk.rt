@@ -5,7 +5,7 @@ ghost use mathlib.Core.Option.{some};
 ghost use Prim.Native.Nat.{_+_, _≤_, _<_};
 ghost use Rattle.base.specs.Tests.{sameOption};
 ghost use Rattle.state.specs.State.{sameLink};
-ghost use Rattle.state_array.specs.Layout.{child};
+ghost use Rattle.state_array.specs.Layout.{SLOTS, child};
 ghost use Rattle.state_array.specs.View.{linkOf, idIn, slotsOf};
 ghost use Rattle.state_lookup.specs.Lookup.{inOrder};
 ghost use Rattle.state_sound.specs.Parts.{belowIn, KidSays, MetAt, countedBelow, countedAll};
@@ -24,10 +24,10 @@ enum Kid {
 
 // The child entry at place j from `first` on; `own` where there is none.
 fn child_at(state: &State, own: NodeId, first: u64, j: usize) -> NodeId
-    requires { ⌜ j ≤ 320 ⌝ }
+    requires { ⌜ j ≤ SLOTS ⌝ }
     ensures { λ r. ⌜ r ≡ record { 0 = child (now (state .entry)) (own .0) (first + j) } ⌝ }
 {
-    if 512 <= first {
+    if state_array::ENTRIES as u64 <= first {
         return own;
     }
     NodeId(state_array::child_at(state, own.0, first as usize + j))
@@ -35,7 +35,7 @@ fn child_at(state: &State, own: NodeId, first: u64, j: usize) -> NodeId
 
 // What is met at place j one step below the node in slot p.
 fn kid_at(state: &State, p: usize, j: usize) -> Kid
-    requires { ⌜ j ≤ 320 ⌝ }
+    requires { ⌜ j ≤ SLOTS ⌝ }
     ensures { λ r. ⌜ KidSays (belowIn (now (state .entry)) p) j (idIn (now (state .entry)) p) r ⌝ }
 {
     let d = state_array::shape_at(state, p);
@@ -91,8 +91,8 @@ fn goes_down<'a, 'b>(state: &'a State, r: usize, parents: &'b mut [u16]) -> bool
     ensures { λ z. ⌜ z ≡ countedBelow (now (state .entry)) r ⌝ }
 {
     let n = state_array::slots(state);
-    let mut path = [r; 320];
-    let mut nexts = [0usize; 320];
+    let mut path = [r; state_array::SLOTS];
+    let mut nexts = [0usize; state_array::SLOTS];
     let mut depth = 1usize;
     let mut left = n - 1;
     let mut near = r;

@@ -8,6 +8,7 @@ ghost use Rattle.base.specs.Bytes.{listOf};
 ghost use Rattle.geometry.specs.Geometry.{sameRect, sameAffine};
 ghost use Rattle.record.specs.Batch.{sameData};
 ghost use Rattle.record_reader.specs.Reader.{batchIn, listedAt, fieldAt};
+ghost use Rattle.state_array.specs.Layout.{ENTRIES};
 ghost use Rattle.state_array.specs.Stored.{labelWord};
 ghost use Rattle.state_array.specs.View.{slotsOf, nodeIn};
 ghost use Rattle.update_notes.specs.Says.{Told, GONE, COMPARED, differWord};
@@ -90,7 +91,7 @@ fn same_data<'a>(
 
 // Where a node's children start among the child entries, at most their number.
 fn first_entry(first: u64) -> usize
-    ensures { λ r. ⌜ r ≡ min first 512 ⌝ }
+    ensures { λ r. ⌜ r ≡ min first ENTRIES ⌝ }
 {
     if first < state_array::ENTRIES as u64 {
         first as usize

@@ -13,6 +13,7 @@ use Rattle.ids.specs.declared.FullNodeId.{FullNodeId}
 use Rattle.record.specs.Batch.{Batch, namedIds}
 use Rattle.record_reader.specs.Reader.{noNode, listedAt}
 use Rattle.state.specs.State.{ParentAndIndex, Forest, State}
+use Rattle.state_array.specs.Layout.{SLOTS}
 use Rattle.state_array.specs.View.{graftIn, slotsOf, view}
 use Rattle.update.specs.Words.{here, mine, listed, turn, claim}
 use Rattle.update.specs.Gone.{gone}
@@ -132,16 +133,16 @@ columns state bytes c =
     ∷ part 64 (c .listed) (endWord state bytes c)
     ∷ part 64 (c .listed) (listedSlot state bytes c)
     ∷ part 256 (c .named) (namedSlot state bytes c)
-    ∷ part 320 (slotsOf state) (turnWord state bytes c)
-    ∷ part 320 (slotsOf state) (namingWord state bytes c)
+    ∷ part SLOTS (slotsOf state) (turnWord state bytes c)
+    ∷ part SLOTS (slotsOf state) (namingWord state bytes c)
     ∷ part 64 (c .listed) (claimWord state bytes c)
-    ∷ part 320 (slotsOf state) (aboveWord state bytes c)
-    ∷ part 320 (slotsOf state) (goesWord state bytes c)
+    ∷ part SLOTS (slotsOf state) (aboveWord state bytes c)
+    ∷ part SLOTS (slotsOf state) (goesWord state bytes c)
     ∷ part 64 (c .listed) (differWord state bytes c)
     ∷ part 1 1 (λ r. outcomeCount state bytes c)
-    ∷ part 320 (outcomeCount state bytes c) (codeWord state bytes c)
-    ∷ part 320 (outcomeCount state bytes c) (sourceWord state bytes c)
-    ∷ part 320 (outcomeCount state bytes c) (changedWord state bytes c)
+    ∷ part SLOTS (outcomeCount state bytes c) (codeWord state bytes c)
+    ∷ part SLOTS (outcomeCount state bytes c) (sourceWord state bytes c)
+    ∷ part SLOTS (outcomeCount state bytes c) (changedWord state bytes c)
     ∷ []
 
 -- how many columns are written after each phase

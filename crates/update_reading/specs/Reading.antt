@@ -11,6 +11,7 @@ use Rattle.ids.specs.Ids.{sameTree}
 use Rattle.ids.specs.declared.TreeIndex.{TreeIndex}
 use Rattle.record.specs.Batch.{graft?}
 use Rattle.record_reader.specs.Reader.{batchIn, listedAt}
+use Rattle.state_array.specs.Layout.{SLOTS}
 use Rattle.update_notes.specs.Layout.{LISTED-SLOTS}
 use Rattle.update_notes.specs.Columns.{Holds, Below}
 use Rattle.update_notes.specs.Setting.{forest}
@@ -45,7 +46,7 @@ MarksTo slot count to n notes = (i : ℕ) → i < n → MarkOf slot count i (get
 pub record MarkRoom (from count to n : ℕ) (notes : List ℕ) : Type 0 where
   pub before : from + count ≤ to
   pub room : to + n ≤ 4096
-  pub few : n ≤ 320
+  pub few : n ≤ SLOTS
   pub long : length notes ≡ 4096
   pub zeros : Holds notes to n (λ i. 0)
 

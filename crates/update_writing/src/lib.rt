@@ -3,7 +3,7 @@ ghost use mathlib.Core.Path.{_≡_};
 ghost use Prim.Native.Nat.{_+_, _≤_, _<_};
 ghost use lib.ListN.{length, set, replicate};
 ghost use Rattle.base.specs.Regions.{fill};
-ghost use Rattle.state_array.specs.Layout.{WORDS, place, TREE, PARENT-TREE};
+ghost use Rattle.state_array.specs.Layout.{WORDS, SLOTS, ENTRIES, NODE-FIELDS, place, TREE, PARENT-TREE};
 ghost use Rattle.state_array.specs.Stored.{headWord, stored};
 ghost use Rattle.update_notes.specs.Codes.{Coded, codeId};
 ghost use Rattle.update_notes.specs.Setting.{asked, forest};
@@ -84,7 +84,7 @@ fn id_of<'a>(
 
 // Stores the id of slot r.
 fn put_id(next: &mut State, r: usize, x: FullNodeId)
-    requires { ⌜ r < 320 ⌝ }
+    requires { ⌜ r < SLOTS ⌝ }
     ensures { λ _. ⌜ now (next .exit) ≡ wordsPut TREE r (idPair x) (now (next .entry)) ⌝ }
 {
     let words = [x.tree.0 as u64, x.node.0];
@@ -93,7 +93,7 @@ fn put_id(next: &mut State, r: usize, x: FullNodeId)
 
 // Stores its link.
 fn put_link(next: &mut State, r: usize, l: LinkRow)
-    requires { ⌜ r < 320 ⌝ }
+    requires { ⌜ r < SLOTS ⌝ }
     ensures { λ _. ⌜ now (next .exit) ≡ wordsPut PARENT-TREE r (linkWords l) (now (next .entry)) ⌝ }
 {
     let words = [l.parent.tree.0 as u64, l.parent.node.0, l.index, l.linked];
@@ -102,7 +102,7 @@ fn put_link(next: &mut State, r: usize, l: LinkRow)
 
 // Stores its data, the children aside.
 fn put_body(next: &mut State, r: usize, body: Body)
-    requires { ⌜ r < 320 ⌝ }
+    requires { ⌜ r < SLOTS ⌝ }
     ensures { λ _. ⌜ now (next .exit) ≡ bodyPut r body (now (next .entry)) ⌝ }
 {
     let graft = [body.graft.high, body.graft.low, body.flags];
@@ -122,7 +122,7 @@ fn put_body(next: &mut State, r: usize, body: Body)
 
 // Stores words as the fields from f on of slot r.
 fn put_words(next: &mut State, f: usize, r: usize, words: &[u64])
-    requires { ⌜ (f + length (now words) ≤ 28) × (r < 320) ⌝ }
+    requires { ⌜ (f + length (now words) ≤ NODE-FIELDS) × (r < SLOTS) ⌝ }
     ensures { λ _. ⌜ now (next .exit) ≡ wordsPut f r (now (words .entry)) (now (next .entry)) ⌝ }
 {
     let mut k = 0usize;
@@ -134,7 +134,7 @@ fn put_words(next: &mut State, f: usize, r: usize, words: &[u64])
 
 // Stores field f of slot r.
 fn put_word(next: &mut State, f: usize, r: usize, v: u64)
-    requires { ⌜ (f < 28) × (r < 320) ⌝ }
+    requires { ⌜ (f < NODE-FIELDS) × (r < SLOTS) ⌝ }
     ensures { λ _. ⌜ now (next .exit) ≡ set (now (next .entry)) (place f r) v ⌝ }
 {
     next[state_array::NODES + state_array::SLOTS * f + r] = v;
@@ -170,7 +170,7 @@ fn write_run<'a>(
     source: usize,
     first: usize,
 ) -> usize
-    requires { ⌜ first + length (sourceChildren (now state) (now batch) source) ≤ 512 ⌝ }
+    requires { ⌜ first + length (sourceChildren (now state) (now batch) source) ≤ ENTRIES ⌝ }
     ensures { λ r. ⌜ r ≡ first + length (sourceChildren (now (state .entry)) (now (batch .entry)) source) ⌝ }
     ensures { λ _. ⌜ now (next .exit) ≡ runWritten (sourceChildren (now (state .entry)) (now (batch .entry)) source) first (now (next .entry)) ⌝ }
 {
@@ -198,7 +198,7 @@ fn child_count<'a>(state: &'a State, batch: &'a [u8], source: usize) -> usize
 // The number of child j of those that a source names.
 fn child_of<'a>(state: &'a State, batch: &'a [u8], source: usize, j: usize) -> u64
     requires { ⌜ j < length (sourceChildren (now state) (now batch) source) ⌝ }
-    requires { ⌜ j < 512 ⌝ }
+    requires { ⌜ j < ENTRIES ⌝ }
     ensures { λ r. ⌜ r ≡ kidWord (sourceChildren (now (state .entry)) (now (batch .entry)) source) j ⌝ }
 {
     if source < state_array::SLOTS {
@@ -210,7 +210,7 @@ fn child_of<'a>(state: &'a State, batch: &'a [u8], source: usize, j: usize) -> u
 
 // The number of child j of the node in a slot, its own where there is no such entry.
 fn old_child(state: &State, slot: usize, j: usize) -> u64
-    requires { ⌜ j < 512 ⌝ }
+    requires { ⌜ j < ENTRIES ⌝ }
     ensures { λ r. ⌜ r ≡ slotChild (now (state .entry)) slot j ⌝ }
 {
     let x = state_array::id_at(state, slot);
