@@ -287,17 +287,9 @@ pub fn shown_sibling(
         return Start { known, place: end };
     }
     let told = filters::known_included(state, filter, parent);
-    if n
-        <= filtered_child(
-            state,
-            parents,
-            focused,
-            filter,
-            told,
-            Side::Following,
-            parent,
-        )
-    {
+    let on = Side::Following;
+    let first = filtered_child(state, parents, focused, filter, told, on, parent);
+    if n <= first {
         return Start { known, place: end };
     }
     let level = up.level;
