@@ -2,8 +2,8 @@
 //
 // A program keeps a `cartgravel_state`, starts it once and hands it batches; then it asks what has the focus, what a node is called and what a
 // cardholder can reach from there. Each call and each question answers a number; CARTGRAVEL_ACCEPTED is 0. After any other number the lent slice is
-// as it was, the rest of the answer is zeros, and the state is as it was; only a refused start leaves the blank state, which no other call takes. Any
-// bytes may stand in a state, a batch, a walk or a slice.
+// as it was, the rest of the answer is zeros, and the state is as it was; only a refused start leaves the blank state, which no other call takes.
+// cartgravel_explain says why a batch gets its number. Any bytes may stand in a state, a batch, a walk or a slice.
 //
 // The calls keep no pointer, allocate nothing and have no state of their own, so threads may call them at once, each on its own memory; questions may
 // share a state. A call needs CARTGRAVEL_STACK bytes of stack. A state lives where its owner puts it.
@@ -51,6 +51,26 @@ enum cartgravel_number {
     CARTGRAVEL_TOO_MANY_NODES = 20,       // more than 256 nodes in the outcome
     CARTGRAVEL_LIST_TOO_SHORT = 21,       // a lent list too short for what it should hold
     CARTGRAVEL_NODE_ABSENT = 22           // the node asked about is not in the state
+};
+
+// The rules of a sound state, as cartgravel_explanation has them for 1 (of the state handed in) and 19 (of the outcome): the first that is broken.
+// `place` is the slot of a node among those of the state, which are sorted by id, or a tree's number; fields that are not named are 0 or none.
+enum cartgravel_rule {
+    CARTGRAVEL_RULE_NODES = 1,               // more than 256 nodes
+    CARTGRAVEL_RULE_TREES = 2,               // more than 32 tree numbers
+    CARTGRAVEL_RULE_CHILDREN = 3,            // `node`, in slot `place`, has more than 256 children
+    CARTGRAVEL_RULE_ABSENT_BELOW = 4,        // `node`, a child of `by` or the root of the tree that `by` grafts, is absent; `by` is in slot `place`
+    CARTGRAVEL_RULE_MET_TWICE = 5,           // `node`, in slot `place`, is met more than once going down from the root
+    CARTGRAVEL_RULE_NEVER_MET = 6,           // `node`, in slot `place`, is never met; `also` is the topmost such node above it, `by` its parent
+    CARTGRAVEL_RULE_WRONG_LINK = 7,          // `node`, in slot `place`, records the parent `by` (or none) and is met under `also` (or none)
+    CARTGRAVEL_RULE_GRAFT_WITH_CHILDREN = 8, // `node`, in slot `place`, is a graft and has children
+    CARTGRAVEL_RULE_GRAFTED_TWICE = 9,       // `node`, in slot `place`, and `also`, a later one, graft `tree`
+    CARTGRAVEL_RULE_ROOT_NOT_FIRST = 10,     // ROOT does not exist or does not have number 0
+    CARTGRAVEL_RULE_TREE_TWICE = 11,         // `tree`, with number `place`, has an earlier number
+    CARTGRAVEL_RULE_TREE_UNROOTED = 12,      // `tree`, with number `place`, exists, and its root is absent or no node grafts it
+    CARTGRAVEL_RULE_OUT_OF_ORDER = 13,       // the ids do not ascend after `node`, in slot `place`
+    CARTGRAVEL_RULE_BROKEN_FIELD = 14,       // a field of `node`, in slot `place`, breaks the record's rules
+    CARTGRAVEL_RULE_NO_FOCUS = 15            // the effective focus is absent
 };
 
 // The filters, for questions; a walk takes CARTGRAVEL_UNFILTERED too. Any other number is refused with 2.
@@ -103,6 +123,7 @@ enum {
     CARTGRAVEL_IDS = 512,            // elements of a list of nodes
     CARTGRAVEL_STATE_WORDS = 9640,   // words of a state
     CARTGRAVEL_STATE_BYTES = 77120,  // bytes of a state
+    CARTGRAVEL_WAY_WORDS = 66,       // words of a way
     CARTGRAVEL_STACK = 196608        // bytes of stack for a call
 };
 
@@ -193,6 +214,38 @@ typedef struct {
     double e;
     double f;
 } cartgravel_affine;
+
+// Why a batch or a start gets its number: what makes the first row of the table hold that does. Places count from 0; what a number does not use is 0,
+// a node none.
+//
+//   number   rule   place             other         tree          node                  by                       also
+//   1, 19    rule   a cartgravel_rule says what the others are
+//   2        1..26  offset of bytes                                                                              (docs/DEFINITIONS.md has the rules)
+//   4                                               the start's
+//   5               its second place  its first                   the node
+//   6, 7, 8                                         the batch's
+//   9                                                             the child             its second namer         its first namer
+//   10, 11                                                        the node
+//   12       1                                      the tree      claims it then                                 claimed it first
+//   12       2                                      the tree      claims it                                      held it, and keeps it
+//   13              its place                                     the node
+//   14                                                            the child             the node that names it
+//   15              nodes of the way                that is not   the graft, the last
+//   16                                                            ROOT's root
+//   17              nodes of the way                              the focus, the last
+//   18                                                            the node              dropped `also`, if any   the node or one above it, which goes
+//   20              nodes there are
+//   21              elements needed   those lent
+typedef struct {
+    size_t place;
+    size_t other;
+    cartgravel_uuid tree;
+    cartgravel_id node;
+    cartgravel_id by;
+    cartgravel_id also;
+    uint32_t rule;
+    uint32_t number;
+} cartgravel_explanation;
 
 // The answer of a question for a node: its id, or none.
 typedef struct {
@@ -287,6 +340,7 @@ static_assert(sizeof(cartgravel_id) == 16, "an id or none");
 static_assert(sizeof(cartgravel_reply) == 104, "a reply");
 static_assert(sizeof(cartgravel_node_id) == 16, "a node's id");
 static_assert(sizeof(cartgravel_uuid) == 16, "a tree id");
+static_assert(sizeof(cartgravel_explanation) == 88, "a reason");
 static_assert(sizeof(cartgravel_found) == 24, "a node found");
 static_assert(sizeof(cartgravel_listed) == 16, "a list's length");
 static_assert(sizeof(cartgravel_flag) == 8, "a flag");
@@ -314,6 +368,16 @@ cartgravel_reply cartgravel_update(cartgravel_state *state, const uint8_t *batch
 
 // A host focus change: whether the terminal itself has the focus.
 cartgravel_reply cartgravel_host_focus(cartgravel_state *state, uint32_t host_focused);
+
+// Why a batch on a state would get the number that cartgravel_update answers with `room` elements lent, also 0. It changes nothing but `way`, which
+// is written whole: for 15 and 17 the way from ROOT's focus through the grafts, two words an id (tree number, node number), and zeros after it; for
+// every other number zeros.
+cartgravel_explanation cartgravel_explain(const cartgravel_state *state, const uint8_t *batch, size_t length, size_t room,
+                                          uint64_t way[CARTGRAVEL_WAY_WORDS]);
+
+// Why a start would get the number that cartgravel_start answers. It works in `memory`, which need not be initialised, and leaves the blank state
+// there, all zeros.
+cartgravel_explanation cartgravel_explain_start(cartgravel_state *memory, const uint8_t *batch, size_t length, uint64_t way[CARTGRAVEL_WAY_WORDS]);
 
 // The questions about a state. They change nothing but the lent slice, or the walk. A question about a node that is not there answers
 // CARTGRAVEL_NODE_ABSENT, one whose slice of `room` elements is too short CARTGRAVEL_LIST_TOO_SHORT; elements beyond a list keep what they held.
@@ -416,6 +480,29 @@ static inline const char *cartgravel_words(uint32_t number) {
         "the node asked about is not in the state",
     };
     return number < sizeof words / sizeof words[0] ? words[number] : "no such number";
+}
+
+// A rule of a sound state that is broken in plain words, or "no such rule".
+static inline const char *cartgravel_rule_words(uint32_t rule) {
+    static const char *const words[] = {
+        "no such rule",
+        "more than 256 nodes",
+        "more than 32 tree numbers",
+        "a node with more than 256 children",
+        "a child, or the root of a grafted tree, is absent",
+        "a node is met more than once going down from the root",
+        "a node is never met going down from the root",
+        "a node records another parent or place than it is met under",
+        "a graft has children",
+        "two nodes graft one tree",
+        "ROOT does not exist or does not have number 0",
+        "a tree id has two numbers",
+        "a tree exists, and its root is absent or no node grafts it",
+        "the ids do not ascend",
+        "a field of a node breaks the record's rules",
+        "the effective focus is absent",
+    };
+    return rule < sizeof words / sizeof words[0] ? words[rule] : words[0];
 }
 
 #ifdef __cplusplus

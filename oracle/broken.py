@@ -18,8 +18,8 @@ CHANGES = [
     ('ids sorted by node number first', 'ids',
      '(x.tree.0 < y.tree.0) | ((x.tree.0 == y.tree.0) & (x.node.0 < y.node.0))',
      '(x.node.0 < y.node.0) | ((x.node.0 == y.node.0) & (x.tree.0 < y.tree.0))'),
-    ('64 listed nodes are too many', 'record_layout', '(nodes <= 64)', '(nodes < 64)'),
-    ('a label of 32 bytes is too long', 'record_layout', '(u16_at(batch, at + 38) <= 32)', '(u16_at(batch, at + 38) < 32)'),
+    ('64 listed nodes are too many', 'record_layout', 'nodes <= 64', 'nodes < 64'),
+    ('a label of 32 bytes is too long', 'record_layout', 'u16_at(batch, at + 38) <= 32', 'u16_at(batch, at + 38) < 32'),
     ('a state\'s unused flag bit is not looked at', 'state_fields', '\n        & (flags < 64)', ''),
     ('a state\'s role past the byte is not looked at', 'state_fields', '\n        & (word_at(state, state_array::ROLE, i) < 256)', ''),
     ('a state\'s recorded places are not looked at', 'state_sound/walk', ' & (l.index == j as u64)', ''),
@@ -29,7 +29,7 @@ CHANGES = [
      '''    let k = scope.listed;
     if 0 < k {
         if update_notes::grafts_new(batch, 0) & (0 < record_reader::child_count(batch, 0)) {
-            return 10;
+            return Cause::GraftOverChildren(0);
         }
     }
     let mut done = [0u8; 65];'''),
@@ -53,7 +53,7 @@ CHANGES = [
     ('new bits written over equal data', 'update_plan', '(turn - 1) as usize] == 1 {', '(turn - 1) as usize] <= 1 {'),
     ('a pane\'s root listed without tree data loses its link', 'update_links', 'let cut = root & scope.is_root_tree;', 'let cut = root;'),
     ('a tree moved to another graft keeps its old link', 'update_links', 'under(listed_id(state, batch, scope, notes, i), 0)', 'was'),
-    ('256 nodes are too many', 'update_rows', 'const MOST_NODES: usize = 256;', 'const MOST_NODES: usize = 255;'),
+    ('256 nodes are too many', 'update_rows', 'if state_array::MOST_NODES < state_array::slots(next) {', 'if state_array::MOST_NODES <= state_array::slots(next) {'),
     ('relinked leaves out a change to no parent', 'update_reports', 'return was.linked != 0;', 'return false;'),
     ('the lists in descending order', 'update_reports',
      '''if has_bit(notes[start + i], weight) {
@@ -68,8 +68,8 @@ CHANGES = [
     ('a batch sets the host flag', 'update_writing', 'next[state_array::HOST] = host;', 'next[state_array::HOST] = 1;'),
     ('bytes of a label that is cut are left', 'state_array', 'low_bytes(word_at(state, LABEL + k, i), length - from)', 'word_at(state, LABEL + k, i)'),
     ('the added ids are written before 21', 'update_reports', '    if !fit {\n', '    if !fit {\n        if 1 < changes.len() {\n            changes[0] = 0;\n        }\n'),
-    ('21 hands back the blank state', 'calls', '        return refused(21);', '        clear(state);\n        return refused(21);'),
-    ('a refused start leaves what it made', 'calls', '        clear(state);\n        return refused(refusal.number);', '        return refused(refusal.number);'),
+    ('21 hands back the blank state', 'calls', '        return replies::refused(21);', '        clear(state);\n        return replies::refused(21);'),
+    ('a refused start leaves what it made', 'calls', '        clear(state);\n        return replies::refused(refusal.number);', '        return replies::refused(refusal.number);'),
 ]
 
 # The same in the code of modules 6 to 8: questions about made screens must notice these.
@@ -86,7 +86,7 @@ QUESTIONS = [
     ('a node that is not there is asked about', 'node_asked', 'if state_array::slots(state) <= slot {', 'if state_array::slots(state) < slot {'),
     ('a question on a state that is not sound', 'node_asked', 'if !state_sound::sound_noting(state, parents) {', 'if !state_fields::fields_are_ok(state) {'),
     ('a slice just long enough for the children refused', 'node', 'if out.len() / 2 < length {', 'if out.len() / 2 <= length {'),
-    ('a node\'s own flags mixed up', 'node/own', 'hidden: flag(flags, 1),', 'hidden: flag(flags, 2),'),
+    ('a node\'s own flags mixed up', 'node_answers/own', 'hidden: flag(flags, 1),', 'hidden: flag(flags, 2),'),
     ('the ends of a tree that went', 'node/tree_state', 'if t.exists == 0 {', 'if (t.exists == 0) & (k < 1) {'),
     ('focused though it is its own active descendant', 'filters_plain', 'if a == i {\n        return n;', 'if a == i {\n        return i;'),
     ('focused without the host', 'filters_plain', 'if state_array::host(state) == 0 {', 'if state_array::host(state) == 7 {'),
@@ -108,9 +108,40 @@ QUESTIONS = [
     ('an element beyond the list written', 'iterators', 'while i < words {', 'while (i < words + 1) & (i < out.len()) {'),
 ]
 
+# The same in the code that says why: the driver's own tests of the reasons must notice these.
+REASONS = [
+    ('2: another offset', 'record_layout', '.then(15, at + 38,', '.then(15, at + 36,'),
+    ('5: the places the other way round', 'reasons_rows', 'place: again.second,\n        other: again.first,', 'place: again.first,\n        other: again.second,'),
+    ('6: told of ROOT', 'reasons_rows', 'return of_tree(6, id);', 'return of_tree(6, TreeId { high: 0, low: 0 });'),
+    ('9: the namers the other way round', 'update_pass/why', 'of_nodes(9, child, by, also)', 'of_nodes(9, child, also, by)'),
+    ('10: the first listed node', 'update_pass/why', 'of_nodes(10, x, ', 'of_nodes(10, listed_id(state, batch, scope, notes, i / 64), '),
+    ('11: the first listed node', 'update_pass/why', 'of_nodes(11, x, ', 'of_nodes(11, listed_id(state, batch, scope, notes, i / 64), '),
+    ('12: the claims the other way round', 'update_pass/why', 'claimed_twice(state, batch, scope, notes, i, m),', 'claimed_twice(state, batch, scope, notes, m, i),'),
+    ('12: the holder told as the claimer', 'reasons_outcome', 'return claimed_why(tree, y, x);', 'return claimed_why(tree, x, y);'),
+    ('13: another place', 'update_pass/why', 'place: i,', 'place: i / 64,'),
+    ('14: the first listed node names the child', 'update_pass/why', 'let by = namer(state, batch, scope, notes, j);', 'let by = namer(state, batch, scope, notes, j / 256);'),
+    ('15: told of ROOT', 'reasons_focus', 'way::last_graft(next));', 'TreeId { high: 0, low: 0 });'),
+    ('15 and 17: the way backwards', 'reasons_focus', 'way[j] = word;', 'way[most - 1 - j] = word;'),
+    ('17: the way is not written', 'explain', '(why.number == 15) | (why.number == 17)', 'why.number == 15'),
+    ('18: the node itself told as the one that lost its place', 'reasons_outcome/climb', '!= update_gone::AS_PARENT {', '!= update_gone::AS_PARENT + 9 {'),
+    ('18: nobody dropped it', 'reasons_outcome/climb', 'by: listed_parent(state, batch, scope, notes, at),', 'by: FoundNode::Nothing,'),
+    ('19: the largest absent node', 'reasons_shape/links', 'if ids::is_before(y, x) {', 'if ids::is_before(x, y) {'),
+    ('19: a node met twice told later', 'reasons_shape/links', 'if twice.rule != 0 {', 'if twice.rule == 9 {'),
+    ('19: the node itself told as the topmost', 'reasons_shape/links', 'if !is_lost(state, marks, p) {', 'if !is_lost(state, marks, p) | (0 < left) {'),
+    ('19: the parents the other way round', 'reasons_shape/links', 'parent_of(l),\n                parent_of(first),', 'parent_of(first),\n                parent_of(l),'),
+    ('19: nodes three steps down are not reached', 'reasons_reached', 'while k < n {\n        marks', 'while (k < n) & (k < 2) {\n        marks'),
+    ('1: the next slot', 'reasons_shape', 'return of_node(\n                1,\n                14,\n                i,', 'return of_node(\n                1,\n                14,\n                i + 1,'),
+    ('1: a tree\'s number told wrong', 'reasons_shape/trees', 'place: k,', 'place: 0,'),
+    ('20: the limit told as the count', 'reasons_focus', 'place: n,', 'place: 256,'),
+    ('21: the room told as the need', 'reasons_rows', 'place: most,', 'place: room,'),
+    ('the words of the way keep what they held', 'explain', 'clear(way);\n    let refusal = update_rows::first_rows', 'let refusal = update_rows::first_rows'),
+    ('a start\'s memory keeps what was worked in it', 'explain', 'let why = start_why(memory, batch, way);\n    calls::clear(memory);', 'let why = start_why(memory, batch, way);'),
+]
+
 # The library's functions after `cartgravel_`: what C's answer is called, and the arguments.
 FUNCTIONS = {
     'start': ('reply', 'state batch number'), 'update': ('reply', 'state batch changes'), 'host_focus': ('reply', 'state number'),
+    'explain': ('explanation', 'asked batch room way'), 'explain_start': ('explanation', 'state batch way'),
     'focus': ('found', 'asked'), 'root': ('found', 'asked'), 'counts': ('counts_answer', 'asked'),
     'tree_id': ('tree_answer', 'asked index'), 'tree_index': ('index_answer', 'asked tree'), 'tree_ends': ('ends_answer', 'asked index'),
     'node': ('node_answer', 'asked id'), 'label': ('listed', 'asked id label'),
@@ -125,7 +156,7 @@ FUNCTIONS = {
 # An argument as the program below gives it.
 GIVEN = {'state': '&mut state', 'asked': '&state', 'batch': '&b', 'changes': '&mut lent', 'ids': '&mut lent', 'label': '&mut bytes', 'number': '1', 'other': '1',
          'index': 'ids::TreeIndex(1)', 'tree': 'ids::TreeId { high: 0, low: 0 }', 'id': 'ids::FullNodeId { tree: ids::TreeIndex(0), node: ids::NodeId(1) }',
-         'walk': '&mut walk'}
+         'walk': '&mut walk', 'room': '1', 'way': '&mut way'}
 
 
 def path_of(name):
@@ -143,6 +174,7 @@ def program():
     let b = [0u8; 3];
     let mut lent = [0u64; 9];
     let mut bytes = [0u8; 9];
+    let mut way = [0u64; 66];
     let mut state = [0u64; 9640];
     let mut said = 0u64;
     let mut walk = questions::Walk {
@@ -166,6 +198,7 @@ CROSSES = {
     'number': ('uint32_t number', 'uint32_t', 'number'), 'other': ('uint32_t other', 'uint32_t', 'other'),
     'index': ('uint32_t index', 'const uint32_t *', '&index'), 'tree': ('cartgravel_uuid tree', 'const cartgravel_uuid *', '&tree'),
     'id': ('cartgravel_node_id id', 'const cartgravel_node_id *', '&id'), 'walk': ('cartgravel_walk *walk', 'cartgravel_walk *', 'walk'),
+    'room': ('size_t room', 'size_t', 'room'), 'way': ('uint64_t *way', 'uint64_t *', 'way'),
 }
 
 
@@ -213,7 +246,7 @@ def copy_sources(folder, change):
                 text = text.replace(change[2], change[3])
             text = re.sub(r'^ghost use .*\n', '', text, flags=re.M)
             text = re.sub(r'^mod ', 'pub mod ', text, flags=re.M)
-            write(f'{folder}/{crate}/{name}', re.sub(r'^    (requires|ensures)\b.*\n', '', text, flags=re.M))
+            write(f'{folder}/{crate}/{name}', re.sub(r'^ +(requires|ensures)\b.*\n', '', text, flags=re.M))
         words += ['--lib', f'{crate}={folder}/{crate}/lib.rt']
     return words
 
@@ -260,8 +293,8 @@ def noticed(driver, words, environment, seconds):
         said = subprocess.run([driver] + words, capture_output=True, text=True, timeout=seconds, env=environment)
     except subprocess.TimeoutExpired:
         return 'no end', ''
-    first = re.search(r'^(?:call|question) (\d+), the first that differs', said.stdout, re.M)
-    counts = re.findall(r'; (\d+) differ$', said.stdout, re.M)
+    first = re.search(r'^(?:call|question) (\d+), the first (?:that differs|whose reason is false)', said.stdout, re.M)
+    counts = re.findall(r'; (\d+) (?:differ|are false)$', said.stdout, re.M)
     if not counts:
         return f'ended with {said.returncode}', first[1] if first else ''
     return sum(map(int, counts)), first[1] if first else ''
@@ -271,7 +304,7 @@ def tried(change, driver, options):
     """Builds the library with a change and answers what the runs noticed: of calls, of small batches, of questions; none where there is no run."""
     seed = ['--seed', str(options.seed)]
     runs = [['--batches', str(options.batches)] + seed, ['--exhaustive', '--every', str(options.every)], ['--questions', str(options.screens)] + seed]
-    wanted = [change not in QUESTIONS, change not in QUESTIONS, change not in CHANGES]
+    wanted = [change not in QUESTIONS, change not in QUESTIONS, change not in CHANGES + REASONS]
     with tempfile.TemporaryDirectory() as folder:
         build(folder, change)
         environment = {**os.environ, UNPROVED: f'{folder}/unproved.so'}
@@ -285,12 +318,13 @@ def main():
     options.add_argument('--every', type=int, default=50, help='of the small batches')
     options.add_argument('--screens', type=int, default=600, help='made screens that questions are asked about')
     options.add_argument('--questions', action='store_true', help='the changes in modules 6 to 8 alone')
+    options.add_argument('--reasons', action='store_true', help='the changes in what says why alone')
     options.add_argument('--seconds', type=int, default=600, help='the most that a run may take')
     options.add_argument('--only', default='', help='changes whose description has these words')
     o = options.parse_args()
     if not os.environ.get(SOURCE):
         sys.exit(f"{SOURCE} is not set: it must name the folder with accesskit_consumer 0.39.2's src/*.rs")
-    for what, where, text, _ in CHANGES + QUESTIONS:
+    for what, where, text, _ in CHANGES + QUESTIONS + REASONS:
         count = read(source_file(where)).count(text)
         if count != 1:
             sys.exit(f'{what}: the text stands {count} times in {source_file(where)}')
@@ -302,7 +336,8 @@ def main():
     driver = os.path.join(target, 'release', 'driver')
     print('| what was changed | in | made calls that differ, the first | small calls that differ, the first | answers about screens that differ, the first |\n|---|---|---|---|---|', flush=True)
     good = True
-    for change in [None] + [c for c in ([] if o.questions else CHANGES) + QUESTIONS if o.only in c[0]]:
+    chosen = QUESTIONS if o.questions else REASONS if o.reasons else CHANGES + QUESTIONS + REASONS
+    for change in [None] + [c for c in chosen if o.only in c[0]]:
         runs = tried(change, driver, o)
         what, where = (change[0], os.path.relpath(source_file(change[1]), REPOSITORY)) if change else ('nothing', '')
         cells = ['' if x[1] is None else '{}, {}'.format(*x) if x[1] else str(x[0]) for x in runs]

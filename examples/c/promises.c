@@ -1,6 +1,6 @@
 // What the header promises beside the proved functions: a start that does not read the state's memory, a state that a refusal leaves as it was, a batch
-// and a slice of no elements, questions that change nothing, and calls and questions that CARTGRAVEL_STACK suffices for. Ends with a failed test's name
-// and 1, or with 0.
+// and a slice of no elements, questions that change nothing, reasons that leave the state or blank memory, and calls, questions and reasons that
+// CARTGRAVEL_STACK suffices for. Ends with a failed test's name and 1, or with 0.
 #define _POSIX_C_SOURCE 200809L
 #include "batch.h"
 
@@ -114,10 +114,43 @@ static void on_a_small_stack(void *(*call)(void *)) {
     check(pthread_join(thread, NULL) == 0, "the thread's end");
 }
 
-// Whether every byte of the state is 0.
-static bool is_blank(void) {
+// Whether every byte of a state is 0.
+static bool is_zeros(const cartgravel_state *s) {
     static const cartgravel_state blank;
-    return memcmp(&blank, &state, sizeof state) == 0;
+    return memcmp(&blank, s, sizeof blank) == 0;
+}
+
+static bool is_blank(void) { return is_zeros(&state); }
+
+// Whether the words of a way from one on are 0.
+static bool ends(const uint64_t *way, size_t from) {
+    for (size_t i = from; i < CARTGRAVEL_WAY_WORDS; i++) {
+        if (way[i] != 0) return false;
+    }
+    return true;
+}
+
+// Why a batch gets its number, the state being the chain: its end names its root, and a focus that is not there.
+static void *reasons(void *unused) {
+    static cartgravel_state before, memory;
+    static uint8_t record[CARTGRAVEL_RECORD_BYTES];
+    uint64_t way[CARTGRAVEL_WAY_WORDS];
+    const uint64_t root = 0;
+    const batch_node end = {.id = CARTGRAVEL_NODES - 1, .role = 4, .children = &root, .child_count = 1};
+    memset(way, 0xa5, sizeof way);
+    memset(&memory, 0xa5, sizeof memory);
+    memcpy(&before, &state, sizeof state);
+    size_t length = batch_encode(record, sizeof record, &(batch){{0, 0}, NULL, 0, &end, 1});
+    const cartgravel_explanation circle = cartgravel_explain(&state, record, length, CARTGRAVEL_CHANGES, way);
+    check(circle.number == CARTGRAVEL_OUTCOME_NOT_SOUND && circle.rule == CARTGRAVEL_RULE_MET_TWICE, "the reason of a circle");
+    check(circle.node.present == 1 && circle.node.node == 0 && ends(way, 0), "the node of a circle");
+    length = batch_encode(record, sizeof record, &(batch){{0, 0}, NULL, 999, NULL, 0});
+    const cartgravel_explanation focus = cartgravel_explain(&state, record, length, CARTGRAVEL_CHANGES, way);
+    check(focus.number == CARTGRAVEL_FOCUS_ABSENT && focus.place == 1 && way[1] == 999 && ends(way, 2), "the reason of a focus");
+    check(memcmp(&before, &state, sizeof state) == 0, "a reason leaves the state");
+    check(cartgravel_explain_start(&memory, one_node, sizeof one_node, way).number == CARTGRAVEL_ACCEPTED, "a start's reason");
+    check(is_zeros(&memory) && ends(way, 0), "a start's reason leaves zeros");
+    return unused;
 }
 
 // Batches and slices of no elements. The state that the calls left stays, byte for byte; a refused start leaves the blank one.
@@ -148,6 +181,9 @@ int main(void) {
     nothing_lent();
     chain();
     on_a_small_stack(questions_about_a_chain);
+    on_a_small_stack(reasons);
+    check(strcmp(cartgravel_rule_words(15), "the effective focus is absent") == 0, "the last rule's words");
+    check(strcmp(cartgravel_rule_words(16), "no such rule") == 0, "words of no rule");
     check(strcmp(cartgravel_words(22), "the node asked about is not in the state") == 0, "the last number's words");
     check(strcmp(cartgravel_words(23), "no such number") == 0, "words of no number");
     return 0;

@@ -1,5 +1,5 @@
-// A sale: a shop starts its screen, makes room for a bank's pane, and the bank sends the pane; then a batch that is refused. Prints what
-// each call answered and what it changed. The screen is document 01's S; the batches are those of its cases 9 and 2.
+// A sale: a shop starts its screen, makes room for a bank's pane, and the bank sends the pane; then batches that are refused. Prints what each call
+// answered and what it changed, or why it refused. The screen is document 01's S; the batches are those of its cases 9, 2, 7 and 14.
 #include "batch.h"
 
 #include <inttypes.h>
@@ -41,6 +41,32 @@ static void print_reply(const char *what, const cartgravel_reply *reply, const u
     printf("\n");
 }
 
+// Prints words, an id or none, and other words.
+static void print_part(const char *before, cartgravel_id id, const char *after) {
+    printf("%s", before);
+    print_id(id);
+    printf("%s", after);
+}
+
+// Prints why a batch was refused. The header has what each field holds for a number.
+static void print_reason(const cartgravel_state *state, const uint8_t *record, size_t length) {
+    uint64_t way[CARTGRAVEL_WAY_WORDS];
+    const cartgravel_explanation why = cartgravel_explain(state, record, length, CARTGRAVEL_CHANGES, way);
+    print_part("  node", why.node, "");
+    switch (why.number) {
+    case CARTGRAVEL_CHILD_NAMED_TWICE:
+        print_part(" is named by", why.also, " and");
+        print_part(" by", why.by, "\n");
+        break;
+    case CARTGRAVEL_CHANGED_AND_REMOVED:
+        print_part(" goes with", why.also, ", which");
+        print_part("", why.by, " dropped\n");
+        break;
+    case CARTGRAVEL_OUTCOME_NOT_SOUND: printf(": %s\n", cartgravel_rule_words(why.rule)); break;
+    default: printf("\n");
+    }
+}
+
 // Sends a batch and prints the answer.
 static void send(const char *what, cartgravel_state *state, const batch *b) {
     uint8_t record[CARTGRAVEL_RECORD_BYTES];
@@ -48,6 +74,7 @@ static void send(const char *what, cartgravel_state *state, const batch *b) {
     const size_t length = batch_encode(record, sizeof record, b);
     const cartgravel_reply reply = cartgravel_update(state, record, length, changes, CARTGRAVEL_CHANGES);
     print_reply(what, &reply, changes);
+    if (reply.number != CARTGRAVEL_ACCEPTED) print_reason(state, record, length);
 }
 
 // Starts a state and prints the answer.
@@ -60,7 +87,7 @@ static void start(const char *what, cartgravel_state *state, const batch *b) {
 
 int main(void) {
     static cartgravel_state state;
-    const uint64_t one = 1, two_three[] = {2, 3}, two_two[] = {2, 2};
+    const uint64_t one = 1, two_three[] = {2, 3}, two_two[] = {2, 2}, two = 2;
     const batch_node screen[] = {
         {.id = 1, .role = PLAIN, .children = two_three, .child_count = 2},
         {.id = 2, .role = PLAIN},
@@ -69,9 +96,14 @@ int main(void) {
     const batch_node room = {.id = 3, .role = PLAIN, .label = "Card", .graft = &BANK};
     const batch_node pane = {.id = 1, .role = PLAIN, .label = "Enter your PIN"};
     const batch_node twice = {.id = 1, .role = PLAIN, .children = two_two, .child_count = 2};
+    const batch_node fewer = {.id = 1, .role = PLAIN, .children = &two, .child_count = 1};
+    const batch_node card = {.id = 3, .role = PLAIN, .label = "Cash"};
+    const batch_node goes[] = {card, fewer}, stays[] = {fewer, card};
     start("the shop starts its screen", &state, &(batch){SHOP, &one, 2, screen, 3});
     send("the shop makes room for the bank", &state, &(batch){SHOP, NULL, 2, &room, 1});
     send("the bank sends its pane", &state, &(batch){BANK, &one, 1, &pane, 1});
     send("the shop names a child twice", &state, &(batch){SHOP, NULL, 2, &twice, 1});
+    send("the shop changes a node and drops it", &state, &(batch){SHOP, NULL, 2, goes, 2});
+    send("the shop drops a node and changes it", &state, &(batch){SHOP, NULL, 2, stays, 2});
     return 0;
 }

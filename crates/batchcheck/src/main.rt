@@ -1,178 +1,171 @@
 // Reads texts of calls and says, call by call, which batch is taken and which is refused, and why; answers the questions between them:
 // docs/BATCHCHECK.md. What decides is the library `cartgravel`. Nothing of this program is proved but that it is safe and ends.
 mod perform;
+mod run;
+mod status;
 
-use batchcheck_calls::script;
-use batchcheck_calls::script::Call;
-use batchcheck_record::draft;
+use batchcheck_decode::decode;
+use batchcheck_files::records;
+use batchcheck_options::Options;
 use libc::STDIN_FILENO;
 use perform::Show;
-use program_text::lines;
-use program_text::lines::Input;
+use program_text::cursor;
+use program_text::decimal;
 use program_text::print;
+use program_text::print::Out;
 use program_text::print::put;
-use program_text::roles;
+use run::run;
+use status::REFUSED;
+use status::RIGHT;
+use status::UNREAD;
+use status::worse;
 
-// What the arguments say so far. An option holds for the files after it.
-struct Options {
-    quiet: bool,
-    tree: bool,
-    heard: bool,
-    files: usize,
-    // Whether an option stands after the last file, and whether every option is known.
-    late: bool,
-    good: bool,
-}
+// The largest number that a descriptor has.
+const MOST_DESCRIPTOR: u64 = 1023;
 
 // Reads the arguments and runs what they name.
 fn main() {
-    let o = all_options();
-    if !o.good | o.late {
-        put(b"usage: batchcheck [--quiet] [--tree] [--heard] [FILE..]\n");
+    let mut out = print::blank();
+    let o = batchcheck_options::all();
+    let status = run_all(&mut out, o);
+    print::flush(&mut out);
+    tell_status(o.status, status);
+}
+
+// Writes the status to the descriptor that an argument names, if one does.
+fn tell_status(i: usize, status: u8) {
+    if i < 1 {
         return;
     }
-    if o.files < 1 {
-        run(STDIN_FILENO, shown(o));
-        return;
-    }
-    run_files(1 < o.files);
-}
-
-// Before the first argument.
-fn no_options() -> Options {
-    Options {
-        quiet: false,
-        tree: false,
-        heard: false,
-        files: 0,
-        late: false,
-        good: true,
-    }
-}
-
-// What the arguments say.
-fn all_options() -> Options {
-    let count = os::arg_count();
-    let mut o = no_options();
-    let mut i: usize = 1;
-    while i < count {
-        o = with_argument(o, i);
-        i += 1;
-    }
-    o
-}
-
-// With an argument more.
-fn with_argument(options: Options, i: usize) -> Options {
     let mut text = io::buffer();
     let n = os::arg(i, &mut text);
     let word = &text[..n];
-    let mut o = options;
-    if record_wire::u8_at(word, 0) != b'-' {
-        o.late = false;
-        o.files = std::num::wrapping_add_usize(options.files, 1);
-        return o;
-    }
-    let quiet = check::same(word, b"--quiet");
-    let tree = check::same(word, b"--tree");
-    let heard = check::same(word, b"--heard");
-    o.quiet = options.quiet | quiet;
-    o.tree = options.tree | tree;
-    o.heard = options.heard | heard;
-    o.late = 0 < options.files;
-    o.good = options.good & (quiet | tree | heard);
-    o
-}
-
-// What the options ask to be printed.
-fn shown(o: Options) -> Show {
-    Show {
-        quiet: o.quiet,
-        tree: o.tree,
-        heard: o.heard,
+    let c = decimal::whole(word, cursor::first(word), MOST_DESCRIPTOR, 1);
+    if c.fault == 0 {
+        io::print_decimal((c.number % 1024) as i32, status as u64);
     }
 }
 
-// Every file that the arguments name, each from the blank state.
-fn run_files(several: bool) {
+// Runs what the arguments name, or standard input.
+fn run_all(out: &mut Out, o: Options) -> u8 {
+    if !o.good {
+        put(
+            out,
+            b"usage: batchcheck [--quiet] [--tree] [--heard] [--expect FILE] [--record FILE] [--decode FILE] [--] [FILE..]\n",
+        );
+        return UNREAD;
+    }
+    if o.tasks < 1 {
+        return run_open(out, STDIN_FILENO, &[], o);
+    }
+    run_tasks(out, o)
+}
+
+// Everything that the arguments name, each text from the blank state.
+fn run_tasks(out: &mut Out, all: Options) -> u8 {
     let count = os::arg_count();
-    let mut o = no_options();
+    let mut o = batchcheck_options::again(all);
+    let mut status = RIGHT;
     let mut i: usize = 1;
     while i < count {
-        let before = o.files;
-        o = with_argument(o, i);
-        if before < o.files {
-            run_file(i, shown(o), several);
-        }
+        o = batchcheck_options::with_argument(o, i);
+        status = worse(status, run_task(out, i, o, 1 < all.tasks));
         i += 1;
+    }
+    status
+}
+
+// What an argument names, if anything.
+fn run_task(out: &mut Out, i: usize, o: Options, several: bool) -> u8 {
+    let task = o.task;
+    match task {
+        batchcheck_options::TEXT => run_text(out, i, o, several),
+        batchcheck_options::RECORD => run_record(out, i),
+        _ => RIGHT,
     }
 }
 
-// The file that an argument names.
-fn run_file(i: usize, show: Show, several: bool) {
+// The record of a file as a text.
+fn run_record(out: &mut Out, i: usize) -> u8 {
+    let mut text = io::buffer();
+    let n = os::arg(i, &mut text);
+    let name = &text[..n];
+    let mut bytes = [0u8; 12489];
+    let l = records::read(name, &mut bytes);
+    put(out, b"# ");
+    put(out, name);
+    if !l.good {
+        put(out, b": cannot be read\n");
+        return UNREAD;
+    }
+    put(out, b"\n");
+    if decode(out, records::bytes_of(&bytes, l.length)) {
+        return RIGHT;
+    }
+    REFUSED
+}
+
+// The text that an argument names.
+fn run_text(out: &mut Out, i: usize, o: Options, several: bool) -> u8 {
     let mut text = io::buffer();
     let n = os::arg(i, &mut text);
     let name = &text[..n];
     if several {
-        put(b"== ");
-        put(name);
-        put(b"\n");
+        put(out, b"== ");
+        put(out, name);
+        put(out, b"\n");
     }
+    if check::same(name, &[b'-']) {
+        return run_open(out, STDIN_FILENO, &[], o);
+    }
+    let fd = opened(out, name);
+    if fd < 0 {
+        return UNREAD;
+    }
+    let status = run_open(out, fd, name, o);
+    libc::close(fd);
+    status
+}
+
+// A file for reading, or a negative number and why there is none.
+fn opened(out: &mut Out, name: &[u8]) -> i32 {
     let fd = os::open_read(name);
     if fd < 0 {
         let error = os::errno();
-        put(name);
-        tell_reason(error);
-        return;
+        put(out, name);
+        tell_reason(out, error);
     }
-    run(fd, show);
-    libc::close(fd);
+    fd
 }
 
 // Says why a file cannot be opened.
-fn tell_reason(error: i32) {
+fn tell_reason(out: &mut Out, error: i32) {
     if error == libc::ENOENT {
-        put(b": there is no such file\n");
+        put(out, b": there is no such file\n");
         return;
     }
-    put(b": cannot be opened\n");
+    put(out, b": cannot be opened\n");
 }
 
-// Every call of an open file.
-fn run(fd: i32, show: Show) {
-    let mut chunk = io::large_buffer();
-    let mut text = [0u8; 8192];
-    let mut roles = roles::known();
-    let mut input = lines::of(fd);
-    let mut call = script::blank();
-    let mut draft = draft::blank();
-    let mut state = state_array::blank();
-    let mut turns = u64::MAX;
-    while 0 < turns {
-        input = lines::next(input, &mut chunk, &mut text);
-        if input.ended {
-            finish(script::at_end(call, input.number), input);
-            return;
-        }
-        let line = lines::line(&text, input);
-        call = script::with_line(call, &mut draft, line, input.number, input.cut, &mut roles);
-        if call.stage == script::DUE {
-            perform::perform(&mut state, call, &draft, line, show, &roles);
-            call = script::finished(call);
-        }
-        turns -= 1;
+// An open text, with the numbers that its calls should answer if the options name a file of them.
+fn run_open(out: &mut Out, fd: i32, name: &[u8], o: Options) -> u8 {
+    let show = Show {
+        quiet: o.quiet,
+        tree: o.tree,
+        heard: o.heard,
+        expect: 0 < o.expect,
+        record: o.record,
+    };
+    if o.expect < 1 {
+        return run(out, fd, -1, name, show);
     }
-}
-
-// Says at the end of a file if it had no call, or could not be read to its end.
-fn finish(call: Call, input: Input) {
-    if input.failed {
-        put(b"line ");
-        print::number(input.number);
-        put(b": cannot be read\n");
-        return;
+    let mut text = io::buffer();
+    let n = os::arg(o.expect, &mut text);
+    let numbers = opened(out, &text[..n]);
+    if numbers < 0 {
+        return UNREAD;
     }
-    if call.number < 1 {
-        put(b"no calls\n");
-    }
+    let status = run(out, fd, numbers, name, show);
+    libc::close(numbers);
+    status
 }

@@ -318,21 +318,11 @@ fn letter(line: &[u8], at: usize) -> Spelled {
 // The byte of two hexadecimal digits behind a place.
 fn hex_letter(line: &[u8], at: usize) -> Spelled {
     let next = decimal::past(at);
-    let high = hex_digit(record_wire::u8_at(line, next));
-    let low = hex_digit(record_wire::u8_at(line, decimal::past(next)));
+    let high = decimal::hex_digit(record_wire::u8_at(line, next));
+    let low = decimal::hex_digit(record_wire::u8_at(line, decimal::past(next)));
     Spelled {
         byte: 16 * (high % 16) + low % 16,
         length: 4,
         good: (high < 16) & (low < 16),
-    }
-}
-
-// The value of a hexadecimal digit, 16 if it is none.
-fn hex_digit(byte: u8) -> u8 {
-    match byte {
-        b'0'..=b'9' => byte - b'0',
-        b'a'..=b'f' => byte - b'a' + 10,
-        b'A'..=b'F' => byte - b'A' + 10,
-        _ => 16,
     }
 }

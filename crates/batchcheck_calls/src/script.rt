@@ -7,6 +7,7 @@ use program_text::cursor::Cursor;
 use program_text::decimal;
 use program_text::faults;
 use program_text::print;
+use program_text::print::Out;
 use program_text::print::put;
 use program_text::roles;
 
@@ -40,9 +41,20 @@ pub struct Call {
     // Whether the record is the bytes of a file, and the place of the file's name in the line.
     pub raw: bool,
     pub name: Cursor,
-    // Whether a line of it was bad.
+    // How long the record is, once it is made.
+    pub length: usize,
+    // The number that it should answer, or `NOT_SAID`.
+    pub expected: u64,
+    // Whether a line of it was bad, and whether a line of the file was so far.
     pub bad: bool,
+    pub faulty: bool,
 }
+
+// No number of document 01's table: where no `expect` line says one.
+pub const NOT_SAID: u64 = 255;
+
+// The largest number of document 01's table that a call answers.
+const MOST_ANSWER: u64 = 21;
 
 // Before the first call.
 pub fn blank() -> Call {
@@ -55,7 +67,10 @@ pub fn blank() -> Call {
         room: 1024,
         raw: false,
         name: cursor::first(b""),
+        length: 0,
+        expected: NOT_SAID,
         bad: false,
+        faulty: false,
     }
 }
 
@@ -67,11 +82,14 @@ fn opened(before: Call, draft: &mut Draft, kind: u8, line: u64) -> Call {
     p.stage = OPEN;
     p.number = std::num::wrapping_add_u64(before.number, 1);
     p.line = line;
+    p.expected = before.expected;
+    p.faulty = before.faulty;
     p
 }
 
 // With a line read. `cut` is whether only its first bytes are there.
 pub fn with_line(
+    out: &mut Out,
     call: Call,
     draft: &mut Draft,
     line: &[u8],
@@ -84,37 +102,42 @@ pub fn with_line(
         return call;
     }
     if cut {
-        return reported(call, line, number, cursor::failed(c, faults::SHORTER));
+        return reported(out, call, line, number, cursor::failed(c, faults::SHORTER));
     }
     if call.stage != OPEN {
-        return outside(call, draft, line, number, c, roles);
+        return outside(out, call, draft, line, number, c, roles);
     }
     if is_opening(line, c) {
-        faults::tell(number, line, cursor::failed(c, faults::END));
-        return outside(skipped(call), draft, line, number, c, roles);
+        faults::tell(out, number, line, cursor::failed(c, faults::END));
+        let p = skipped(out, call);
+        return outside(out, p, draft, line, number, c, roles);
     }
-    inside(call, draft, line, number, c, roles)
+    inside(out, call, draft, line, number, c, roles)
 }
 
 // At the end of the file, of which `number` is one past the last line.
-pub fn at_end(call: Call, number: u64) -> Call {
-    if call.stage != OPEN {
+pub fn at_end(out: &mut Out, call: Call, number: u64) -> Call {
+    let c = cursor::first(b"");
+    if call.stage == OPEN {
+        faults::tell(out, number, b"", cursor::failed(c, faults::FILE_END));
+        return skipped(out, call);
+    }
+    if call.expected == NOT_SAID {
         return call;
     }
-    let c = cursor::first(b"");
-    faults::tell(number, b"", cursor::failed(c, faults::FILE_END));
-    skipped(call)
+    reported(out, call, b"", number, cursor::failed(c, faults::CALL))
 }
 
-// Whether a line begins a call or asks a question.
+// Whether a line begins a call, says the number of the next one, or asks a question.
 fn is_opening(line: &[u8], c: Cursor) -> bool {
-    cursor::which(line, c, b"start batch host ask") < 4
+    cursor::which(line, c, b"start batch host ask expect") < 5
 }
 
 // ## Lines outside a call
 
 // With a line read while no call is open.
 fn outside(
+    out: &mut Out,
     call: Call,
     draft: &mut Draft,
     line: &[u8],
@@ -123,14 +146,15 @@ fn outside(
     roles: &mut [u8; 4096],
 ) -> Call {
     let d = cursor::next(line, c);
-    let word = cursor::which(line, c, b"start batch host role ask");
+    let word = cursor::which(line, c, b"start batch host role ask expect");
     match word {
-        0 => start(opened(call, draft, START, number), line, number, d),
-        1 => batch(opened(call, draft, BATCH, number), line, number, d),
-        2 => host(opened(call, draft, HOST, number), line, number, d),
-        3 => reported(call, line, number, declared(line, d, roles)),
+        0 => start(out, opened(call, draft, START, number), line, number, d),
+        1 => batch(out, opened(call, draft, BATCH, number), line, number, d),
+        2 => host(out, opened(call, draft, HOST, number), line, number, d),
+        3 => reported(out, call, line, number, declared(line, d, roles)),
         4 => asked(call, number),
-        _ => reported(call, line, number, cursor::failed(c, faults::OUTSIDE)),
+        5 => expects(out, call, line, number, d),
+        _ => reported(out, call, line, number, cursor::failed(c, faults::OUTSIDE)),
     }
 }
 
@@ -141,6 +165,26 @@ fn asked(call: Call, line: u64) -> Call {
     p.stage = DUE;
     p.line = line;
     p
+}
+
+// The number that the next call should answer.
+fn expects(out: &mut Out, call: Call, line: &[u8], number: u64, c: Cursor) -> Call {
+    let d = decimal::whole(line, c, MOST_ANSWER, faults::ANSWER);
+    let mut p = call;
+    p.expected = d.number;
+    if call.expected != NOT_SAID {
+        return reported(
+            out,
+            call,
+            line,
+            number,
+            cursor::failed(cursor::first(line), faults::ONCE),
+        );
+    }
+    if d.fault != 0 {
+        p.expected = NOT_SAID;
+    }
+    reported(out, p, line, number, d)
 }
 
 // Names a role.
@@ -165,25 +209,25 @@ fn declared(line: &[u8], c: Cursor, roles: &mut [u8; 4096]) -> Cursor {
 }
 
 // The rest of a line that begins a start.
-fn start(call: Call, line: &[u8], number: u64, c: Cursor) -> Call {
+fn start(out: &mut Out, call: Call, line: &[u8], number: u64, c: Cursor) -> Call {
     let mut p = named(call, line, c);
     let mut d = after_name(p, line, c);
     if cursor::is(line, d, b"unfocused") {
         p.focused = false;
         d = cursor::next(line, d);
     }
-    begun(p, line, number, d, faults::START_WORD)
+    begun(out, p, line, number, d, faults::START_WORD)
 }
 
 // The rest of a line that begins a batch.
-fn batch(call: Call, line: &[u8], number: u64, c: Cursor) -> Call {
+fn batch(out: &mut Out, call: Call, line: &[u8], number: u64, c: Cursor) -> Call {
     let mut p = named(call, line, c);
     let mut d = after_name(p, line, c);
     if cursor::is(line, d, b"room") {
         d = decimal::whole(line, cursor::next(line, d), 1024, faults::ROOM);
         p.room = d.number as usize;
     }
-    begun(p, line, number, d, faults::BATCH_WORD)
+    begun(out, p, line, number, d, faults::BATCH_WORD)
 }
 
 // With the name of a file of raw bytes, if the word is `raw`.
@@ -210,33 +254,35 @@ fn after_name(call: Call, line: &[u8], c: Cursor) -> Cursor {
 }
 
 // Where nothing more may stand in a line that begins a call.
-fn begun(call: Call, line: &[u8], number: u64, c: Cursor, fault: u8) -> Call {
+fn begun(out: &mut Out, call: Call, line: &[u8], number: u64, c: Cursor, fault: u8) -> Call {
     let mut d = c;
     if !cursor::is_done(c) {
         d = cursor::failed(c, fault);
     }
-    let p = reported(call, line, number, d);
+    let p = reported(out, call, line, number, d);
     if p.raw {
-        return closed(p);
+        return closed(out, p);
     }
     p
 }
 
 // The rest of a line of a host focus change.
-fn host(call: Call, line: &[u8], number: u64, c: Cursor) -> Call {
+fn host(out: &mut Out, call: Call, line: &[u8], number: u64, c: Cursor) -> Call {
     let mut p = call;
     p.focused = cursor::is(line, c, b"on");
     let mut d = cursor::next(line, c);
     if !p.focused & !cursor::is(line, c, b"off") {
         d = cursor::failed(c, faults::SWITCH);
     }
-    closed(reported(p, line, number, d))
+    let q = reported(out, p, line, number, d);
+    closed(out, q)
 }
 
 // ## Lines of a call
 
 // With a line read while a call is open.
 fn inside(
+    out: &mut Out,
     call: Call,
     draft: &mut Draft,
     line: &[u8],
@@ -245,9 +291,10 @@ fn inside(
     roles: &[u8; 4096],
 ) -> Call {
     if cursor::is(line, c, b"end") {
-        return closed(reported(call, line, number, ended(draft, line, c)));
+        let p = reported(out, call, line, number, ended(draft, line, c));
+        return closed(out, p);
     }
-    reported(call, line, number, record_line(draft, line, c, roles))
+    reported(out, call, line, number, record_line(draft, line, c, roles))
 }
 
 // What a line says of the record, written into the draft; where the line was read to. So with the lines below.
@@ -297,7 +344,7 @@ fn ended(draft: &Draft, line: &[u8], c: Cursor) -> Cursor {
 // ## Faults
 
 // With the line's fault told, if it has one; words that are left over are one.
-fn reported(call: Call, line: &[u8], number: u64, c: Cursor) -> Call {
+fn reported(out: &mut Out, call: Call, line: &[u8], number: u64, c: Cursor) -> Call {
     let mut d = c;
     if !cursor::is_done(c) {
         d = cursor::failed(c, faults::LINE_END);
@@ -305,16 +352,17 @@ fn reported(call: Call, line: &[u8], number: u64, c: Cursor) -> Call {
     if d.fault == 0 {
         return call;
     }
-    faults::tell(number, line, d);
+    faults::tell(out, number, line, d);
     let mut p = call;
     p.bad = true;
+    p.faulty = true;
     p
 }
 
 // A call whose last line is read: due, unless a line was bad.
-fn closed(call: Call) -> Call {
+fn closed(out: &mut Out, call: Call) -> Call {
     if call.bad {
-        return skipped(call);
+        return skipped(out, call);
     }
     let mut p = call;
     p.stage = DUE;
@@ -322,15 +370,20 @@ fn closed(call: Call) -> Call {
 }
 
 // A call that is not run.
-pub fn skipped(call: Call) -> Call {
-    print::call(call.number, call.line);
-    put(b"skipped\n");
-    finished(call)
+pub fn skipped(out: &mut Out, call: Call) -> Call {
+    print::call(out, call.number, call.line);
+    put(out, b"skipped\n");
+    let mut p = finished(call);
+    p.faulty = true;
+    p
 }
 
-// A call that is run or skipped.
+// A call that is run or skipped, or a question that is answered. Behind a question the next call's number is still expected.
 pub fn finished(call: Call) -> Call {
     let mut p = call;
     p.stage = NONE;
+    if call.kind != ASK {
+        p.expected = NOT_SAID;
+    }
     p
 }

@@ -1,9 +1,14 @@
 // How `batchcheck` prints an f64: as a decimal of at most 15 digits that a text of calls would read as this very number, or, with `~` before it,
 // as one of 15 digits near it. Proved safe and ending, no more.
 use program_text::decimal;
+use program_text::print::Out;
+use program_text::print::hex;
 use program_text::print::number;
 use program_text::print::of_number;
 use program_text::print::put;
+
+// The bit of a negative number's sign.
+const SIGN: u64 = 9223372036854775808;
 
 // The first number of more than 15 digits.
 const TOO_MANY: f64 = 1000000000000000.0;
@@ -24,51 +29,63 @@ struct Decimal {
 }
 
 // Four numbers, a space before each.
-pub fn values(x: f64, y: f64, z: f64, w: f64) {
-    value(x);
-    value(y);
-    value(z);
-    value(w);
+pub fn values(out: &mut Out, x: f64, y: f64, z: f64, w: f64) {
+    value(out, x);
+    value(out, y);
+    value(out, z);
+    value(out, w);
 }
 
 // A number, a space before it.
-pub fn value(x: f64) {
-    put(b" ");
+pub fn value(out: &mut Out, x: f64) {
+    put(out, b" ");
     if x != x {
-        put(b"NaN");
+        put(out, b"NaN");
         return;
     }
     // 1 over -0 is negative.
     if (x < 0.0) | (1.0 / x < 0.0) {
-        magnitude(b"-", -x);
+        magnitude(out, b"-", -x);
         return;
     }
-    magnitude(b"", x);
+    magnitude(out, b"", x);
+}
+
+// The number of a bit pattern as a text of calls has it, a space before it: a decimal that is read as this very number, else the bits.
+pub fn exact(out: &mut Out, bits: u64) {
+    let x = record_wire::f64_of(bits % SIGN);
+    let d = shorter(rounded(x));
+    if geometry::is_finite(x) & is_exactly(d, x) {
+        value(out, record_wire::f64_of(bits));
+        return;
+    }
+    put(out, b" 0x");
+    hex(out, bits, 16);
 }
 
 // A sign and a number that is not negative.
-fn magnitude(sign: &[u8], x: f64) {
+fn magnitude(out: &mut Out, sign: &[u8], x: f64) {
     if !geometry::is_finite(x) {
-        put(sign);
-        put(b"inf");
+        put(out, sign);
+        put(out, b"inf");
         return;
     }
     let d = shorter(rounded(x));
     if !is_exactly(d, x) {
-        put(b"~");
+        put(out, b"~");
     }
-    put(sign);
+    put(out, sign);
     if 0 < d.up {
-        number(d.digits);
-        of_number(b"e#", d.up);
+        number(out, d.digits);
+        of_number(out, b"e#", d.up);
         return;
     }
     if MOST_FRACTION < d.down {
-        number(d.digits);
-        of_number(b"e-#", d.down);
+        number(out, d.digits);
+        of_number(out, b"e-#", d.down);
         return;
     }
-    with_point(d.digits, d.down);
+    with_point(out, d.digits, d.down);
 }
 
 // A decimal of 15 digits near a number, and the number itself where it is one and the power of ten is exact.
@@ -141,20 +158,20 @@ fn is_exactly(d: Decimal, x: f64) -> bool {
 }
 
 // Digits, so many of them behind the point.
-fn with_point(digits: u64, down: u64) {
+fn with_point(out: &mut Out, digits: u64, down: u64) {
     let unit = whole_part(decimal::ten_to(down));
-    number(quotient(digits, unit));
+    number(out, quotient(digits, unit));
     if 0 < down {
-        put(b".");
-        fraction(digits, unit / 10);
+        put(out, b".");
+        fraction(out, digits, unit / 10);
     }
 }
 
 // The digits from a place of a number on.
-fn fraction(digits: u64, first: u64) {
+fn fraction(out: &mut Out, digits: u64, first: u64) {
     let mut place = first;
     while 0 < place {
-        number(digits / place % 10);
+        number(out, digits / place % 10);
         place = place / 10;
     }
 }

@@ -8,6 +8,7 @@ use batchcheck_nodes::print::spoken;
 use filters::FilterAnswer;
 use ids::FullNodeId;
 use node::tree_state;
+use program_text::print::Out;
 use program_text::print::put;
 use questions::Filter;
 use questions::FilterResult;
@@ -16,7 +17,7 @@ use state_array::State;
 use state_focus::FoundNode;
 
 // Past every slot.
-const NOWHERE: usize = 320;
+const NOWHERE: usize = state_array::SLOTS;
 
 // A walk's numbers for the siblings that follow, and for `common_filter_with_root_exception`.
 const FOLLOWING: u32 = 0;
@@ -24,26 +25,26 @@ const FOLLOWING: u32 = 0;
 const WITH_ROOT_EXCEPTION: u32 = 2;
 
 // Prints the items of a state, each two spaces to the right of the one above it.
-pub fn items<'a>(state: &'a State, roles: &'a [u8; 4096]) {
+pub fn items<'a>(out: &mut Out, state: &'a State, roles: &'a [u8; 4096]) {
     let first = first_item(state);
     if NOWHERE <= first.slot {
-        put(b"  items: none\n");
+        put(out, b"  items: none\n");
         return;
     }
-    put(b"  items:\n");
-    lines(state, first, focused_slot(state), roles);
+    put(out, b"  items:\n");
+    lines(out, state, first, focused_slot(state), roles);
 }
 
 // A line for each item from the first on. There are at most as many as nodes.
-fn lines<'a>(state: &'a State, first: Place, focused: usize, roles: &'a [u8; 4096]) {
+fn lines<'a>(out: &mut Out, state: &'a State, first: Place, focused: usize, roles: &'a [u8; 4096]) {
     let mut at = first;
     let mut left = state_array::slots(state);
     while 0 < left {
         if NOWHERE <= at.slot {
             return;
         }
-        draw::indent(level(first.depth, at.depth));
-        line(state, at.slot, focused, roles);
+        draw::indent(out, level(first.depth, at.depth));
+        line(out, state, at.slot, focused, roles);
         at = next(state, at);
         left -= 1;
     }
@@ -55,12 +56,12 @@ fn level(first: usize, depth: usize) -> usize {
 }
 
 // The item in a slot, marked where it has the focus.
-fn line<'a>(state: &'a State, i: usize, focused: usize, roles: &'a [u8; 4096]) {
-    spoken(state, state_array::id_at(state, i), roles);
+fn line<'a>(out: &mut Out, state: &'a State, i: usize, focused: usize, roles: &'a [u8; 4096]) {
+    spoken(out, state, state_array::id_at(state, i), roles);
     if i == focused {
-        put(b" <- focus");
+        put(out, b" <- focus");
     }
-    put(b"\n");
+    put(out, b"\n");
 }
 
 // The slot of what has the focus, as `TreeState::focus` answers it.

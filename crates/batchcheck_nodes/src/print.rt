@@ -1,21 +1,26 @@
 // Pieces of what is printed: numbers of document 01's table, roles, labels, nodes and lists of them, and how much a state has.
-ghost use Prim.Native.Nat.{_+_, _≤_, _<_};
+ghost use Prim.Native.Nat.{_≤_};
 use ids::FullNodeId;
 use ids::NodeId;
 use ids::TreeIndex;
+use program_text::lines;
+use program_text::print::Out;
 use program_text::print::count;
 use program_text::print::id;
+use program_text::print::letter;
 use program_text::print::number;
 use program_text::print::of_number;
 use program_text::print::put;
 use program_text::print::put_line;
+use program_text::utf8;
 use state_array::State;
 use state_focus::FoundNode;
 
 // A number of document 01's table and its row.
-pub fn row(n: u8) {
-    of_number(b"#, ", n as u64);
+pub fn row(out: &mut Out, n: u8) {
+    of_number(out, b"#, ", n as u64);
     put_line(
+        out,
         b"accepted\n\
         the state handed in is not sound\n\
         the record breaks the layout or a limit\n\
@@ -44,9 +49,14 @@ pub fn row(n: u8) {
 }
 
 // How many nodes a state has, and how many trees that exist.
-pub fn sizes(state: &State) {
-    count(state_array::slots(state) as u64, b" node, ", b" nodes, ");
-    count(existing(state), b" tree\n", b" trees\n");
+pub fn sizes(out: &mut Out, state: &State) {
+    count(
+        out,
+        state_array::slots(state) as u64,
+        b" node, ",
+        b" nodes, ",
+    );
+    count(out, existing(state), b" tree\n", b" trees\n");
 }
 
 // How many trees exist.
@@ -72,46 +82,47 @@ fn plus_one_if(n: u64, more: bool) -> u64 {
 }
 
 // A node as the lists and the drawing have it: id, role, and its label in quotes.
-pub fn node<'a>(state: &'a State, x: FullNodeId, roles: &'a [u8; 4096]) {
-    id(x);
+pub fn node<'a>(out: &mut Out, state: &'a State, x: FullNodeId, roles: &'a [u8; 4096]) {
+    id(out, x);
     let i = state_lookup::find_in(state, x);
     if state_array::slots(state) <= i {
         return;
     }
-    put(b" ");
-    role(roles, state_array::role_at(state, i));
+    put(out, b" ");
+    role(out, roles, state_array::role_at(state, i));
     if state_array::label_len(state, i) < 1 {
         return;
     }
-    put(b" ");
-    label(state, i);
+    put(out, b" ");
+    label(out, state, i);
 }
 
 // A node as it is heard: label, role, and then its id.
-pub fn heard<'a>(state: &'a State, found: FoundNode, roles: &'a [u8; 4096]) {
+pub fn heard<'a>(out: &mut Out, state: &'a State, found: FoundNode, roles: &'a [u8; 4096]) {
     let FoundNode::At(x) = found else {
-        put(b"nothing");
+        put(out, b"nothing");
         return;
     };
-    spoken(state, x, roles);
-    put(b" ");
-    id(x);
+    spoken(out, state, x, roles);
+    put(out, b" ");
+    id(out, x);
 }
 
 // A node's label and role.
-pub fn spoken<'a>(state: &'a State, x: FullNodeId, roles: &'a [u8; 4096]) {
+pub fn spoken<'a>(out: &mut Out, state: &'a State, x: FullNodeId, roles: &'a [u8; 4096]) {
     let i = state_lookup::find_in(state, x);
     if state_array::label_len(state, i) < 1 {
-        put(b"no label");
+        put(out, b"no label");
     } else {
-        label(state, i);
+        label(out, state, i);
     }
-    put(b", ");
-    role(roles, state_array::role_at(state, i));
+    put(out, b", ");
+    role(out, roles, state_array::role_at(state, i));
 }
 
 // A list of n nodes, two numbers each, that starts at a place, each node on a line of its own; where it ends.
 pub fn list<'a>(
+    out: &mut Out,
     word: &'a [u8],
     state: &'a State,
     numbers: &'a [u64],
@@ -125,9 +136,9 @@ pub fn list<'a>(
         if numbers.len() <= at {
             return at;
         }
-        put(word);
-        node(state, listed_id(numbers, at), roles);
-        put(b"\n");
+        put(out, word);
+        node(out, state, listed_id(numbers, at), roles);
+        put(out, b"\n");
         at = std::num::wrapping_add_usize(at, 2);
         left -= 1;
     }
@@ -135,7 +146,7 @@ pub fn list<'a>(
 }
 
 // The id whose two numbers stand at a place, zeros past the end.
-fn listed_id(numbers: &[u64], at: usize) -> FullNodeId {
+pub fn listed_id(numbers: &[u64], at: usize) -> FullNodeId {
     FullNodeId {
         tree: TreeIndex((element(numbers, at) % 4294967296) as u32),
         node: NodeId(element(numbers, std::num::wrapping_add_usize(at, 1))),
@@ -148,16 +159,16 @@ fn element(numbers: &[u64], i: usize) -> u64 {
 }
 
 // A role's name, or its number where it has none.
-pub fn role(roles: &[u8; 4096], r: u64) {
+pub fn role(out: &mut Out, roles: &[u8; 4096], r: u64) {
     let names: &[u8] = roles;
     let at = 16 * ((r % 256) as usize);
     let end = name_end(roles, at);
     if end <= at {
-        put(b"role ");
-        number(r);
+        put(out, b"role ");
+        number(out, r);
         return;
     }
-    put(&names[at..end]);
+    put(out, &names[at..end]);
 }
 
 // Where the name of at most 16 bytes ends that starts at a place.
@@ -176,24 +187,20 @@ fn name_end(roles: &[u8; 4096], at: usize) -> usize
 }
 
 // The label of the node in a slot, in quotes.
-fn label(state: &State, i: usize) {
+fn label(out: &mut Out, state: &State, i: usize) {
     let n = label_length(state, i);
-    let mut out = [b'"'; 132];
-    let mut at = 1usize;
+    let mut bytes = [0u8; 32];
     let mut k = 0usize;
     while k < n {
-        at = escaped(&mut out, at, state_array::label_byte(state, i, k));
+        bytes[k] = state_array::label_byte(state, i, k);
         k += 1;
     }
-    out[at] = b'"';
-    put_first(&out, at + 1);
+    first_quoted(out, &bytes, n);
 }
 
-// A byte of a label, escaped where it needs to be.
-pub fn letter(byte: u8) {
-    let mut out = [0u8; 132];
-    let end = escaped(&mut out, 0, byte);
-    put_first(&out, end);
+// The first n bytes as a label in quotes.
+pub fn first_quoted(out: &mut Out, bytes: &[u8; 32], n: usize) {
+    quoted(out, lines::part(bytes, n));
 }
 
 // How long the label of the node in a slot is.
@@ -204,38 +211,22 @@ fn label_length(state: &State, i: usize) -> usize
     if n < 32 { n as usize } else { 32 }
 }
 
-// The first n bytes of a label's text.
-fn put_first(out: &[u8; 132], n: usize) {
-    let text: &[u8] = out;
-    if n <= text.len() {
-        put(&text[0..n]);
+// A label in quotes, as a text of calls has it: as it is where it is UTF-8 without control characters, else with escapes.
+pub fn quoted(out: &mut Out, label: &[u8]) {
+    let plain = utf8::is_plain(label);
+    put(out, b"\"");
+    let mut i = 0usize;
+    while i < label.len() {
+        quoted_letter(out, label[i], plain);
+        i += 1;
     }
+    put(out, b"\"");
 }
 
-// Puts a byte of a label at a place, escaped where it needs to be; where the next one goes.
-fn escaped(out: &mut [u8; 132], at: usize, byte: u8) -> usize
-    requires { ⌜ at ≤ 128 ⌝ }
-    ensures { λ r. ⌜ r ≤ at + 4 ⌝ }
-{
+// A byte of a label.
+fn quoted_letter(out: &mut Out, byte: u8, plain: bool) {
     if (byte == b'"') | (byte == b'\\') {
-        out[at] = b'\\';
-        out[at + 1] = byte;
-        return at + 2;
+        put(out, b"\\");
     }
-    if (byte < 32) | (byte == 127) {
-        out[at] = b'\\';
-        out[at + 1] = b'x';
-        out[at + 2] = hex_digit(byte / 16);
-        out[at + 3] = hex_digit(byte % 16);
-        return at + 4;
-    }
-    out[at] = byte;
-    at + 1
-}
-
-// A digit in base 16.
-fn hex_digit(n: u8) -> u8
-    requires { ⌜ n < 16 ⌝ }
-{
-    if n < 10 { 48 + n } else { 87 + n }
+    letter(out, byte, plain);
 }

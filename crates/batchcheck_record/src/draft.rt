@@ -78,19 +78,19 @@ pub fn clear(draft: &mut Draft) {
 pub fn node_count(draft: &Draft) -> usize
     ensures { λ r. ⌜ r ≤ 65 ⌝ }
 {
-    least(draft[NODE_COUNT], 65)
+    record_wire::least(draft[NODE_COUNT] as usize, 65)
 }
 
 pub fn child_count(draft: &Draft) -> usize
     ensures { λ r. ⌜ r ≤ 257 ⌝ }
 {
-    least(draft[CHILD_COUNT], 257)
+    record_wire::least(draft[CHILD_COUNT] as usize, 257)
 }
 
 pub fn label_length(draft: &Draft) -> usize
     ensures { λ r. ⌜ r ≤ 2049 ⌝ }
 {
-    least(draft[LABEL_LENGTH], 2049)
+    record_wire::least(draft[LABEL_LENGTH] as usize, 2049)
 }
 
 // Whether something was said, by its bit; the lowest three are said of the call, the others of the node listed last.
@@ -217,13 +217,6 @@ fn last(draft: &Draft) -> usize
     NODES + 16 * (n - 1)
 }
 
-// A number, or the most.
-fn least(n: u64, most: usize) -> usize
-    ensures { λ r. ⌜ r ≤ most ⌝ }
-{
-    if n < most as u64 { n as usize } else { most }
-}
-
 // Writes the record; how long it is.
 pub fn write(draft: &Draft, bytes: &mut [u8; 12489]) -> usize {
     let n = node_count(draft);
@@ -251,7 +244,11 @@ fn put_header(
     let c = child_count(draft);
     let k = label_length(draft);
     let total = std::num::wrapping_add_usize(labels_at, k);
-    put_word(bytes, 0, quarters(n, c, k, least(draft[TREE_DATA], 1)));
+    put_word(
+        bytes,
+        0,
+        quarters(n, c, k, record_wire::least(draft[TREE_DATA] as usize, 1)),
+    );
     put_word(bytes, 8, quarters(64, 0, children_at, 0));
     put_word(bytes, 16, quarters(labels_at, 0, total, 0));
     put_words(bytes, 24, draft, HIGH, TREE_DATA);

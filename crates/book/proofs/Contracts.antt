@@ -15,8 +15,8 @@ use Rattle.state_array.specs.View.{view}
 use Rattle.update.specs.Reports.{Changes, lengthsOf, changeWords, sliceAfter}
 use Rattle.update.specs.Calls as definition
 use Rattle.update.specs.Calls.{update}
-use Rattle.calls.specs.declared.Reply.{Reply}
-use Rattle.calls.specs.Replies.{replyTo, isSet, Answers}
+use Rattle.replies.specs.declared.Reply.{Reply}
+use Rattle.replies.specs.Replies.{replyTo, isSet, Answers}
 use Rattle.book.specs.Book as book
 use Rattle.book.specs.Book.{answerTo}
 use Rattle.book.specs.Demand.{stateAfter, bookAfter, Kept}

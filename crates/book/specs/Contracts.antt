@@ -11,8 +11,8 @@ use Rattle.ids.specs.Ids.{sameId}
 use Rattle.ids.specs.declared.FullNodeId.{FullNodeId}
 use Rattle.state.specs.State.{Forest, present}
 use Rattle.state_array.specs.View.{view}
-use Rattle.calls.specs.declared.Reply.{Reply}
-use Rattle.calls.specs.Replies.{isSet, Starts, Updates, HostFocuses}
+use Rattle.replies.specs.declared.Reply.{Reply}
+use Rattle.replies.specs.Replies.{isSet, Starts, Updates, HostFocuses}
 use Rattle.book.specs.Book as book
 use Rattle.book.specs.Demand.{bookAfter, Kept}
 

@@ -8,8 +8,8 @@ use Rattle.ids.specs.Ids.{idWords}
 use Rattle.ids.specs.declared.FullNodeId.{FullNodeId}
 use Rattle.state.specs.State.{Forest, State}
 use Rattle.questions.specs.Answers.{after, written}
-use Rattle.node.specs.Reading.{labelAt}
-use Rattle.node.specs.Answers.{numberFor, listAnswer, nodeAnswer}
+use Rattle.node_answers.specs.Reading.{labelAt}
+use Rattle.node_answers.specs.Answers.{numberFor, listAnswer, nodeAnswer}
 use Rattle.questions.specs.declared.Filter.{Filter}
 use Rattle.questions.specs.declared.FilterResult.{FilterResult}
 use Rattle.questions.specs.Answers.{askNumber}

@@ -1,15 +1,13 @@
 // The questions that terminals ask of a state, one exported function each.
-ghost use mathlib.Core.Option.{none};
 ghost use mathlib.Core.Path.{_≡_};
 ghost use Rattle.state_array.specs.View.{view};
 ghost use Rattle.questions.specs.Links.{childIds};
 ghost use Rattle.questions.specs.Walks.{filteredParent, firstFilteredChild, lastFilteredChild, deepestFirstFilteredChild, deepestLastFilteredChild};
-ghost use Rattle.node.specs.Answers.{nodeAnswer};
-ghost use Rattle.node.specs.Reading.{reading};
-ghost use Rattle.node.specs.Links.{parentAnswer, hiddenAnswer, transformAnswer, boxAnswer};
-ghost use Rattle.node.specs.TreeState.{focusAnswer, rootAnswer, treeIdAnswer, treeIndexAnswer, treeEndsAnswer, countsAnswer};
+ghost use Rattle.node_answers.specs.Reading.{reading};
+ghost use Rattle.node_answers.specs.Links.{parentAnswer, hiddenAnswer, transformAnswer, boxAnswer};
+ghost use Rattle.node_answers.specs.TreeState.{focusAnswer, rootAnswer, treeIdAnswer, treeIndexAnswer, treeEndsAnswer, countsAnswer};
 ghost use Rattle.cartgravel_plain.specs.Plain.{plainNode, plainFound, plainFlag, plainTransform, plainBox, plainTreeId};
-ghost use Rattle.cartgravel_plain.specs.Plain.{plainIndex, plainEnds, plainCounts, sideNumbered, filterNumbered, unknownNumber};
+ghost use Rattle.cartgravel_plain.specs.Plain.{plainIndex, plainEnds, plainCounts, sideNumbered, filterNumbered};
 ghost use Rattle.cartgravel.specs.Questions.{PlainLabel, PlainIds, filterReply, nodeReply, SiblingsOn, FilteredChildren, FilteredOn, FilteredSiblings};
 use cartgravel_plain::FilterNumber;
 use cartgravel_plain::Flag;
@@ -29,7 +27,6 @@ use ids::TreeId;
 use ids::TreeIndex;
 use questions::Filter;
 use state_array::State;
-use state_focus::FoundNode;
 
 // What a node says of itself.
 #[no_mangle]
@@ -164,7 +161,7 @@ pub extern "C" fn cartgravel_filtered_parent(state: &State, id: FullNodeId, filt
 {
     match cartgravel_plain::filter_of(filter) {
         FilterNumber::Known(f) => cartgravel_plain::found(iterators::filtered_parent(state, id, f)),
-        FilterNumber::Unknown => no_node(state),
+        FilterNumber::Unknown => cartgravel_plain::no_node(state),
     }
 }
 
@@ -183,7 +180,7 @@ pub extern "C" fn cartgravel_first_filtered_child(
             id,
             f,
         )),
-        FilterNumber::Unknown => no_node(state),
+        FilterNumber::Unknown => cartgravel_plain::no_node(state),
     }
 }
 
@@ -202,7 +199,7 @@ pub extern "C" fn cartgravel_last_filtered_child(
             id,
             f,
         )),
-        FilterNumber::Unknown => no_node(state),
+        FilterNumber::Unknown => cartgravel_plain::no_node(state),
     }
 }
 
@@ -221,7 +218,7 @@ pub extern "C" fn cartgravel_deepest_first_filtered_child(
             id,
             f,
         )),
-        FilterNumber::Unknown => no_node(state),
+        FilterNumber::Unknown => cartgravel_plain::no_node(state),
     }
 }
 
@@ -240,17 +237,7 @@ pub extern "C" fn cartgravel_deepest_last_filtered_child(
             id,
             f,
         )),
-        FilterNumber::Unknown => no_node(state),
-    }
-}
-
-// 1 or 2 alone.
-fn no_node(state: &State) -> FoundId
-    ensures { λ r. ⌜ r ≡ plainFound (nodeAnswer (unknownNumber (view (now (state .entry)) .forest)) none) ⌝ }
-{
-    FoundId {
-        id: calls::plain_id(FoundNode::Nothing),
-        number: cartgravel_plain::unknown(state) as u32,
+        FilterNumber::Unknown => cartgravel_plain::no_node(state),
     }
 }
 
@@ -266,7 +253,7 @@ pub extern "C" fn cartgravel_siblings<'a, 'b>(
 {
     match cartgravel_plain::side_of(side) {
         SideNumber::Known(d) => cartgravel_plain::list(iterators::siblings(state, id, d, out)),
-        SideNumber::Unknown => no_list(state),
+        SideNumber::Unknown => cartgravel_plain::no_list(state),
     }
 }
 
@@ -287,7 +274,7 @@ pub extern "C" fn cartgravel_filtered_children<'a, 'b>(
             f,
             out,
         )),
-        FilterNumber::Unknown => no_list(state),
+        FilterNumber::Unknown => cartgravel_plain::no_list(state),
     }
 }
 
@@ -304,7 +291,7 @@ pub extern "C" fn cartgravel_filtered_siblings<'a, 'b>(
 {
     match cartgravel_plain::filter_of(filter) {
         FilterNumber::Known(f) => filtered_on(state, id, f, side, out),
-        FilterNumber::Unknown => no_list(state),
+        FilterNumber::Unknown => cartgravel_plain::no_list(state),
     }
 }
 
@@ -326,16 +313,6 @@ fn filtered_on<'a, 'b>(
             d,
             out,
         )),
-        SideNumber::Unknown => no_list(state),
-    }
-}
-
-// 1 or 2 alone.
-fn no_list(state: &State) -> Listed
-    ensures { λ r. ⌜ r ≡ record { length = 0; number = unknownNumber (view (now (state .entry)) .forest) } ⌝ }
-{
-    Listed {
-        length: 0,
-        number: cartgravel_plain::unknown(state) as u32,
+        SideNumber::Unknown => cartgravel_plain::no_list(state),
     }
 }

@@ -1,15 +1,20 @@
-// The library that terminals link: the three calls, and in asking.rt the questions. Numbers, slices, plain structs and the state's words alone cross the boundary: a slice
-// passes as a pointer and a length, the state as a pointer. include/cartgravel.h declares the functions for C.
+// The library that terminals link: the three calls, why a call gets its number, and in asking.rt the questions. Numbers, slices, plain structs and
+// the state's words alone cross the boundary: a slice passes as a pointer and a length, the state as a pointer. include/cartgravel.h declares the
+// functions for C.
 mod asking;
 
 ghost use mathlib.Core.Path.{_≡_};
 ghost use Rattle.state_array.specs.View.{view};
 ghost use Rattle.questions.specs.Kept.{nextOf};
 ghost use Rattle.cartgravel.specs.Questions.{plainStep};
-ghost use Rattle.calls.specs.Replies.{Starts, Updates, HostFocuses};
-use calls::Reply;
+ghost use Rattle.replies.specs.Replies.{Starts, Updates, HostFocuses};
+ghost use Rattle.reasons.specs.Explain.{whyUpdate, whyStart};
+ghost use Rattle.explain.specs.Explained.{Explained, ExplainedStart};
 use cartgravel_plain::FoundId;
+use explain::Explanation;
+use explain::Way;
 use questions::Walk;
+use replies::Reply;
 use state_array::State;
 
 // A start. What the state's words hold before is not looked at.
@@ -42,6 +47,31 @@ pub extern "C" fn cartgravel_host_focus(state: &mut State, host_focused: u32) ->
     ensures { λ r. ⌜ HostFocuses (now (state .entry)) «host_focused» (now (state .exit)) r ⌝ }
 {
     calls::host_focus(state, host_focused)
+}
+
+// Why a batch on a state, with so many elements lent for the lists, gets its number. `way` takes the way of 15 and 17.
+#[no_mangle]
+pub extern "C" fn cartgravel_explain<'a, 'b>(
+    state: &'a State,
+    batch: &'a [u8],
+    room: usize,
+    way: &'b mut Way,
+) -> Explanation
+    ensures { λ r. ⌜ Explained (whyUpdate (view (now (state .entry))) (now (batch .entry)) room) r (now (way .exit)) ⌝ }
+{
+    explain::explain(state, batch, room, way)
+}
+
+// Why a start gets its number. `memory` is worked in and is blank afterwards; what its words hold before is not looked at.
+#[no_mangle]
+pub extern "C" fn cartgravel_explain_start<'a, 'b, 'c>(
+    memory: &'a mut State,
+    batch: &'b [u8],
+    way: &'c mut Way,
+) -> Explanation
+    ensures { λ r. ⌜ ExplainedStart (whyStart (now (batch .entry))) r (now (way .exit)) (now (memory .exit)) ⌝ }
+{
+    explain::explain_start(memory, batch, way)
 }
 
 // What a step of a kept walk answers, and the walk after it.

@@ -18,29 +18,29 @@ use Rattle.filters.specs.Answer.{resultNumber}
 use Rattle.state_lookup.specs.declared.FoundTree.{FoundTree}
 use Rattle.state_lookup.specs.declared.FoundTree.the-variants as ends
 use Rattle.state_focus.specs.Focus.{foundOf}
-use Rattle.calls.specs.Replies.{plainId}
-use Rattle.node.specs.declared.OptionalRect.{OptionalRect}
-use Rattle.node.specs.declared.OptionalRect.the-variants as rect
-use Rattle.node.specs.declared.OptionalAffine.{OptionalAffine}
-use Rattle.node.specs.declared.OptionalAffine.the-variants as affine
-use Rattle.node.specs.declared.OptionalTree.{OptionalTree}
-use Rattle.node.specs.declared.OptionalTree.the-variants as tree
-use Rattle.node.specs.declared.OptionalNode.{OptionalNode}
-use Rattle.node.specs.declared.OptionalNode.the-variants as node
-use Rattle.node.specs.declared.OptionalIndex.{OptionalIndex}
-use Rattle.node.specs.declared.OptionalIndex.the-variants as index
-use Rattle.node.specs.declared.NodeAnswer.{NodeAnswer}
-use Rattle.node.specs.declared.ListAnswer.{ListAnswer}
-use Rattle.node.specs.declared.HiddenAnswer.{HiddenAnswer}
-use Rattle.node.specs.declared.TransformAnswer.{TransformAnswer}
-use Rattle.node.specs.declared.BoxAnswer.{BoxAnswer}
+use Rattle.replies.specs.Replies.{plainId}
+use Rattle.node_answers.specs.declared.OptionalRect.{OptionalRect}
+use Rattle.node_answers.specs.declared.OptionalRect.the-variants as rect
+use Rattle.node_answers.specs.declared.OptionalAffine.{OptionalAffine}
+use Rattle.node_answers.specs.declared.OptionalAffine.the-variants as affine
+use Rattle.node_answers.specs.declared.OptionalTree.{OptionalTree}
+use Rattle.node_answers.specs.declared.OptionalTree.the-variants as tree
+use Rattle.node_answers.specs.declared.OptionalNode.{OptionalNode}
+use Rattle.node_answers.specs.declared.OptionalNode.the-variants as node
+use Rattle.node_answers.specs.declared.OptionalIndex.{OptionalIndex}
+use Rattle.node_answers.specs.declared.OptionalIndex.the-variants as index
+use Rattle.node_answers.specs.declared.NodeAnswer.{NodeAnswer}
+use Rattle.node_answers.specs.declared.ListAnswer.{ListAnswer}
+use Rattle.node_answers.specs.declared.HiddenAnswer.{HiddenAnswer}
+use Rattle.node_answers.specs.declared.TransformAnswer.{TransformAnswer}
+use Rattle.node_answers.specs.declared.BoxAnswer.{BoxAnswer}
 use Rattle.geometry_box.specs.declared.BoundingBox.{BoundingBox}
 use Rattle.geometry_box.specs.declared.BoundingBox.the-variants as box
-use Rattle.node.specs.declared.TreeIdAnswer.{TreeIdAnswer}
-use Rattle.node.specs.declared.TreeIndexAnswer.{TreeIndexAnswer}
-use Rattle.node.specs.declared.TreeEndsAnswer.{TreeEndsAnswer}
-use Rattle.node.specs.declared.CountsAnswer.{CountsAnswer}
-use Rattle.node.specs.declared.NodeReading.{NodeReading}
+use Rattle.node_answers.specs.declared.TreeIdAnswer.{TreeIdAnswer}
+use Rattle.node_answers.specs.declared.TreeIndexAnswer.{TreeIndexAnswer}
+use Rattle.node_answers.specs.declared.TreeEndsAnswer.{TreeEndsAnswer}
+use Rattle.node_answers.specs.declared.CountsAnswer.{CountsAnswer}
+use Rattle.node_answers.specs.declared.NodeReading.{NodeReading}
 use Rattle.cartgravel_plain.specs.declared.FoundId.{FoundId}
 use Rattle.cartgravel_plain.specs.declared.Listed.{Listed}
 use Rattle.cartgravel_plain.specs.declared.FilterNumber.{FilterNumber}

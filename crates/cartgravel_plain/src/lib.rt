@@ -1,34 +1,36 @@
 // The answers of the questions as plain numbers and structs, for C: enums become a number and fields that are 0 where there is nothing.
+ghost use mathlib.Core.Option.{none};
 ghost use mathlib.Core.Path.{_≡_};
 ghost use Rattle.base.specs.Tests.{if_then_else_};
 ghost use Rattle.state_array.specs.View.{view};
 ghost use Rattle.filters.specs.Answer.{resultNumber};
+ghost use Rattle.node_answers.specs.Answers.{nodeAnswer};
 ghost use Rattle.cartgravel_plain.specs.Plain.{filterNumbered, sideNumbered, unknownNumber, plainResult, plainFound, plainList, plainFlag, plainTransform, plainBox};
 ghost use Rattle.cartgravel_plain.specs.Plain.{plainTreeId, plainIndex, plainEnds, plainCounts, rectField, affineField, treeField, numberField, plainNode};
-use calls::OptionalId;
 use filters::FilterAnswer;
 use geometry::Affine;
 use geometry::Rect;
 use geometry_box::BoundingBox;
 use ids::TreeId;
-use node::BoxAnswer;
-use node::CountsAnswer;
-use node::HiddenAnswer;
-use node::ListAnswer;
-use node::NodeAnswer;
-use node::NodeReading;
-use node::OptionalAffine;
-use node::OptionalIndex;
-use node::OptionalNode;
-use node::OptionalRect;
-use node::OptionalTree;
-use node::TransformAnswer;
-use node::TreeEndsAnswer;
-use node::TreeIdAnswer;
-use node::TreeIndexAnswer;
+use node_answers::BoxAnswer;
+use node_answers::CountsAnswer;
+use node_answers::HiddenAnswer;
+use node_answers::ListAnswer;
+use node_answers::NodeAnswer;
+use node_answers::NodeReading;
+use node_answers::OptionalAffine;
+use node_answers::OptionalIndex;
+use node_answers::OptionalNode;
+use node_answers::OptionalRect;
+use node_answers::OptionalTree;
+use node_answers::TransformAnswer;
+use node_answers::TreeEndsAnswer;
+use node_answers::TreeIdAnswer;
+use node_answers::TreeIndexAnswer;
 use questions::Filter;
 use questions::FilterResult;
 use questions::Side;
+use replies::OptionalId;
 use state_array::State;
 use state_focus::FoundNode;
 use state_lookup::FoundTree;
@@ -140,7 +142,7 @@ pub fn found(a: NodeAnswer) -> FoundId
 {
     let node = a.node;
     FoundId {
-        id: calls::plain_id(node),
+        id: replies::plain_id(node),
         number: a.number as u32,
     }
 }
@@ -227,6 +229,26 @@ pub fn unknown(state: &State) -> u8
     if state_sound::sound(state) { 2 } else { 1 }
 }
 
+// That alone, where a node is asked for.
+pub fn no_node(state: &State) -> FoundId
+    ensures { λ r. ⌜ r ≡ plainFound (nodeAnswer (unknownNumber (view (now (state .entry)) .forest)) none) ⌝ }
+{
+    FoundId {
+        id: replies::plain_id(FoundNode::Nothing),
+        number: unknown(state) as u32,
+    }
+}
+
+// That alone, where a list is.
+pub fn no_list(state: &State) -> Listed
+    ensures { λ r. ⌜ r ≡ record { length = 0; number = unknownNumber (view (now (state .entry)) .forest) } ⌝ }
+{
+    Listed {
+        length: 0,
+        number: unknown(state) as u32,
+    }
+}
+
 pub fn filter_result(a: FilterAnswer) -> PlainResult
     ensures { λ r. ⌜ r ≡ plainResult a ⌝ }
 {
@@ -300,14 +322,14 @@ pub fn tree_ends(a: TreeEndsAnswer) -> PlainEnds
             let root = e.root;
             let focus = e.focus;
             PlainEnds {
-                root: calls::plain_id(FoundNode::At(root)),
-                focus: calls::plain_id(FoundNode::At(focus)),
+                root: replies::plain_id(FoundNode::At(root)),
+                focus: replies::plain_id(FoundNode::At(focus)),
                 number,
             }
         }
         FoundTree::Nothing => PlainEnds {
-            root: calls::plain_id(FoundNode::Nothing),
-            focus: calls::plain_id(FoundNode::Nothing),
+            root: replies::plain_id(FoundNode::Nothing),
+            focus: replies::plain_id(FoundNode::Nothing),
             number,
         },
     }

@@ -46,7 +46,7 @@ pub fn filter(state: &State, id: FullNodeId, filter: Filter) -> FilterAnswer
 }
 
 // One of the three.
-pub fn filter_at(
+fn filter_at(
     state: &State,
     parents: &[u16],
     focused: usize,
@@ -87,7 +87,7 @@ fn is_first_sibling_in_parent_bbox(
 }
 
 // Whether a node lies outside the box of its filtered parent, which clips its children, and so do its neighbours. They are asked last.
-pub fn is_clipped(state: &State, parents: &[u16], focused: usize, i: usize) -> bool
+fn is_clipped(state: &State, parents: &[u16], focused: usize, i: usize) -> bool
     requires { ⌜ Unhidden (now state) focused i ⌝ }
     ensures { λ r. ⌜ OfSlot (now (state .entry)) i (λ f x. (isTransparent f x ≡ false → r ≡ isClipped (view (now (state .entry))) x)) ⌝ }
 {
@@ -112,7 +112,7 @@ pub fn is_clipped(state: &State, parents: &[u16], focused: usize, i: usize) -> b
 }
 
 // `common_filter`
-pub fn common_filter_at(state: &State, parents: &[u16], focused: usize, i: usize) -> FilterResult
+fn common_filter_at(state: &State, parents: &[u16], focused: usize, i: usize) -> FilterResult
     requires { ⌜ Sound (now state) ⌝ }
     requires { ⌜ Focused (now state) focused ⌝ }
     ensures { λ r. ⌜ OfSlot (now (state .entry)) i (λ f x. r ≡ commonFilter (view (now (state .entry))) x) ⌝ }
@@ -154,12 +154,7 @@ fn common_filter_up(state: &State, parents: &[u16], focused: usize, i: usize) ->
 }
 
 // `common_filter_with_root_exception`
-pub fn with_root_exception_at(
-    state: &State,
-    parents: &[u16],
-    focused: usize,
-    i: usize,
-) -> FilterResult
+fn with_root_exception_at(state: &State, parents: &[u16], focused: usize, i: usize) -> FilterResult
     requires { ⌜ Sound (now state) ⌝ }
     requires { ⌜ Focused (now state) focused ⌝ }
     ensures { λ r. ⌜ OfSlot (now (state .entry)) i (λ f x. r ≡ withRootException (view (now (state .entry))) x) ⌝ }

@@ -64,7 +64,7 @@ pub fn is_transparent(state: &State, i: usize) -> bool
 }
 
 // `common_filter_without_parent_checks` of a node none of whose ancestors is hidden.
-pub fn own_filter_at(state: &State, focused: usize, i: usize) -> FilterResult
+fn own_filter_at(state: &State, focused: usize, i: usize) -> FilterResult
     requires { ⌜ Focused (now state) focused ⌝ }
     ensures { λ r. ⌜ OfSlot (now (state .entry)) i (λ f x. r ≡ ownFilter (view (now (state .entry))) x) ⌝ }
 {
@@ -123,7 +123,7 @@ pub fn included_above(state: &State, parents: &[u16], focused: usize, i: usize) 
 }
 
 // From where a walk stands to the first node that is listed.
-pub fn shown_from(state: &State, parents: &[u16], focused: usize, side: Side, at: Place) -> Place
+fn shown_from(state: &State, parents: &[u16], focused: usize, side: Side, at: Place) -> Place
     requires { ⌜ Sound (now state) ⌝ }
     requires { ⌜ Focused (now state) focused ⌝ }
     ensures { λ r. ⌜ Lists (ownFilter (view (now (state .entry)))) side (now (state .entry)) at r ⌝ }

@@ -45,7 +45,7 @@ pub fn product(p: Affine, q: Affine) -> Affine
 }
 
 // Where t sends (x, y).
-pub fn apply(t: Affine, x: f64, y: f64) -> Point
+fn apply(t: Affine, x: f64, y: f64) -> Point
     ensures { λ r. ⌜ r ≡ image t x y ⌝ }
 {
     Point {

@@ -20,10 +20,10 @@ use Rattle.questions.specs.declared.Side.the-variants.{Following}
 use Rattle.questions.specs.declared.FilterResult.{FilterResult}
 use Rattle.questions.specs.Walks.{turned, filteredChildren}
 use Rattle.questions.specs.Answers.{askNumber, after, written}
-use Rattle.node.specs.declared.ListAnswer.{ListAnswer}
-use Rattle.node.specs.declared.NodeAnswer.{NodeAnswer}
-use Rattle.node.specs.Answers.{foundNode, nodeAnswer}
-use Rattle.node.proofs.Answers.{of-asked, list-short, list-written}
+use Rattle.node_answers.specs.declared.ListAnswer.{ListAnswer}
+use Rattle.node_answers.specs.declared.NodeAnswer.{NodeAnswer}
+use Rattle.node_answers.specs.Answers.{foundNode, nodeAnswer}
+use Rattle.node_answers.proofs.Answers.{of-asked, list-short, list-written}
 use Rattle.node_asked.specs.declared.AskedNode.{AskedNode}
 use Rattle.node_asked.specs.Asks.{Asks}
 use Rattle.node_links.specs.Slots.{slotId, OfSlot}

@@ -16,9 +16,9 @@ use Rattle.questions.specs.declared.FilterResult.{FilterResult}
 use Rattle.questions.specs.Answers.{askNumber, written}
 use Rattle.questions.specs.Filters.{filterOf}
 use Rattle.questions.specs.Walks.{filteredChildren, filteredSiblings}
-use Rattle.node.specs.declared.ListAnswer.{ListAnswer}
-use Rattle.node.specs.declared.NodeAnswer.{NodeAnswer}
-use Rattle.node.specs.Answers.{nodeAnswer, Lists}
+use Rattle.node_answers.specs.declared.ListAnswer.{ListAnswer}
+use Rattle.node_answers.specs.declared.NodeAnswer.{NodeAnswer}
+use Rattle.node_answers.specs.Answers.{nodeAnswer, Lists}
 
 -- ## Lists
 

@@ -3,23 +3,21 @@
 ghost use mathlib.Core.Path.{_≡_};
 ghost use Prim.Native.Nat.{_*_, _≤_};
 ghost use lib.ListN.{length, take};
-ghost use Rattle.ids.specs.Ids.{idWords};
 ghost use Rattle.state_array.specs.View.{view};
-ghost use Rattle.questions.specs.Answers.{askNumber};
 ghost use Rattle.questions.specs.Filters.{filterOf};
 ghost use Rattle.questions.specs.Links as links;
-ghost use Rattle.questions.specs.Walks.{filteredChildren, filteredSiblings, filteredParent, firstFilteredChild, lastFilteredChild};
+ghost use Rattle.questions.specs.Walks.{filteredParent, firstFilteredChild, lastFilteredChild};
 ghost use Rattle.questions.specs.Walks.{deepestFirstFilteredChild, deepestLastFilteredChild};
 ghost use Rattle.node_links.specs.Slots.{Sound, slotId};
-ghost use Rattle.node.specs.Answers.{nodeAnswer};
+ghost use Rattle.node_answers.specs.Answers.{nodeAnswer};
 ghost use Rattle.filters_plain.specs.Plain.{Focused, listedFrom};
 ghost use Rattle.filters.specs.Filters.{Knows};
 ghost use Rattle.iterators_shown.specs.Shown.{filteredChildOn, deepestOn};
 ghost use Rattle.iterators.specs.Lists.{ListOf, ChildList, SiblingList, Puts, PutsList, noList, NodeOf, noNode};
 use ids::FullNodeId;
 use iterators_shown::Start;
-use node::ListAnswer;
-use node::NodeAnswer;
+use node_answers::ListAnswer;
+use node_answers::NodeAnswer;
 use questions::Filter;
 use questions::Side;
 use state_array::State;
@@ -30,8 +28,8 @@ const WRITTEN: u8 = 0;
 
 const TOO_SHORT: u8 = 21;
 
-// The words of the longest list: two for each of 256 ids.
-const LIST_WORDS: usize = 512;
+// The words of the longest list: two for each id.
+const LIST_WORDS: usize = 2 * state_array::MOST_NODES;
 
 // The siblings on a side, nearest first.
 pub fn siblings<'a, 'b>(

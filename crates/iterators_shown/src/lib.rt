@@ -16,7 +16,6 @@ ghost use Rattle.iterators_shown.specs.Shown.{metAfter, ListsAhead, List
 use filters::Known;
 use iterators_steps::Place;
 use questions::Filter;
-use questions::FilterResult;
 use questions::Side;
 use state_array::State;
 
@@ -27,7 +26,7 @@ pub struct Start {
 }
 
 // From where a walk stands to the first node that is listed: past a node that is dropped, into one whose children stand in its place.
-pub fn shown_from(
+fn shown_from(
     state: &State,
     parents: &[u16],
     focused: usize,
@@ -70,7 +69,7 @@ fn go_on(state: &State, parents: &[u16], side: Side, at: Place, inside: bool) ->
 }
 
 // To the first node that is listed of what is ahead of a node.
-pub fn shown_after(
+fn shown_after(
     state: &State,
     parents: &[u16],
     focused: usize,

@@ -29,7 +29,7 @@ use Rattle.questions.specs.Kept.{sideOf, filterChoice, siblingList, walkList, w
 use Rattle.questions.proofs.Answers.{after-refused}
 use Rattle.questions.proofs.Few.{siblings-few, filtered-few}
 use Rattle.questions.proofs.Places.{take-more, place-out}
-use Rattle.node.specs.Answers.{foundNode}
+use Rattle.node_answers.specs.Answers.{foundNode}
 use Rattle.node_links.specs.Slots.{Sound, slotId}
 use Rattle.node_links.proofs.Slots.{slot-id-some, slot-id-none, slot-shape, slot-present}
 use Rattle.iterators_lists.proofs.Lists.{few-nodes}

@@ -10,7 +10,7 @@ use Rattle.state_focus.specs.declared.FoundNode.{FoundNode}
 use Rattle.state_focus.specs.Focus.{foundOf}
 use Rattle.questions.specs.declared.Walk.{Walk}
 use Rattle.questions.specs.Kept.{walkList, WalkStep}
-use Rattle.node.specs.Answers.{foundNode}
+use Rattle.node_answers.specs.Answers.{foundNode}
 use Rattle.iterators_walk.specs.declared.Stepped.{Stepped}
 
 -- the definition's step as the code's

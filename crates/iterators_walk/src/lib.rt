@@ -12,7 +12,7 @@ ghost use Rattle.questions.specs.Links.{siblings};
 ghost use Rattle.questions.specs.Walks.{filteredSiblings};
 ghost use Rattle.node_links.specs.Slots.{Sound, OfSlot};
 ghost use Rattle.iterators_walk.specs.Steps.{steppedOf, handedOut, numberFor, Ours, FindsAt};
-use node::NodeAnswer;
+use node_answers::NodeAnswer;
 use questions::Filter;
 use questions::Side;
 use questions::Walk;
@@ -74,7 +74,11 @@ fn hand_out(walk: Walk, count: u64, number: u8, found: FoundNode) -> Stepped
 fn one_more(count: u64) -> u64
     ensures { λ r. ⌜ (count < 256 → r ≡ count + 1) ⌝ }
 {
-    if count < 256 { count + 1 } else { count }
+    if count < state_array::MOST_NODES as u64 {
+        count + 1
+    } else {
+        count
+    }
 }
 
 // 1, then 2 where the side or the filter is none of ours, then 22; `asked` is 1, 22 or 0.

@@ -6,17 +6,14 @@ ghost use mathlib.Core.Path.{_≡_};
 ghost use Prim.Native.Nat.{_+_, _<_};
 ghost use lib.ListN.{length, getD, getElem?};
 ghost use Rattle.state.specs.State.{parentAt};
-ghost use Rattle.state_array.specs.Layout.{child};
-ghost use Rattle.geometry_box.specs.Boxes.{chain};
 ghost use Rattle.questions.specs.Links.{childIds, siblings, ancestors, hiddenAt, isHidden};
-ghost use Rattle.questions.specs.Boxes.{directTransform, transformsAbove, transform, boundingBox};
+ghost use Rattle.questions.specs.Boxes.{directTransform, transform, boundingBox};
 ghost use Rattle.questions.specs.Walks.{turned};
 ghost use Rattle.questions.specs.declared.Side.the-variants.{Following, Preceding};
 ghost use Rattle.node_links.specs.Slots.{slotId, OfSlot};
 use geometry::Affine;
 use geometry_box::BoundingBox;
 use ids::FullNodeId;
-use ids::NodeId;
 use questions::Side;
 use state_array::State;
 use state_lookup::FoundTree;
@@ -54,7 +51,7 @@ pub fn child_id(state: &State, i: usize, k: usize) -> FullNodeId
     let x = state_array::id_at(state, i);
     if !state_array::is_graft(shape.flags) {
         let tree = x.tree;
-        let node = child_entry(state, x.node, shape.first_child, k);
+        let node = state_array::child_at(state, x.node, shape.first_child, k);
         return FullNodeId { tree, node };
     }
     match state_lookup::tree_of(state, shape.graft) {
@@ -64,7 +61,7 @@ pub fn child_id(state: &State, i: usize, k: usize) -> FullNodeId
 }
 
 // The slot of child k.
-pub fn child_slot(state: &State, i: usize, k: usize) -> usize
+fn child_slot(state: &State, i: usize, k: usize) -> usize
     ensures { λ r. ⌜ OfSlot (now (state .entry)) i (λ f x. slotId (now (state .entry)) r ≡ getElem? (childIds f x) k) ⌝ }
 {
     if child_count(state, i) <= k {
@@ -142,19 +139,6 @@ fn preceding_slot(state: &State, parents: &[u16], i: usize) -> usize
     state_lookup::slot_near(state, i, child_id(state, p, index as usize - 1))
 }
 
-// The child entry at place k from `first` on; `own` where there is none.
-fn child_entry(state: &State, own: NodeId, first: u64, k: usize) -> NodeId
-    ensures { λ r. ⌜ r ≡ record { 0 = child (now (state .entry)) (own .0) (first + k) } ⌝ }
-{
-    if state_array::ENTRIES as u64 <= first {
-        return own;
-    }
-    if state_array::ENTRIES <= k {
-        return own;
-    }
-    NodeId(state_array::child_at(state, own.0, first as usize + k))
-}
-
 // Whether the node or one of its ancestors is hidden.
 pub fn is_hidden(state: &State, parents: &[u16], i: usize) -> bool
     ensures { λ r. ⌜ OfSlot (now (state .entry)) i (λ f x. r ≡ isHidden f x) ⌝ }
@@ -219,7 +203,7 @@ pub fn transform_of(state: &State, parents: &[u16], i: usize) -> Affine
 }
 
 // The node's own transform.
-pub fn direct_transform(state: &State, i: usize) -> Affine
+fn direct_transform(state: &State, i: usize) -> Affine
     ensures { λ r. ⌜ OfSlot (now (state .entry)) i (λ f x. r ≡ directTransform f x) ⌝ }
 {
     if state_array::word_at(state, state_array::FLAGS, i) / 32 % 2 == 1 {

@@ -7,6 +7,9 @@ const MOST_DIGITS: u64 = 999999999999999;
 
 const MOST_POWER: u64 = 22;
 
+// The largest number behind which one hexadecimal digit more fits.
+const MOST_SHIFTED: u64 = 1152921504606846975;
+
 // A run of digits: its number, how many there are, where it ends, and whether there is one and the number fits.
 struct DigitRun {
     value: u64,
@@ -80,8 +83,49 @@ pub fn tree(line: &[u8], c: Cursor, fault: u8) -> Cursor {
     cursor::next(line, e)
 }
 
-// A decimal, of which the cursor's number is the bits.
+// A decimal, of which the cursor's number is the bits, or these bits themselves, `0x` and hexadecimal digits.
 pub fn float(line: &[u8], c: Cursor, fault: u8) -> Cursor {
+    if (record_wire::u8_at(line, c.from) == b'0')
+        & (record_wire::u8_at(line, past(c.from)) == b'x')
+    {
+        return bits(line, c, fault);
+    }
+    of_decimal(line, c, fault)
+}
+
+// The bits of a number: sixteen hexadecimal digits at most behind `0x`.
+fn bits(line: &[u8], c: Cursor, fault: u8) -> Cursor {
+    let first = past(past(c.from));
+    let mut value: u64 = 0;
+    let mut at = first;
+    while at < c.end {
+        let digit = hex_digit(record_wire::u8_at(line, at));
+        if (15 < digit) | (MOST_SHIFTED < value) {
+            return cursor::failed(c, fault);
+        }
+        value = 16 * (value % (MOST_SHIFTED + 1)) + (digit % 16) as u64;
+        at += 1;
+    }
+    if c.end <= first {
+        return cursor::failed(c, fault);
+    }
+    let mut e = c;
+    e.number = value;
+    cursor::next(line, e)
+}
+
+// The value of a hexadecimal digit, 16 if it is none.
+pub fn hex_digit(byte: u8) -> u8 {
+    match byte {
+        b'0'..=b'9' => byte - b'0',
+        b'a'..=b'f' => byte - b'a' + 10,
+        b'A'..=b'F' => byte - b'A' + 10,
+        _ => 16,
+    }
+}
+
+// A decimal.
+fn of_decimal(line: &[u8], c: Cursor, fault: u8) -> Cursor {
     let sign = sign_at(line, c.from);
     let whole_part = digits(line, sign.end, c.end, 0);
     let mantissa = with_fraction(line, c.end, whole_part);

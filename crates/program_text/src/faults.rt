@@ -2,8 +2,9 @@
 use crate::cursor;
 use crate::cursor::Cursor;
 use crate::print;
+use crate::print::Out;
 use crate::print::put;
-use libc::STDOUT_FILENO;
+use crate::utf8;
 
 // The faults, named by what was expected: the lines of `expected`, from 1 on.
 pub const OUTSIDE: u8 = 1;
@@ -68,62 +69,65 @@ pub const FILTER: u8 = 30;
 
 pub const COUNT: u8 = 31;
 
+pub const ANSWER: u8 = 32;
+
+pub const CALL: u8 = 33;
+
+// How many bytes of a word are shown.
+const MOST_SHOWN: usize = 60;
+
 // Says what is wrong with a line.
-pub fn tell(number: u64, line: &[u8], c: Cursor) {
-    print::of_number(b"line #: ", number);
-    found(line, c);
-    put(b"; expected ");
-    expected(c.fault);
-    put(b"\n");
+pub fn tell(out: &mut Out, number: u64, line: &[u8], c: Cursor) {
+    print::of_number(out, b"line #: ", number);
+    found(out, line, c);
+    put(out, b"; expected ");
+    expected(out, c.fault);
+    put(out, b"\n");
 }
 
 // Says what was found.
-fn found(line: &[u8], c: Cursor) {
+fn found(out: &mut Out, line: &[u8], c: Cursor) {
     if c.fault == SHORTER {
-        put(b"more than 8192 bytes");
+        put(out, b"more than 8192 bytes");
         return;
     }
-    if c.fault == FILE_END {
-        put(b"the file ends");
+    if (c.fault == FILE_END) | (c.fault == CALL) {
+        put(out, b"the file ends");
         return;
     }
     if c.end <= c.from {
-        put(b"the line ends");
+        put(out, b"the line ends");
         return;
     }
-    put(b"found `");
-    printable(cursor::word(line, c));
-    put(b"`");
+    put(out, b"found `");
+    printable(out, cursor::word(line, c));
+    put(out, b"`");
 }
 
 // Writes a word of any bytes, at most 60 of them.
-fn printable(word: &[u8]) {
+fn printable(out: &mut Out, word: &[u8]) {
+    let plain = utf8::is_plain(word);
     let mut i: usize = 0;
     while i < word.len() {
-        if 59 < i {
-            put(b"..");
+        if MOST_SHOWN <= i {
+            put(out, b"..");
             return;
         }
-        letter(word[i]);
+        print::letter(out, word[i], plain);
         i += 1;
     }
 }
 
-// Writes a byte, as \xHH where it does not print.
-fn letter(byte: u8) {
-    if (byte < b' ') | (byte == 127) {
-        put(b"\\x");
-        io::print_hex(STDOUT_FILENO, byte as u64, 2);
+// Says what was expected, a line for each fault.
+fn expected(out: &mut Out, fault: u8) {
+    if ASKED_NODE <= fault {
+        expected_of_question(out, fault - ASKED_NODE);
         return;
     }
-    put(&[byte]);
-}
-
-// Says what was expected, a line for each fault.
-fn expected(fault: u8) {
     print::put_line(
+        out,
         b"\n\
-        role, start, batch, host or ask, since no call is open\n\
+        role, start, batch, host, ask or expect, since no call is open\n\
         node, root, focus, tree or end\n\
         a node number, 0 to 18446744073709551615\n\
         a node number, 0 to 18446744073709551615, or FIRST..LAST\n\
@@ -133,7 +137,7 @@ fn expected(fault: u8) {
         a name that no other role has\n\
         a named role, a label, children, active, graft, bounds, transform, hidden or clips\n\
         no second one\n\
-        a decimal of at most 15 digits, its power of ten from -22 to 22\n\
+        a decimal of at most 15 digits, its power of ten from -22 to 22, or 0x and hexadecimal digits\n\
         a closing quote\n\
         only the escapes \\\", \\\\ and \\xHH\n\
         the end of the line\n\
@@ -148,13 +152,23 @@ fn expected(fault: u8) {
         a focus line before it\n\
         end, since a call is open\n\
         end, since a call is open\n\
-        a shorter line\n\
-        a node number, 0 to 18446744073709551615, or (TREE, NODE), two numbers\n\
+        a shorter line\n",
+        fault as u64,
+    );
+}
+
+// The same of the faults of a question and of what is expected, from the first of these on.
+fn expected_of_question(out: &mut Out, fault: u8) {
+    print::put_line(
+        out,
+        b"a node number, 0 to 18446744073709551615, or (TREE, NODE), two numbers\n\
         read, label, hidden, transform, box, parent, children, siblings, filter, filtered-parent, filtered-children, first-child, \
         last-child, deepest-first-child, deepest-last-child, filtered-siblings or walk\n\
         following or preceding\n\
         common, root-exception or without-parent-checks\n\
-        how many were handed out, 0 to 18446744073709551615, behind a filter or none\n",
+        how many were handed out, 0 to 18446744073709551615, behind a filter or none\n\
+        a number of the table, 0 to 21\n\
+        a call behind the expect line\n",
         fault as u64,
     );
 }

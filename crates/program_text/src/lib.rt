@@ -6,3 +6,5 @@ pub mod faults;
 pub mod lines;
 pub mod print;
 pub mod roles;
+pub mod unbuffered;
+pub mod utf8;

@@ -86,9 +86,21 @@ fn with_byte(input: Input, line: &mut [u8; 8192], byte: u8) -> Input {
     i
 }
 
-// The line read last.
+// The line read last. A byte order mark at the start of a file is no part of it.
 pub fn line(text: &[u8; 8192], input: Input) -> &[u8] {
-    part(text, input.length)
+    let all = part(text, input.length);
+    let mark = (record_wire::u8_at(all, 0) == 239)
+        & (record_wire::u8_at(all, 1) == 187)
+        & (record_wire::u8_at(all, 2) == 191);
+    if (input.number == 1) & mark {
+        return between(all, 3, input.length);
+    }
+    all
+}
+
+// Whether the next line is read from the file, and not from the bytes read last.
+pub fn is_used_up(input: Input) -> bool {
+    input.end <= input.from
 }
 
 // The first n bytes, or all.

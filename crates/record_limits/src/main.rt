@@ -9,7 +9,7 @@ use program_text::cursor::Cursor;
 use program_text::decimal;
 use program_text::faults;
 use program_text::lines;
-use program_text::print::put;
+use program_text::unbuffered::put;
 
 // Every line.
 fn main() {

@@ -16,10 +16,6 @@ use Rattle.record.specs.Parse.{batchOf}
 use Rattle.record_reader.specs.declared.BatchHeader.{BatchHeader}
 use Rattle.record_reader.specs.declared.NodeRecord.{NodeRecord}
 
--- the batch that the bytes say, whether or not they are a record
-unfoldable pub batchIn : List ℕ → Batch
-batchIn s = batchOf s
-
 -- ## Nodes
 
 abbrev pub zero : Float
@@ -72,7 +68,7 @@ headerOf b =
 
 abbrev pub nodeRecordOf : List ℕ → ℕ → NodeRecord
 nodeRecordOf s i =
-    let l = listedAt (batchIn s) i in
+    let l = listedAt (batchOf s) i in
     record {
       id = l .id;
       «active_descendant» = l .body .activeDescendant;

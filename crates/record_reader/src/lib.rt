@@ -1,10 +1,11 @@
 // The accessors of a batch record. Each answers for any bytes and any index; of bytes that `record_layout::layout` passes, the batch that they say is
 // the parsed one. Past the last node, child entry or byte there are zeros.
 ghost use mathlib.Core.Path.{_≡_};
-ghost use Prim.Native.Nat.{_<_, min};
+ghost use Prim.Native.Nat.{_<_};
 ghost use lib.ListN.{length, getD};
 ghost use Rattle.base.specs.Tests.{isSome};
-ghost use Rattle.record_reader.specs.Reader.{batchIn, noNode, listedAt, fieldAt, entriesOf, rootOrZero, headerOf, nodeRecordOf};
+ghost use Rattle.record.specs.Parse.{batchOf};
+ghost use Rattle.record_reader.specs.Reader.{noNode, listedAt, fieldAt, entriesOf, rootOrZero, headerOf, nodeRecordOf};
 use geometry::Affine;
 use geometry::Rect;
 use ids::NodeId;
@@ -37,19 +38,19 @@ pub struct NodeRecord {
 }
 
 pub fn node_count(batch: &[u8]) -> usize
-    ensures { λ r. ⌜ r ≡ length (batchIn (now (batch .entry)) .nodes) ⌝ }
+    ensures { λ r. ⌜ r ≡ length (batchOf (now (batch .entry)) .nodes) ⌝ }
 {
     u16_at(batch, 0) as usize
 }
 
 pub fn has_tree_data(batch: &[u8]) -> bool
-    ensures { λ r. ⌜ r ≡ isSome (batchIn (now (batch .entry)) .root) ⌝ }
+    ensures { λ r. ⌜ r ≡ isSome (batchOf (now (batch .entry)) .root) ⌝ }
 {
     u16_at(batch, 6) % 2 == 1
 }
 
 pub fn tree_id(batch: &[u8]) -> TreeId
-    ensures { λ r. ⌜ r ≡ batchIn (now (batch .entry)) .tree ⌝ }
+    ensures { λ r. ⌜ r ≡ batchOf (now (batch .entry)) .tree ⌝ }
 {
     TreeId {
         high: u64_at(batch, 24),
@@ -59,7 +60,7 @@ pub fn tree_id(batch: &[u8]) -> TreeId
 
 // The root of the tree data, 0 without it.
 pub fn tree_root(batch: &[u8]) -> NodeId
-    ensures { λ r. ⌜ r ≡ rootOrZero (batchIn (now (batch .entry)) .root) ⌝ }
+    ensures { λ r. ⌜ r ≡ rootOrZero (batchOf (now (batch .entry)) .root) ⌝ }
 {
     if has_tree_data(batch) {
         return NodeId(u64_at(batch, 40));
@@ -68,13 +69,13 @@ pub fn tree_root(batch: &[u8]) -> NodeId
 }
 
 pub fn tree_focus(batch: &[u8]) -> NodeId
-    ensures { λ r. ⌜ r ≡ batchIn (now (batch .entry)) .focus ⌝ }
+    ensures { λ r. ⌜ r ≡ batchOf (now (batch .entry)) .focus ⌝ }
 {
     NodeId(u64_at(batch, 48))
 }
 
 pub fn header(batch: &[u8]) -> BatchHeader
-    ensures { λ r. ⌜ r ≡ headerOf (batchIn (now (batch .entry))) ⌝ }
+    ensures { λ r. ⌜ r ≡ headerOf (batchOf (now (batch .entry))) ⌝ }
 {
     BatchHeader {
         nodes: node_count(batch),
@@ -86,19 +87,19 @@ pub fn header(batch: &[u8]) -> BatchHeader
 }
 
 pub fn node_id(batch: &[u8], i: usize) -> NodeId
-    ensures { λ r. ⌜ r ≡ listedAt (batchIn (now (batch .entry))) i .id ⌝ }
+    ensures { λ r. ⌜ r ≡ listedAt (batchOf (now (batch .entry))) i .id ⌝ }
 {
     NodeId(word(batch, i, 0))
 }
 
 pub fn active_descendant(batch: &[u8], i: usize) -> NodeId
-    ensures { λ r. ⌜ r ≡ listedAt (batchIn (now (batch .entry))) i .body .activeDescendant ⌝ }
+    ensures { λ r. ⌜ r ≡ listedAt (batchOf (now (batch .entry))) i .body .activeDescendant ⌝ }
 {
     NodeId(word(batch, i, 8))
 }
 
 pub fn graft(batch: &[u8], i: usize) -> TreeId
-    ensures { λ r. ⌜ r ≡ listedAt (batchIn (now (batch .entry))) i .body .graft ⌝ }
+    ensures { λ r. ⌜ r ≡ listedAt (batchOf (now (batch .entry))) i .body .graft ⌝ }
 {
     TreeId {
         high: word(batch, i, 16),
@@ -107,20 +108,20 @@ pub fn graft(batch: &[u8], i: usize) -> TreeId
 }
 
 pub fn role(batch: &[u8], i: usize) -> u8
-    ensures { λ r. ⌜ r ≡ listedAt (batchIn (now (batch .entry))) i .body .role ⌝ }
+    ensures { λ r. ⌜ r ≡ listedAt (batchOf (now (batch .entry))) i .body .role ⌝ }
 {
     byte(batch, i, 40)
 }
 
 // The flags: bit 0 hidden, 1 clips children, 2 active descendant, 3 graft, 4 bounds, 5 transform.
 pub fn flags(batch: &[u8], i: usize) -> u8
-    ensures { λ r. ⌜ r ≡ listedAt (batchIn (now (batch .entry))) i .body .flags ⌝ }
+    ensures { λ r. ⌜ r ≡ listedAt (batchOf (now (batch .entry))) i .body .flags ⌝ }
 {
     byte(batch, i, 41)
 }
 
-pub fn bounds(batch: &[u8], i: usize) -> Rect
-    ensures { λ r. ⌜ r ≡ listedAt (batchIn (now (batch .entry))) i .body .bounds ⌝ }
+fn bounds(batch: &[u8], i: usize) -> Rect
+    ensures { λ r. ⌜ r ≡ listedAt (batchOf (now (batch .entry))) i .body .bounds ⌝ }
 {
     Rect {
         x0: f64_of(word(batch, i, 48)),
@@ -130,8 +131,8 @@ pub fn bounds(batch: &[u8], i: usize) -> Rect
     }
 }
 
-pub fn transform(batch: &[u8], i: usize) -> Affine
-    ensures { λ r. ⌜ r ≡ listedAt (batchIn (now (batch .entry))) i .body .transform ⌝ }
+fn transform(batch: &[u8], i: usize) -> Affine
+    ensures { λ r. ⌜ r ≡ listedAt (batchOf (now (batch .entry))) i .body .transform ⌝ }
 {
     Affine {
         a: f64_of(word(batch, i, 80)),
@@ -144,7 +145,7 @@ pub fn transform(batch: &[u8], i: usize) -> Affine
 }
 
 pub fn child_count(batch: &[u8], i: usize) -> usize
-    ensures { λ r. ⌜ r ≡ length (listedAt (batchIn (now (batch .entry))) i .body .children) ⌝ }
+    ensures { λ r. ⌜ r ≡ length (listedAt (batchOf (now (batch .entry))) i .body .children) ⌝ }
 {
     half(batch, i, 34) as usize
 }
@@ -158,7 +159,7 @@ pub fn first_child(batch: &[u8], i: usize) -> usize
 
 // Child k of node i, 0 past its children.
 pub fn child(batch: &[u8], i: usize, k: usize) -> NodeId
-    ensures { λ r. ⌜ r ≡ getD (listedAt (batchIn (now (batch .entry))) i .body .children) k noNode ⌝ }
+    ensures { λ r. ⌜ r ≡ getD (listedAt (batchOf (now (batch .entry))) i .body .children) k noNode ⌝ }
 {
     if half(batch, i, 34) as usize <= k {
         return NodeId(0);
@@ -181,7 +182,7 @@ pub fn child_entry(batch: &[u8], j: usize) -> NodeId
 
 // The label's bytes, a part of the batch.
 pub fn label(batch: &[u8], i: usize) -> &[u8]
-    ensures { λ r. ⌜ now r ≡ listedAt (batchIn (now (batch .entry))) i .body .label ⌝ }
+    ensures { λ r. ⌜ now r ≡ listedAt (batchOf (now (batch .entry))) i .body .label ⌝ }
 {
     let nodes = u16_at(batch, 0) as usize;
     if nodes <= i {
@@ -189,8 +190,8 @@ pub fn label(batch: &[u8], i: usize) -> &[u8]
     }
     let at = 64 + 128 * i;
     let labels_at = 64 + 128 * nodes + 8 * (u16_at(batch, 2) as usize);
-    let start = least(labels_at + u16_at(batch, at + 36) as usize, batch.len());
-    let end = least(start + u16_at(batch, at + 38) as usize, batch.len());
+    let start = record_wire::least(labels_at + u16_at(batch, at + 36) as usize, batch.len());
+    let end = record_wire::least(start + u16_at(batch, at + 38) as usize, batch.len());
     &batch[start..end]
 }
 
@@ -240,10 +241,4 @@ fn byte(batch: &[u8], i: usize, offset: usize) -> u8
         return 0;
     }
     u8_at(batch, 64 + 128 * i + offset)
-}
-
-fn least(x: usize, y: usize) -> usize
-    ensures { λ r. ⌜ r ≡ min x y ⌝ }
-{
-    if x < y { x } else { y }
 }

@@ -10,7 +10,8 @@ use Rattle.base.specs.Tests.{if_then_else_}
 use Rattle.base.specs.Bytes.{le}
 use Rattle.base.proofs.Bytes.{le-one, le-add}
 use Rattle.record.specs.Layout.{nodeCount, recordAt}
-use Rattle.record_reader.specs.Reader.{batchIn, listedAt, fieldAt}
+use Rattle.record.specs.Parse.{batchOf}
+use Rattle.record_reader.specs.Reader.{listedAt, fieldAt}
 use Rattle.record_reader.proofs.Reader.{children-count}
 
 module _ (s : List ℕ) (byte : (k : ℕ) → getD s k 0 < 256) where
@@ -28,5 +29,5 @@ module _ (s : List ℕ) (byte : (k : ℕ) → getD s k 0 < 256) where
       go false = omega arith
 
   -- so where a node's children end is no large number
-  pub end-small : (i : ℕ) {a n : ℕ} → a ≡ fieldAt 2 s i 32 → n ≡ length (listedAt (batchIn s) i .body .children) → a + n < 131072
+  pub end-small : (i : ℕ) {a n : ℕ} → a ≡ fieldAt 2 s i 32 → n ≡ length (listedAt (batchOf s) i .body .children) → a + n < 131072
   end-small i e f = omega (arith, field-small i 32, children-count s i, field-small i 34)

@@ -5,10 +5,11 @@ use mathlib.Core.List.{List}
 use lib.ListN.{getD}
 use Rattle.ids.specs.declared.NodeId.{NodeId}
 use Rattle.record_reader.specs.declared.BatchHeader.{BatchHeader}
-use Rattle.record_reader.specs.Reader.{batchIn, noNode, entriesOf, headerOf, nodeRecordOf}
+use Rattle.record.specs.Parse.{batchOf}
+use Rattle.record_reader.specs.Reader.{noNode, entriesOf, headerOf, nodeRecordOf}
 
 abbrev pub headerIn : List ℕ → BatchHeader
-headerIn s = headerOf (batchIn s)
+headerIn s = headerOf (batchOf s)
 
 -- child entry j, 0 past the last
 abbrev pub entryIn : List ℕ → ℕ → NodeId

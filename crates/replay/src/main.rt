@@ -3,9 +3,9 @@
 // differ; then how many calls had each number and how many questions of each kind there were; then how many of both there were and how many
 // differ. Nothing of it is proved but that it is safe and ends.
 use libc::STDIN_FILENO;
-use program_text::print::of_number;
-use program_text::print::put;
-use program_text::print::put_line;
+use program_text::unbuffered::of_number;
+use program_text::unbuffered::put;
+use program_text::unbuffered::put_line;
 use replay_frame::parts::part_if;
 use state_array::State;
 

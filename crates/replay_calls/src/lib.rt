@@ -1,12 +1,12 @@
 // A call of the list that the program `replay` runs, and the parts of its answer that are not the crate's. Proved safe and ending, no more.
 ghost use Prim.Native.Nat.{_≤_};
-use calls::Lengths;
-use calls::OptionalId;
-use calls::Reply;
 use replay_frame::digest;
 use replay_frame::lent;
 use replay_frame::parts;
 use replay_frame::parts::part_if;
+use replies::Lengths;
+use replies::OptionalId;
+use replies::Reply;
 use state_array::State;
 
 // The number that a call answered, and the parts that differ, each a bit.

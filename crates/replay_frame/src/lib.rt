@@ -134,14 +134,14 @@ fn record_at(frame: &[u8]) -> usize
 }
 
 // Where the elements that the lists fill start.
-pub fn lists_at(frame: &[u8]) -> usize
+pub(crate) fn lists_at(frame: &[u8]) -> usize
     ensures { λ r. ⌜ r < 200000 ⌝ }
 {
     record_at(frame) + field(frame, 8)
 }
 
 // How many elements the lists fill: two for each id.
-pub fn lists_length(frame: &[u8]) -> usize
+pub(crate) fn lists_length(frame: &[u8]) -> usize
     ensures { λ r. ⌜ r < 600000 ⌝ }
 {
     2 * (field(frame, 12) + field(frame, 14) + field(frame, 16) + field(frame, 18))

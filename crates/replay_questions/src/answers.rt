@@ -2,11 +2,11 @@
 use filters::FilterAnswer;
 use geometry_box::BoundingBox;
 use ids::FullNodeId;
-use node::BoxAnswer;
-use node::HiddenAnswer;
-use node::ListAnswer;
-use node::NodeAnswer;
-use node::TransformAnswer;
+use node_answers::BoxAnswer;
+use node_answers::HiddenAnswer;
+use node_answers::ListAnswer;
+use node_answers::NodeAnswer;
+use node_answers::TransformAnswer;
 use questions::Filter;
 use questions::FilterResult;
 use questions::Side;

@@ -4,7 +4,7 @@
 mod answers;
 
 use answers::Answer;
-use program_text::print::put_line;
+use program_text::unbuffered::put_line;
 use replay_frame::lent;
 use replay_frame::parts;
 use replay_frame::parts::part_if;

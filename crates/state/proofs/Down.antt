@@ -198,7 +198,7 @@ down-starts s (suc room) (k ∷ ms) l m (List·Memᴰ·tail i) =
     List·Memᴰ·tail (down-starts s room (belowId s (k .id) ++ ms) (le-of-suc-le-suc l) m (Memᴰ·append-right (belowId s (k .id)) i))
 
 -- and what is below them
-down-below : (s : Forest) (room : ℕ) (ms : List Met) → length (down room s ms) < room
+pub down-below : (s : Forest) (room : ℕ) (ms : List Met) → length (down room s ms) < room
     → (k m : Met) → List·Memᴰ k (down room s ms) → List·Memᴰ m (belowId s (k .id)) → List·Memᴰ m (down room s ms)
 unfolding down
 down-below s zero ms l k m i j = absurd (not-suc-le-zero l)

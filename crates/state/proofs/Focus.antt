@@ -110,11 +110,6 @@ record Enters (s : Forest) (y : FullNodeId) (k : ℕ) : Type 0 where
 abbrev Follows : Forest → List ℕ → FullNodeId → Type 0
 Follows s left x = (y : FullNodeId) (k : ℕ) → Enters s y k → has eqb left k ≡ false → (has eqb left (y .tree .0) ≡ false) × (y .tree .0 ≡ x .tree .0 → ⊥)
 
--- more room than numbers left is room enough
-abbrev Enough : Forest → ℕ → Type 0
-Enough s room = (left : List ℕ) (x : FullNodeId) → length left < room → has eqb left (x .tree .0) ≡ false → Follows s left x → (more : ℕ)
-    → throughGrafts (room + more) s x ≡ throughGrafts room s x
-
 module _ (s : Forest) (differ : graftsDiffer (s .nodes) ≡ true) where
   -- a tree is entered from one node
   enters-one : (y z : FullNodeId) (k : ℕ) → Enters s y k → Enters s z k → y ≡ z
@@ -130,46 +125,51 @@ module _ (s : Forest) (differ : graftsDiffer (s .nodes) ≡ true) where
       ⊎-elim (λ n. inv y k e n .0) (λ p. rw (enters-one y x (z .tree .0) (subst (Enters s y) p e) d) out) (without-cases (z .tree .0) left k f) in
       (without-out (z .tree .0) left (y .tree .0) gone, λ p. true≢false (sym l ∙ ap (has eqb left) (sym p) ∙ gone))
 
-  -- room enough for the tree that is entered next is, with one more, enough
-  enough-more : (room : ℕ) → Enough s room → Enough s (suc room)
-  enough-more room h left x short out inv more =
-      rw suc-add
-      (through-next s (room + more) room x
-      (λ t u g r. let q = u .focus .tree .0 in
-      let d : Enters s x q = record { tree = t; grafts = g; subtree = u; exists = r; numbered = refl } in
-      by-test (has eqb left q)
-      (λ l. h (without q left) (u .focus) (omega (arith, keep-less (eqb q) left l)) (without-self q left) (follows left x (u .focus) out inv d l) more)
-      (λ l. absurd (inv x q d l .1 refl))))
+  -- What holds of a room and a node where it holds of the room less one and the focus of the tree that the node grafts, if there is one.
+  module _ (P : ℕ → FullNodeId → Type 0)
+      (step : (room : ℕ) (x : FullNodeId)
+      → ((t : TreeId) (u : SubtreeState) → graftAt (s .nodes) x ≡ some t → subtreeOf s t ≡ some u → P room (u .focus)) → P (suc room) x) where
+    -- holds where there is more room than numbers left
+    enough : (room : ℕ) (left : List ℕ) (x : FullNodeId) → length left < room → has eqb left (x .tree .0) ≡ false → Follows s left x → P room x
+    enough zero left x short out inv = absurd (omega arith)
+    enough (suc room) left x short out inv =
+        step room x
+        (λ t u g r. let q = u .focus .tree .0 in
+        let d : Enters s x q = record { tree = t; grafts = g; subtree = u; exists = r; numbered = refl } in
+        by-test (has eqb left q)
+        (λ l. enough room (without q left) (u .focus) (omega (arith, keep-less (eqb q) left l)) (without-self q left) (follows left x (u .focus) out inv d l))
+        (λ l. absurd (inv x q d l .1 refl)))
 
-  -- more room than numbers left is always enough
-  enough : (room : ℕ) → Enough s room
-  enough zero = λ left x short. absurd (omega arith)
-  enough (suc room) = enough-more room (enough room)
+    -- so it holds of the room of the effective focus, where ROOT is not grafted: no tree is entered twice
+    pub room-by : holder (s .nodes) ROOT ≡ none → (u : SubtreeState) → subtreeOf s ROOT ≡ some u → P (suc (length (s .trees))) (u .focus)
+    room-by free u is =
+        enough (suc count) (without first allNumbers) (u .focus) (omega (arith, keep-less (eqb first) allNumbers (among first (subtree-below s ROOT u is)), length-list-of count (λ i. i)))
+        (without-self first allNumbers) start
+      where
+        count : ℕ
+        count = length (s .trees)
 
--- where no tree is grafted twice and ROOT is not grafted, no tree is entered twice: more room answers the same
+        first : ℕ
+        first = u .focus .tree .0
+
+        allNumbers : List ℕ
+        allNumbers = listOf count (λ i. i)
+
+        among : (k : ℕ) → k < count → has eqb allNumbers k ≡ true
+        among k l = has-list-of eqb (λ n. eq-eqb n n refl) count (λ i. i) k l
+
+        start : Follows s (without first allNumbers) (u .focus)
+        start y k e f =
+            absurd (⊎-elim (λ n. true≢false (sym (among k (rw (e .numbered) at (subtree-below s (e .tree) (e .subtree) (e .exists)))) ∙ n))
+            (λ p. graft-spared (s .nodes) y ROOT (sym (holder-spared (s .nodes) ROOT) ∙ ap isNone free)
+            (e .grafts ∙ ap some (subtree-one s (e .tree) ROOT (e .subtree) u (e .exists) is (e .numbered ∙ p))))
+            (without-cases first allNumbers k f))
+
+-- where no tree is grafted twice and ROOT is not grafted, more room answers the same
 pub room-enough : (s : Forest) → graftsDiffer (s .nodes) ≡ true → holder (s .nodes) ROOT ≡ none → (u : SubtreeState) → subtreeOf s ROOT ≡ some u → (more : ℕ)
     → throughGrafts (suc (length (s .trees)) + more) s (u .focus) ≡ effectiveFocus s
 unfolding effectiveFocus
 room-enough s differ free u is more =
     rw (is, effectiveFocus)
-    (enough s differ (suc count) (without first allNumbers) (u .focus) (omega (arith, keep-less (eqb first) allNumbers (among first (subtree-below s ROOT u is)), length-list-of count (λ i. i)))
-    (without-self first allNumbers) start more)
-  where
-    count : ℕ
-    count = length (s .trees)
-
-    first : ℕ
-    first = u .focus .tree .0
-
-    allNumbers : List ℕ
-    allNumbers = listOf count (λ i. i)
-
-    among : (k : ℕ) → k < count → has eqb allNumbers k ≡ true
-    among k l = has-list-of eqb (λ n. eq-eqb n n refl) count (λ i. i) k l
-
-    start : Follows s (without first allNumbers) (u .focus)
-    start y k e f =
-        absurd (⊎-elim (λ n. true≢false (sym (among k (rw (e .numbered) at (subtree-below s (e .tree) (e .subtree) (e .exists)))) ∙ n))
-        (λ p. graft-spared (s .nodes) y ROOT (sym (holder-spared (s .nodes) ROOT) ∙ ap isNone free)
-        (e .grafts ∙ ap some (subtree-one s (e .tree) ROOT (e .subtree) u (e .exists) is (e .numbered ∙ p))))
-        (without-cases first allNumbers k f))
+    (room-by s differ (λ room x. throughGrafts (room + more) s x ≡ throughGrafts room s x)
+    (λ room x h. rw suc-add (through-next s (room + more) room x h)) free u is)

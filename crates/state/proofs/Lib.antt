@@ -4,6 +4,7 @@ pub mod Sound
 pub mod Down
 pub mod Family
 pub mod Ends
+pub mod Once
 pub mod Pool
 pub mod Grafts
 pub mod Focus

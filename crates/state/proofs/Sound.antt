@@ -63,7 +63,7 @@ root-of-first : (ns : List NodeState) (t : TreeEntry) (ts : List TreeEntry) (u :
 unfolding rootOf subtreeOf subtreeFrom subtreeState sameTree _&&_
 root-of-first ns t ts u p q = rw (p, q) refl
 
-root-of-tables : (ns : List NodeState) (es : List TreeEntry) → rootFirst es ≡ true → allGrafted ns 0 es ≡ true → Root (record { nodes = ns; trees = es })
+pub root-of-tables : (ns : List NodeState) (es : List TreeEntry) → rootFirst es ≡ true → allGrafted ns 0 es ≡ true → Root (record { nodes = ns; trees = es })
 unfolding rootFirst allGrafted grafted
 root-of-tables ns [] e f = absurd (false≢true e)
 root-of-tables ns (t ∷ ts) e f =

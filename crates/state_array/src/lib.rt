@@ -2,7 +2,7 @@
 // It is lent whole, so a function takes one argument for it, and no call copies it.
 ghost use mathlib.Core.Bool.{true};
 ghost use mathlib.Core.Path.{_≡_};
-ghost use Prim.Native.Nat.{_<_, _%_, _^_, min};
+ghost use Prim.Native.Nat.{_+_, _<_, _%_, _^_, min};
 ghost use lib.Ieee.{toBits, binary64};
 ghost use lib.ListN.{length};
 ghost use Rattle.base.specs.Bytes.{bit, listOf};
@@ -25,6 +25,9 @@ pub const SLOTS: usize = 320;
 pub const TREES: usize = 32;
 
 pub const ENTRIES: usize = 512;
+
+// The most nodes that a sound state has.
+pub const MOST_NODES: usize = 256;
 
 // Where the regions start: the head, the table of trees (5 fields of 32), the nodes (28 fields of 320), the child entries.
 pub const COUNT: usize = 0;
@@ -176,7 +179,7 @@ pub fn size(state: &State) -> usize
 }
 
 // Field j of tree k.
-pub fn entry_at(state: &State, j: usize, k: usize) -> u64
+fn entry_at(state: &State, j: usize, k: usize) -> u64
     requires { ⌜ j < 5 ⌝ }
     ensures { λ r. ⌜ r ≡ entry (now (state .entry)) j k ⌝ }
 {
@@ -187,15 +190,18 @@ pub fn entry_at(state: &State, j: usize, k: usize) -> u64
     }
 }
 
-// Child entry j, `own` past the last.
-pub fn child_at(state: &State, own: u64, j: usize) -> u64
-    ensures { λ r. ⌜ r ≡ child (now (state .entry)) own j ⌝ }
+// Child entry j from `first` on, `own` past the last.
+pub fn child_at(state: &State, own: NodeId, first: u64, j: usize) -> NodeId
+    ensures { λ r. ⌜ r ≡ record { 0 = child (now (state .entry)) (own .0) (first + j) } ⌝ }
 {
-    if j < ENTRIES {
-        state[CHILDREN + j]
-    } else {
-        own
+    if ENTRIES as u64 <= first {
+        return own;
     }
+    let start = first as usize;
+    if ENTRIES - start <= j {
+        return own;
+    }
+    NodeId(state[CHILDREN + (start + j)])
 }
 
 // The id in a slot.
@@ -271,7 +277,7 @@ pub fn label_byte(state: &State, i: usize, j: usize) -> u8
 }
 
 // Number k of the ten of a node.
-pub fn float_at(state: &State, i: usize, k: usize) -> f64
+fn float_at(state: &State, i: usize, k: usize) -> f64
     requires { ⌜ k < 10 ⌝ }
     ensures { λ r. ⌜ r ≡ floatIn (now (state .entry)) i k ⌝ }
 {

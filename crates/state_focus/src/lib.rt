@@ -67,7 +67,7 @@ fn through_grafts(state: &State, x: FullNodeId) -> FoundNode
 }
 
 // The active descendant of x, looked up in the same tree, if present; else x.
-pub fn or_active_descendant(state: &State, x: FullNodeId) -> FullNodeId
+fn or_active_descendant(state: &State, x: FullNodeId) -> FullNodeId
     ensures { λ r. ⌜ r ≡ orActiveDescendant (view (now (state .entry)) .forest .nodes) x ⌝ }
 {
     let n = state_array::slots(state);

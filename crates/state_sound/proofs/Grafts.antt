@@ -160,7 +160,7 @@ module _ (s : List ℕ) where
   nil-of (suc k) f = sym (ne-eqb (suc k) 0 (λ e. omega arith))
 
   -- a node is bare by its row
-  bare-at : (i : ℕ) → graftIsBare (nodeIn s i) ≡ bareIn s i
+  pub bare-at : (i : ℕ) → graftIsBare (nodeIn s i) ≡ bareIn s i
   unfolding graftIsBare nodeIn bodyIn childrenIn graft? bareIn
   bare-at i =
       by-test (bit 8 (shapeIn s i .flags))
@@ -171,13 +171,15 @@ module _ (s : List ℕ) where
   unfolding view
   all-bare = all-indexed graftIsBare (slotsOf s) (nodeIn s) ∙ all-below-cong (slotsOf s) _ _ (λ i l. bare-at i)
 
+  -- a node grafts a tree by its row
+  pub grafts-at : (x : TreeId) (i : ℕ) → sameOption sameTree (graft? (nodeIn s i .body)) (some x) ≡ graftsTree s x i
+  unfolding nodeIn bodyIn graft? graftsTree _&&_
+  grafts-at x i = by-test (bit 8 (shapeIn s i .flags)) (λ e. rw e (same-tree-swap (shapeIn s i .graft) x)) (λ e. rw e)
+
   -- a tree has a holder where not none of the nodes grafts it
   pub holder-is : (x : TreeId) → isSome (holder (view s .forest .nodes) x) ≡ not (noneGrafts s x (slotsOf s))
-  unfolding holder view nodeIn bodyIn graft? graftsTree noneGrafts _&&_
+  unfolding holder view noneGrafts
   holder-is x =
       first-given-some (λ k. sameOption sameTree (graft? (k .body)) (some x)) (λ k. k .id) (view s .forest .nodes)
       ∙ any-indexed (λ k. sameOption sameTree (graft? (k .body)) (some x)) (slotsOf s) (nodeIn s)
-      ∙ ap not (all-below-cong (slotsOf s) _ _ (λ i l. ap not (same i)))
-    where
-      same : (i : ℕ) → sameOption sameTree (graft? (nodeIn s i .body)) (some x) ≡ graftsTree s x i
-      same i = by-test (bit 8 (shapeIn s i .flags)) (λ e. rw e (same-tree-swap (shapeIn s i .graft) x)) (λ e. rw e)
+      ∙ ap not (all-below-cong (slotsOf s) _ _ (λ i l. ap not (grafts-at x i)))

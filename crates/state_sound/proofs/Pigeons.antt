@@ -4,7 +4,7 @@ use mathlib.Core.Bool.{true}
 use mathlib.Core.List.{List, [], _∷_, _++_}
 use mathlib.Core.Option.{none, some}
 use mathlib.Core.Path.{_≡_, refl, sym, _∙_}
-use Prim.Native.Nat.{ℕ, zero, suc, _≤_}
+use Prim.Native.Nat.{ℕ, zero, suc}
 use native.Mathlib.Omega.{arith}
 use lib.Dec.{eqb, leb, eqb·zero-suc, eqb·suc-zero, eqb·suc-suc}
 use lib.ListN.{length}
@@ -12,22 +12,13 @@ use borrow.Author.Tests.{eqb-true, eq-eqb, le-leb}
 use Rattle.base.specs.Tests.{_&&_, all}
 use Rattle.base.proofs.Tests.{both, joined, and-false, iff, and-assoc}
 use Rattle.ids.specs.declared.FullNodeId.{FullNodeId}
-use Rattle.state.specs.State.{NodeState, Forest}
+use Rattle.state.specs.State.{Forest}
 use Rattle.state.specs.Down.{Met, belowId, down, rootOf, wayDown}
 use Rattle.state.specs.Sound.{metOnce, recorded, ascending, wayEnds}
 use Rattle.state.proofs.Down.{way-down-from}
 use Rattle.state_sound.specs.Counted.{counted}
-use Rattle.state.proofs.Ends.{meets, total, total-all, once-total}
-use Rattle.state_sound.proofs.Once.{once}
-
--- n pigeons, one at most in each of n holes
-each-once : (ns : List NodeState) (ms : List Met) → ((x : FullNodeId) → meets x ms ≤ 1) → (total ns ms ≤ length ns) × (total ns ms ≡ length ns → all (metOnce ms) ns ≡ true)
-unfolding total metOnce meets
-each-once [] ms h = (omega arith, λ e. refl)
-each-once (n ∷ ns) ms h =
-    let r = each-once ns ms h in
-    let one = h (n .id) in
-    (omega (arith, r .0), λ e. joined (eq-eqb (meets (n .id) ms) 1 (omega (arith, r .0))) (r .1 (omega (arith, r .0))))
+use Rattle.state.proofs.Ends.{total-all, once-total}
+use Rattle.state.proofs.Once.{once, each-once}
 
 -- ## The one pass
 

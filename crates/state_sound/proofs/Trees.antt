@@ -26,7 +26,7 @@ use Rattle.state.specs.Down.{rootOf}
 use Rattle.state.specs.Sound.{grafted, allGrafted, rootFirst, oneIdEach}
 use Rattle.state_array.specs.View.{idIn, treeIn, nodeIn, entryIn, slotsOf, treesOf, view}
 use Rattle.state.proofs.State.{present-has}
-use Rattle.state_lookup.specs.Lookup.{inOrder, SlotOf}
+use Rattle.state_lookup.specs.Lookup.{standsAt, inOrder, SlotOf}
 use Rattle.state_sound.specs.Parts.{noneGrafts, rootedIn, allRooted}
 use Rattle.state_sound.proofs.Grafts.{same-tree-swap, holder-is}
 
@@ -107,7 +107,7 @@ module _ (s : List ℕ) where
   present-is x = present-has (view s .forest .nodes) x ∙ ap (any (sameId x)) (map-list-of (λ k. k .id) (slotsOf s) (nodeIn s))
 
   -- a tree is grafted by its row
-  rooted-row : (k : ℕ) → grafted ns k (entryIn s k) ≡ rootedIn s k
+  pub rooted-row : (k : ℕ) → grafted ns k (entryIn s k) ≡ rootedIn s k
   unfolding grafted rootedIn entryIn
   rooted-row k =
       by-test (eqb (treeIn s k .exists) 0) (λ e. rw (e, grafted))
@@ -134,8 +134,13 @@ module _ (s : List ℕ) (k : ℕ) {t : TreeRow} (is : t ≡ treeIn s k) where
   unfolding rootedIn
   rooted-unborn e = rw (← is, eq-eqb (t .exists) 0 e)
 
-  pub rooted-born : (t .exists ≡ 0 → ⊥) → {r : ℕ} → SlotOf s (record { tree = record { 0 = k }; node = t .root }) r → inOrder s ≡ true
+  -- its root's slot is found by a search, or where the ids ascend by bisection
+  pub rooted-found : (t .exists ≡ 0 → ⊥) → {r : ℕ} → First (standsAt s (record { tree = record { 0 = k }; node = t .root })) (slotsOf s) r
       → rootedIn s k ≡ ltb r (slotsOf s) && (eqb k 0 || not (noneGrafts s (t .id) (slotsOf s)))
   unfolding rootedIn
-  rooted-born e {r} slot up =
-      rw (← is, ne-eqb (t .exists) 0 e, first-any (sameId (record { tree = record { 0 = k }; node = t .root })) (slotsOf s) (idIn s) r (slot .first up))
+  rooted-found e {r} found =
+      rw (← is, ne-eqb (t .exists) 0 e, first-any (sameId (record { tree = record { 0 = k }; node = t .root })) (slotsOf s) (idIn s) r found)
+
+  pub rooted-born : (t .exists ≡ 0 → ⊥) → {r : ℕ} → SlotOf s (record { tree = record { 0 = k }; node = t .root }) r → inOrder s ≡ true
+      → rootedIn s k ≡ ltb r (slotsOf s) && (eqb k 0 || not (noneGrafts s (t .id) (slotsOf s)))
+  rooted-born e slot up = rooted-found e (slot .first up)

@@ -1,5 +1,5 @@
 // Whether a state is sound, for any words. Each part is lent the whole state, and says what it decides of the forest that it shows.
-mod walk;
+pub mod walk;
 
 ghost use mathlib.Core.Path.{_≡_};
 ghost use mathlib.Core.Bool.{true};
@@ -27,10 +27,10 @@ pub fn sound(state: &State) -> bool
 pub fn sound_noting<'a, 'b>(state: &'a State, parents: &'b mut [u16]) -> bool
     ensures { λ r. ⌜ r ≡ sound (view (now (state .entry)) .forest) ⌝ }
 {
-    if 256 < state_array::slots(state) {
+    if state_array::MOST_NODES < state_array::slots(state) {
         return false;
     }
-    if 32 < state_array::trees(state) {
+    if state_array::TREES < state_array::trees(state) {
         return false;
     }
     shape_noting(state, parents) & state_fields::fields_are_ok(state) & focus_is_present(state)
@@ -90,7 +90,7 @@ fn is_new<'a>(seen: &'a [u8; 4096], state: &'a State, n: usize, t: TreeId) -> bo
 }
 
 // Whether none of the first n nodes grafts a tree.
-fn is_free(state: &State, n: usize, t: TreeId) -> bool
+pub fn is_free(state: &State, n: usize, t: TreeId) -> bool
     ensures { λ r. ⌜ r ≡ noneGrafts (now (state .entry)) t n ⌝ }
 {
     let mut i = 0usize;
@@ -104,7 +104,7 @@ fn is_free(state: &State, n: usize, t: TreeId) -> bool
 }
 
 // Whether a node grafts a tree.
-fn is_graft_of(state: &State, i: usize, t: TreeId) -> bool
+pub fn is_graft_of(state: &State, i: usize, t: TreeId) -> bool
     ensures { λ r. ⌜ r ≡ graftsTree (now (state .entry)) t i ⌝ }
 {
     let d = state_array::shape_at(state, i);
@@ -127,7 +127,7 @@ fn grafts_are_bare(state: &State) -> bool
 }
 
 // Whether a node is no graft, or has no children.
-fn is_bare(state: &State, i: usize) -> bool
+pub fn is_bare(state: &State, i: usize) -> bool
     ensures { λ r. ⌜ r ≡ bareIn (now (state .entry)) i ⌝ }
 {
     let d = state_array::shape_at(state, i);
@@ -135,7 +135,7 @@ fn is_bare(state: &State, i: usize) -> bool
 }
 
 // Whether ROOT exists and has number 0.
-fn root_is_first(state: &State) -> bool
+pub fn root_is_first(state: &State) -> bool
     ensures { λ r. ⌜ r ≡ rootFirst (view (now (state .entry)) .forest .trees) ⌝ }
 {
     let m = state_array::trees(state);
@@ -207,7 +207,7 @@ fn trees_are_sound(state: &State) -> bool
 }
 
 // Whether the effective focus is present, and no graft.
-fn focus_is_present(state: &State) -> bool
+pub fn focus_is_present(state: &State) -> bool
     ensures { λ r. ⌜ r ≡ focusPresent (view (now (state .entry)) .forest) ⌝ }
 {
     let FoundNode::At(x) = state_focus::effective_focus(state) else {

@@ -2,40 +2,27 @@
 ghost use mathlib.Core.Path.{_≡_};
 ghost use mathlib.Core.Bool.{true};
 ghost use mathlib.Core.Option.{some};
-ghost use Prim.Native.Nat.{_+_, _≤_, _<_};
+ghost use Prim.Native.Nat.{_+_, _<_};
 ghost use Rattle.base.specs.Tests.{sameOption};
 ghost use Rattle.state.specs.State.{sameLink};
-ghost use Rattle.state_array.specs.Layout.{SLOTS, child};
+ghost use Rattle.state_array.specs.Layout.{SLOTS};
 ghost use Rattle.state_array.specs.View.{linkOf, idIn, slotsOf};
 ghost use Rattle.state_lookup.specs.Lookup.{inOrder};
 ghost use Rattle.state_sound.specs.Parts.{belowIn, KidSays, MetAt, countedBelow, countedAll};
 use ids::FullNodeId;
-use ids::NodeId;
 use ids::TreeIndex;
 use state_array::LinkRow;
 use state_array::State;
 use state_lookup::FoundTree;
 
 // What is met one step below a node at a place.
-enum Kid {
+pub enum Kid {
     At(FullNodeId),
     Nothing,
 }
 
-// The child entry at place j from `first` on; `own` where there is none.
-fn child_at(state: &State, own: NodeId, first: u64, j: usize) -> NodeId
-    requires { ⌜ j ≤ SLOTS ⌝ }
-    ensures { λ r. ⌜ r ≡ record { 0 = child (now (state .entry)) (own .0) (first + j) } ⌝ }
-{
-    if state_array::ENTRIES as u64 <= first {
-        return own;
-    }
-    NodeId(state_array::child_at(state, own.0, first as usize + j))
-}
-
 // What is met at place j one step below the node in slot p.
-fn kid_at(state: &State, p: usize, j: usize) -> Kid
-    requires { ⌜ j ≤ SLOTS ⌝ }
+pub fn kid_at(state: &State, p: usize, j: usize) -> Kid
     ensures { λ r. ⌜ KidSays (belowIn (now (state .entry)) p) j (idIn (now (state .entry)) p) r ⌝ }
 {
     let d = state_array::shape_at(state, p);
@@ -45,7 +32,7 @@ fn kid_at(state: &State, p: usize, j: usize) -> Kid
         }
         let x = state_array::id_at(state, p);
         let tree = x.tree;
-        let node = child_at(state, x.node, d.first_child, j);
+        let node = state_array::child_at(state, x.node, d.first_child, j);
         return Kid::At(FullNodeId { tree, node });
     }
     if 0 < j {

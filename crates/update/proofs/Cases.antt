@@ -10,7 +10,7 @@ use Rattle.base.specs.Floats.{zeroBytes, sameValue}
 use Rattle.ids.specs.Ids.{sameTree, sameIndex, sameNode, sameId, before, idWords}
 use Rattle.geometry.specs.Geometry.{rectTest, affineTest, sameRect, sameAffine}
 use Rattle.record.specs.Batch.{activeDescendant?, graft?, bounds?, transform?, fieldsOk, sameData, listedIds, namedIds}
-use Rattle.record.specs.Parse.{headerOk, childrenBefore, labelsBefore, recordOk, wellFormed, parse}
+use Rattle.record.specs.Parse.{batchOf, headerOk, childrenBefore, labelsBefore, recordOk, wellFormed, parse}
 use Rattle.record.specs.Encode.{recordBytes, recordsBytes, entryBytes, labels, headerBytes, encode}
 use Rattle.state.specs.State.{sameLink, idsOf, blank, find, present, graftAt, linkAt, parentAt, holder, subtreeState, subtreeFrom, subtreeOf}
 use Rattle.state.specs.Down.{metUnder, childrenMet, below, belowId, down, rootOf, wayDown, climb}
@@ -39,7 +39,7 @@ AllRight (c ∷ cs) = Right c × AllRight cs
 
 -- `unfolding computed` unfolds every definition
 computed : Unit {0}
-unfolding ofBits toBits eq _&&_ first littleEndian le bytesOf allBelow zeros listOf sumOf zeroBytes sameValue sameTree sameIndex sameNode sameId before rectTest affineTest sameRect sameAffine activeDescendant? graft? bounds? transform? fieldsOk sameData listedIds namedIds headerOk childrenBefore labelsBefore recordOk wellFormed parse recordBytes recordsBytes entryBytes labels headerBytes encode sameLink find present graftAt linkAt parentAt holder subtreeState subtreeFrom subtreeOf metUnder childrenMet below belowId down rootOf wayDown climb throughGrafts effectiveFocus orActiveDescendant stateFocus metOnce recorded graftIsBare soundLinks graftsDiffer grafted allGrafted rootFirst oneIdEach soundTrees ascending wayEnds soundShape focusPresent sound listing known treeNumber here mine old listed turn naming named withTreeData rootAfter isRoot claim claimer claimedFrom letsGo placedAtTurn namings events fault pass goesIf fares replaced fateHere fateElsewhere fate goneWithin gone renewed write writeAll underGraft written paneRoot cutLasts linkIsCut linkHere linkElsewhere linkAfter relink subtreeHere subtreeElsewhere entryAfter entriesAfter newEntry outcome noChanges idsOf added removed isUpdated updated isRelinked relinked changesWith changesOf lengthsOf idWords changeWords sliceAfter unlessIn focusMoved extraBefore extraAfter absent placeless nowhere updatedAndRemoved rowsBeforePass rowsAfterPass batchNumber refused accepted judged batchRows updateNumber updateBatch update blank seed withoutTreeData startNumber started startBatch start withHostFocus hostFocus
+unfolding ofBits toBits eq _&&_ first littleEndian le bytesOf allBelow zeros listOf sumOf zeroBytes sameValue sameTree sameIndex sameNode sameId before rectTest affineTest sameRect sameAffine activeDescendant? graft? bounds? transform? fieldsOk sameData listedIds namedIds headerOk childrenBefore labelsBefore recordOk wellFormed batchOf parse recordBytes recordsBytes entryBytes labels headerBytes encode sameLink find present graftAt linkAt parentAt holder subtreeState subtreeFrom subtreeOf metUnder childrenMet below belowId down rootOf wayDown climb throughGrafts effectiveFocus orActiveDescendant stateFocus metOnce recorded graftIsBare soundLinks graftsDiffer grafted allGrafted rootFirst oneIdEach soundTrees ascending wayEnds soundShape focusPresent sound listing known treeNumber here mine old listed turn naming named withTreeData rootAfter isRoot claim claimer claimedFrom letsGo placedAtTurn namings events fault pass goesIf fares replaced fateHere fateElsewhere fate goneWithin gone renewed write writeAll underGraft written paneRoot cutLasts linkIsCut linkHere linkElsewhere linkAfter relink subtreeHere subtreeElsewhere entryAfter entriesAfter newEntry outcome noChanges idsOf added removed isUpdated updated isRelinked relinked changesWith changesOf lengthsOf idWords changeWords sliceAfter unlessIn focusMoved extraBefore extraAfter absent placeless nowhere updatedAndRemoved rowsBeforePass rowsAfterPass batchNumber refused accepted judged batchRows updateNumber updateBatch update blank seed withoutTreeData startNumber started startBatch start withHostFocus hostFocus
 computed = tt
 
 start-accepted : Right startAccepted

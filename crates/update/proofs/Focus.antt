@@ -39,7 +39,7 @@ module _ (s : Forest) (b : Batch) (spared : all (λ n. spares ROOT (n .body)) (s
 
   module _ (once : distinct sameNode (listedIds (b .nodes)) ≡ true) (passed : pass s b ≡ 0) (placed : any (placeless s b) (b .nodes) ≡ false) where
     -- so no node of the outcome grafts it
-    outcome-root : holder (outcome s b .nodes) ROOT ≡ none
+    pub outcome-root : holder (outcome s b .nodes) ROOT ≡ none
     outcome-root = none-of (holder (outcome s b .nodes) ROOT) (holder-spared (outcome s b .nodes) ROOT ∙ all-outcome (spares ROOT) s b spared listed)
       where
         listed : all (λ l. spares ROOT (l .body)) (b .nodes) ≡ true

@@ -59,7 +59,7 @@ any-named (l ∷ ls) n =
     ap (λ (c : Bool). has sameNode (l .body .children) n || c) (any-named ls n) ∙ sym (any-append (sameNode n) (l .body .children) (namedIds ls))
 
 -- and that says the same of a node of the batch
-named-has : (s : Forest) (b : Batch) (n : NodeId) → named s b (here s b n) ≡ has sameNode (namedIds (b .nodes)) n
+pub named-has : (s : Forest) (b : Batch) (n : NodeId) → named s b (here s b n) ≡ has sameNode (namedIds (b .nodes)) n
 unfolding named naming mine here
 named-has s b n =
     rw (same-index-refl (treeNumber s b))
@@ -192,7 +192,7 @@ module _ (s : Forest) (b : Batch) where
           events-later earlier l ls (places l) (events-named l (waits .0) (earlier ++ l ∷ []) ls listed named-later)
 
   -- so is every listed node, where none is listed twice
-  events-place : (earlier ls : List Listed) (l : Listed) → List·Memᴰ l ls → distinct sameNode (listedIds ls) ≡ true → listing earlier (l .id) ≡ none
+  pub events-place : (earlier ls : List Listed) (l : Listed) → List·Memᴰ l ls → distinct sameNode (listedIds ls) ≡ true → listing earlier (l .id) ≡ none
       → (placedAtTurn s b (l .id) || has sameNode (namedIds (earlier ++ ls)) (l .id)) ≡ true → List·Memᴰ (places l) (events s b earlier ls)
   unfolding listedIds listing
   events-place earlier (k ∷ ls) l (List·Memᴰ·head q) d e f = rw q (events-turn earlier k ls (rw q at e) (rw q at f))

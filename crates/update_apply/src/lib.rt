@@ -30,7 +30,7 @@ pub fn apply<'a, 'b, 'c>(
 }
 
 // The outcome of a batch that passed rows 9 to 14, with what goes, what differs and the plan in the notes.
-fn write<'a, 'b, 'c>(
+pub fn write<'a, 'b, 'c>(
     state: &'a State,
     batch: &'a [u8],
     scope: Scope,

@@ -15,9 +15,9 @@ use Rattle.base.proofs.Bytes.{all-list-of}
 use Rattle.base.proofs.Indexed.{list-of-cong}
 use Rattle.record.specs.Batch.{fieldsOk, NodeData}
 use Rattle.record.specs.Layout.{nodeCount, recordAt, labelAt, labelStart, labelLength}
-use Rattle.record.specs.Parse.{nodeOf, wellFormed}
+use Rattle.record.specs.Parse.{nodeOf, wellFormed, batchOf}
 use Rattle.record.proofs.Parse.{record-facts}
-use Rattle.record_reader.specs.Reader.{batchIn, listedAt}
+use Rattle.record_reader.specs.Reader.{listedAt}
 use Rattle.record_reader.proofs.Reader.{node-count-is, listed-here, field-here}
 use Rattle.state_array.specs.Layout.{word, LABEL, FLOATS}
 use Rattle.state_array.specs.View.{labelByte, labelIn, boundsIn, transformIn, bodyIn}
@@ -53,12 +53,12 @@ floats-finite d h =
     let q = simp and-true at (r .finite-transform) in
     simp and-true (p .0 .0 .0, (p .0 .0 .1, (p .0 .1, (p .1, (q .0 .0 .0 .0 .0, (q .0 .0 .0 .0 .1, (q .0 .0 .0 .1, (q .0 .0 .1, (q .0 .1, (q .1, refl))))))))))
 
-module _ (bytes : List ℕ) (byte : areBytes bytes ≡ true) (formed : wellFormed bytes ≡ true) (i : ℕ) (h : i < length (batchIn bytes .nodes)) where
+module _ (bytes : List ℕ) (byte : areBytes bytes ≡ true) (formed : wellFormed bytes ≡ true) (i : ℕ) (h : i < length (batchOf bytes .nodes)) where
   within : i < nodeCount bytes
   within = rw (node-count-is bytes) h
 
   -- the data that the record says
-  said : listedAt (batchIn bytes) i .body ≡ nodeOf bytes i .body
+  said : listedAt (batchOf bytes) i .body ≡ nodeOf bytes i .body
   said = ap (λ l. l .body) (listed-here bytes i within)
 
   -- its bit patterns
@@ -74,7 +74,7 @@ module _ (bytes : List ℕ) (byte : areBytes bytes ≡ true) (formed : wellForme
   from = labelAt bytes (labelStart bytes (recordAt i))
 
   -- it fits
-  pub listed-fits : DataFits (listedAt (batchIn bytes) i .body)
+  pub listed-fits : DataFits (listedAt (batchOf bytes) i .body)
   listed-fits = rw said (record {
     fields = record-facts bytes formed i within .fields;
     bytes = all-take _ (labelLength bytes (recordAt i)) (drop from bytes) (all-drop _ from bytes byte);
@@ -82,7 +82,7 @@ module _ (bytes : List ℕ) (byte : areBytes bytes ≡ true) (formed : wellForme
   })
 
   -- the patterns that are read are those of its floats
-  pub listed-floats : patternsIn bytes i ≡ map (toBits binary64) (floatsOf (listedAt (batchIn bytes) i .body))
+  pub listed-floats : patternsIn bytes i ≡ map (toBits binary64) (floatsOf (listedAt (batchOf bytes) i .body))
   unfolding patternsIn listOf
   listed-floats =
       let finite = rw floats-are at (floats-finite (nodeOf bytes i .body) (record-facts bytes formed i within .fields)) in
@@ -93,14 +93,14 @@ module _ (bytes : List ℕ) (byte : areBytes bytes ≡ true) (formed : wellForme
       read = list-of-cong 10 _ _ (λ k l. field-here bytes i 8 (48 + 8 * k) refl within)
 
   -- so what is read is the data
-  pub listed-body : (r : Body) → r .graft ≡ listedAt (batchIn bytes) i .body .graft → r .flags ≡ listedAt (batchIn bytes) i .body .flags
-      → r .«child_count» ≡ length (listedAt (batchIn bytes) i .body .children)
-      → r .«active_descendant» ≡ listedAt (batchIn bytes) i .body .activeDescendant
-      → r .role ≡ listedAt (batchIn bytes) i .body .role
-      → r .«label_length» ≡ length (listedAt (batchIn bytes) i .body .label)
-      → r .label ≡ listOf 4 (labelWord (listedAt (batchIn bytes) i .body .label))
+  pub listed-body : (r : Body) → r .graft ≡ listedAt (batchOf bytes) i .body .graft → r .flags ≡ listedAt (batchOf bytes) i .body .flags
+      → r .«child_count» ≡ length (listedAt (batchOf bytes) i .body .children)
+      → r .«active_descendant» ≡ listedAt (batchOf bytes) i .body .activeDescendant
+      → r .role ≡ listedAt (batchOf bytes) i .body .role
+      → r .«label_length» ≡ length (listedAt (batchOf bytes) i .body .label)
+      → r .label ≡ listOf 4 (labelWord (listedAt (batchOf bytes) i .body .label))
       → r .floats ≡ patternsIn bytes i
-      → Bodied (listedAt (batchIn bytes) i .body) r
+      → Bodied (listedAt (batchOf bytes) i .body) r
   unfolding bodyOf
   listed-body r graft flags count active role long label floats =
       let patterns-are = floats ∙ listed-floats in

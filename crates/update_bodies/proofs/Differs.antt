@@ -20,7 +20,8 @@ use Rattle.ids.specs.declared.NodeId.{NodeId}
 use Rattle.record.specs.Batch.{fieldsOk, sameData, namedIds}
 use Rattle.record.specs.Layout.{nodeCount, entryCount}
 use Rattle.record.proofs.Parse.{record-facts}
-use Rattle.record_reader.specs.Reader.{batchIn, noNode, listedAt, fieldAt, entriesOf}
+use Rattle.record.specs.Parse.{batchOf}
+use Rattle.record_reader.specs.Reader.{noNode, listedAt, fieldAt, entriesOf}
 use Rattle.record_reader.proofs.Reader.{node-count-is, field-here, children-count, entries-are, entry-is-child}
 use Rattle.state.specs.State.{NodeState, find}
 use Rattle.state_array.specs.Layout.{child}
@@ -63,7 +64,7 @@ child-is state long own first k = go (decLt (first + k) 512)
 -- ## A listed node
 
 module _ {state bytes : List ℕ} {c : Scope} {notes : List ℕ} (told : Told GONE state bytes c notes) {i : ℕ} (h : i < c .listed) where
-  in-batch : i < length (batchIn bytes .nodes)
+  in-batch : i < length (batchOf bytes .nodes)
   in-batch = rw (← batched state bytes c (told .given) .nodes) (omega (arith, told .given .scoped .listed))
 
   entries-count : length (entriesOf bytes) ≡ entryCount bytes
@@ -76,15 +77,15 @@ module _ {state bytes : List ℕ} {c : Scope} {notes : List ℕ} (told : Told GO
       ∙ ap length (sym (entries-are bytes (told .given .formed))) ∙ entries-count
 
   -- its children lie within those that are named
-  pub run-within : fieldAt 2 bytes i 32 + length (listedAt (batchIn bytes) i .body .children) ≤ c .named
+  pub run-within : fieldAt 2 bytes i 32 + length (listedAt (batchOf bytes) i .body .children) ≤ c .named
   run-within =
       let within : i < nodeCount bytes = rw (node-count-is bytes) in-batch in
       let lies = record-facts bytes (told .given .formed) i within .children-in in
       omega (arith, named-count, field-here bytes i 2 32 refl within, field-here bytes i 2 34 refl within, children-count bytes i)
 
   -- and stand there
-  child-named : (own k : ℕ) → k < length (listedAt (batchIn bytes) i .body .children)
-      → getD notes (NAMED + fieldAt 2 bytes i 32 + k) own ≡ getD (listedAt (batchIn bytes) i .body .children) k noNode .0
+  child-named : (own k : ℕ) → k < length (listedAt (batchOf bytes) i .body .children)
+      → getD notes (NAMED + fieldAt 2 bytes i 32 + k) own ≡ getD (listedAt (batchOf bytes) i .body .children) k noNode .0
   unfolding namedWord
   child-named own k l =
       let f = fieldAt 2 bytes i 32 in
@@ -99,13 +100,13 @@ module _ {state bytes : List ℕ} {c : Scope} {notes : List ℕ} (told : Told GO
       ∙ ap (λ (x : NodeId). x .0) (entry-is-child bytes (told .given .formed) i k in-batch l)
 
   -- a run of child entries and the run of its children
-  children-same : length state ≡ 9640 → (own : NodeId) (d : ShapeRow) → d .«child_count» ≡ length (listedAt (batchIn bytes) i .body .children)
+  children-same : length state ≡ 9640 → (own : NodeId) (d : ShapeRow) → d .«child_count» ≡ length (listedAt (batchOf bytes) i .body .children)
       → sameRun state (9128 + min (d .«first_child») 512) notes (NAMED + fieldAt 2 bytes i 32) (own .0) (d .«child_count»)
-      ≡ sameList sameNode (childrenIn state own d) (listedAt (batchIn bytes) i .body .children)
+      ≡ sameList sameNode (childrenIn state own d) (listedAt (batchOf bytes) i .body .children)
   unfolding sameRun childrenIn sameNode
   children-same long own d e =
       let n = d .«child_count» in
-      let kids = listedAt (batchIn bytes) i .body .children in
+      let kids = listedAt (batchOf bytes) i .body .children in
       all-below-cong n (λ k. eqb (getD state (9128 + min (d .«first_child») 512 + k) (own .0)) (getD notes (NAMED + fieldAt 2 bytes i 32 + k) (own .0)))
       (λ k. eqb (child state (own .0) (d .«first_child» + k)) (getD kids k noNode .0))
       (λ k l. ap₂ eqb (child-is state long (own .0) (d .«first_child») k) (child-named (own .0) k (omega arith)))
@@ -115,7 +116,7 @@ module _ {state bytes : List ℕ} {c : Scope} {notes : List ℕ} (told : Told GO
 
   -- it differs if it has a slot, and other data than what stands there
   differ-is : (slot : ℕ) → slot ≡ getD notes (LISTED-SLOTS + i) 0
-      → differWord state bytes c i ≡ flag (ltb slot (slotsOf state) && not (sameData (nodeIn state slot .body) (listedAt (batchIn bytes) i .body)))
+      → differWord state bytes c i ≡ flag (ltb slot (slotsOf state) && not (sameData (nodeIn state slot .body) (listedAt (batchOf bytes) i .body)))
   unfolding differWord differs listedSlot _&&_
   differ-is slot e = ap (λ (t : Bool). flag t) (ap (λ o. elim o as (λ _. Bool) [ none ↦ false | some k ↦ not (sameData (k .body) (listedAt (asked bytes c) i .body)) ]) found ∙ sym (go (ltb slot (slotsOf state)) refl))
     where
@@ -125,7 +126,7 @@ module _ {state bytes : List ℕ} {c : Scope} {notes : List ℕ} (told : Told GO
           ∙ ap₂ (λ r k. if ltb r k then some (nodeAt (forest state) r) else none) (sym (e ∙ told .written 3 (omega arith) i h)) (forest-length state)
 
       go : (t : Bool) → ltb slot (slotsOf state) ≡ t
-          → (t && not (sameData (nodeIn state slot .body) (listedAt (batchIn bytes) i .body)))
+          → (t && not (sameData (nodeIn state slot .body) (listedAt (batchOf bytes) i .body)))
           ≡ (elim (if t then some (nodeAt (forest state) slot) else none) as (λ _. Bool) [ none ↦ false | some k ↦ not (sameData (k .body) (listedAt (asked bytes c) i .body)) ])
       go true q =
           ap₂ (λ d f. not (sameData d f)) (sym (ap (λ (k : NodeState). k .body) (forest-node state slot (ltb-true slot (slotsOf state) q))))
@@ -140,7 +141,7 @@ module _ {state bytes : List ℕ} {c : Scope} {notes : List ℕ} (told : Told GO
 
     -- it has one, and the data is compared
     module _ (l : getD notes (LISTED-SLOTS + i) 0 < n) {v : Bool}
-        (same : v ≡ sameData (nodeIn state (getD notes (LISTED-SLOTS + i) 0) .body) (listedAt (batchIn bytes) i .body)) where
+        (same : v ≡ sameData (nodeIn state (getD notes (LISTED-SLOTS + i) 0) .body) (listedAt (batchOf bytes) i .body)) where
       compared : differWord state bytes c i ≡ flag (not v)
       unfolding _&&_
       compared = differ-is _ refl ∙ rw (lt-ltb _ (slotsOf state) (rw count at l), same)
@@ -157,28 +158,28 @@ module _ {state bytes : List ℕ} {c : Scope} {notes : List ℕ} (told : Told GO
     old-is : Bodied (nodeIn state slot .body) old
     old-is = kept .kept (omega arith) (slot-fields state bytes c (told .given) slot there)
 
-    new-is : Bodied (listedAt (batchIn bytes) i .body) new
+    new-is : Bodied (listedAt (batchOf bytes) i .body) new
     new-is =
         let e : 320 + i - 320 ≡ i = omega arith in
         (rw e at (read .read (omega arith))) (told .given .formed) in-batch
 
-    images : sameBody old new ≡ sameBody (bodyOf (nodeIn state slot .body)) (bodyOf (listedAt (batchIn bytes) i .body))
+    images : sameBody old new ≡ sameBody (bodyOf (nodeIn state slot .body)) (bodyOf (listedAt (batchOf bytes) i .body))
     images = ap₂ sameBody (old-is .is) (new-is .is)
 
     -- where the images are not the same, it differs
-    pub other-data : {v : Bool} → v ≡ sameBody old new → not v ≡ true → false ≡ sameData (nodeIn state slot .body) (listedAt (batchIn bytes) i .body)
+    pub other-data : {v : Bool} → v ≡ sameBody old new → not v ≡ true → false ≡ sameData (nodeIn state slot .body) (listedAt (batchOf bytes) i .body)
     other-data e q =
-        sym (data-differs (nodeIn state slot .body) (listedAt (batchIn bytes) i .body) (old-is .fits) (new-is .fits) (sym images ∙ call-false e q))
+        sym (data-differs (nodeIn state slot .body) (listedAt (batchOf bytes) i .body) (old-is .fits) (new-is .fits) (sym images ∙ call-false e q))
 
     -- where they are, the children decide, as the code finds where they stand
     pub same-data : {v w : Bool} {own : FullNodeId} {d : ShapeRow} {from to : ℕ} → length state ≡ 9640 → v ≡ sameBody old new → not v ≡ false
         → own ≡ idIn state slot → d ≡ shapeIn state slot → from ≡ min (d .«first_child») 512 → to ≡ fieldAt 2 bytes i 32
         → w ≡ sameRun state (9128 + from) notes (NAMED + to) (own .node .0) (d .«child_count»)
-        → w ≡ sameData (nodeIn state slot .body) (listedAt (batchIn bytes) i .body)
+        → w ≡ sameData (nodeIn state slot .body) (listedAt (batchOf bytes) i .body)
     unfolding nodeIn bodyIn childrenIn
     same-data long e same id shape first start run =
         let d = nodeIn state slot .body in
-        let f = listedAt (batchIn bytes) i .body in
+        let f = listedAt (batchOf bytes) i .body in
         let q = sym images ∙ call-true e same in
         let count = sym (length-list-of (shapeIn state slot .«child_count») _) ∙ children-counted d f (old-is .fits) (new-is .fits) q in
         run ∙ rw (first, shape, id, start) (children-same long (idIn state slot .node) (shapeIn state slot) count)

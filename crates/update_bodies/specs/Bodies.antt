@@ -14,8 +14,8 @@ use Rattle.geometry.specs.Geometry.{sameRect, sameAffine}
 use Rattle.geometry.specs.declared.Rect.{Rect}
 use Rattle.geometry.specs.declared.Affine.{Affine}
 use Rattle.record.specs.Batch.{NodeData, fieldsOk}
-use Rattle.record.specs.Parse.{wellFormed}
-use Rattle.record_reader.specs.Reader.{batchIn, listedAt, fieldAt}
+use Rattle.record.specs.Parse.{wellFormed, batchOf}
+use Rattle.record_reader.specs.Reader.{listedAt, fieldAt}
 use Rattle.state_array.specs.Layout.{SLOTS}
 use Rattle.state_array.specs.View.{nodeIn}
 use Rattle.state_array.specs.Stored.{bodyOf, DataFits}
@@ -34,7 +34,7 @@ patternsIn bytes i = listOf 10 (λ k. fieldAt 8 bytes i (48 + 8 * k))
 
 -- of a record, r is the data of listed node i
 abbrev pub ListedBodyIs : List ℕ → ℕ → Body → Type 0
-ListedBodyIs bytes i r = wellFormed bytes ≡ true → i < length (batchIn bytes .nodes) → Bodied (listedAt (batchIn bytes) i .body) r
+ListedBodyIs bytes i r = wellFormed bytes ≡ true → i < length (batchOf bytes .nodes) → Bodied (listedAt (batchOf bytes) i .body) r
 
 -- r is the data that a code names: a slot's whose fields obey the rules, or a listed node's
 pub record BodyIs (state bytes : List ℕ) (code : ℕ) (r : Body) : Type 0 where

@@ -7,7 +7,8 @@ ghost use lib.ListN.{getD};
 ghost use Rattle.base.specs.Bytes.{listOf};
 ghost use Rattle.geometry.specs.Geometry.{sameRect, sameAffine};
 ghost use Rattle.record.specs.Batch.{sameData};
-ghost use Rattle.record_reader.specs.Reader.{batchIn, listedAt, fieldAt};
+ghost use Rattle.record.specs.Parse.{batchOf};
+ghost use Rattle.record_reader.specs.Reader.{listedAt, fieldAt};
 ghost use Rattle.state_array.specs.Layout.{ENTRIES};
 ghost use Rattle.state_array.specs.Stored.{labelWord};
 ghost use Rattle.state_array.specs.View.{slotsOf, nodeIn};
@@ -72,7 +73,7 @@ fn same_data<'a>(
 ) -> bool
     requires { ⌜ Told GONE (now state) (now batch) scope (now notes) ⌝ }
     requires { ⌜ (i < scope .listed) × (slot < slotsOf (now state)) ⌝ }
-    ensures { λ r. ⌜ r ≡ sameData (nodeIn (now (state .entry)) slot .body) (listedAt (batchIn (now (batch .entry))) i .body) ⌝ }
+    ensures { λ r. ⌜ r ≡ sameData (nodeIn (now (state .entry)) slot .body) (listedAt (batchOf (now (batch .entry))) i .body) ⌝ }
 {
     let old = body_of(state, batch, slot);
     let new = body_of(state, batch, state_array::SLOTS + i);
@@ -171,7 +172,7 @@ fn pattern(batch: &[u8], i: usize, k: usize) -> u64
 }
 
 // Whether two nodes have the same data by value, their children's lists aside: as many children, and -0 equals 0.
-pub fn same_body(a: Body, b: Body) -> bool
+fn same_body(a: Body, b: Body) -> bool
     ensures { λ r. ⌜ r ≡ sameBody a b ⌝ }
 {
     let x = a.label;
@@ -227,14 +228,7 @@ fn same_value(x: u64, y: u64) -> bool
 }
 
 // Whether the count words from `from` on of one array are those from `to` on of another; past the end of either stands `past`.
-pub fn same_run<'a>(
-    a: &'a [u64],
-    from: usize,
-    b: &'a [u64],
-    to: usize,
-    past: u64,
-    count: usize,
-) -> bool
+fn same_run<'a>(a: &'a [u64], from: usize, b: &'a [u64], to: usize, past: u64, count: usize) -> bool
     ensures { λ r. ⌜ r ≡ sameRun (now (a .entry)) from (now (b .entry)) to past count ⌝ }
 {
     let mut k = 0usize;

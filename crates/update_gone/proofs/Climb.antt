@@ -34,7 +34,7 @@ goes-if-code true = refl
 goes-if-code false = refl
 
 -- the fate with the number 2
-as-parent : (f : Fate) → fateCode f ≡ 2 → f ≡ asParent
+pub as-parent : (f : Fate) → fateCode f ≡ 2 → f ≡ asParent
 unfolding fateCode
 as-parent stays e = absurd (omega arith)
 as-parent goes e = absurd (omega arith)

@@ -12,7 +12,8 @@ use Rattle.base.proofs.Tests.{is-some-if, joined}
 use Rattle.ids.specs.Ids.{sameTree, sameId}
 use Rattle.ids.specs.declared.FullNodeId.{FullNodeId}
 use Rattle.record.specs.Batch.{graft?}
-use Rattle.record_reader.specs.Reader.{batchIn, listedAt}
+use Rattle.record.specs.Parse.{batchOf}
+use Rattle.record_reader.specs.Reader.{listedAt}
 use Rattle.state.specs.State.{graftAt, ParentAndIndex, NodeState, Forest, present, linkAt}
 use Rattle.state_array.specs.declared.LinkRow.{LinkRow}
 use Rattle.state_array.specs.View.{idIn, linkIn, linkOf, slotsOf}
@@ -88,7 +89,7 @@ unfolding aboveWord
 above-is state bytes c i h = ap (slotAbove state) (sym (forest-link state i h))
 
 -- the turn of the node in a slot
-turn-at : {state bytes : List ℕ} {c : Scope} {notes : List ℕ} → Told ABOVE-TOLD state bytes c notes → (i : ℕ) → i < slotsOf state
+pub turn-at : {state bytes : List ℕ} {c : Scope} {notes : List ℕ} → Told ABOVE-TOLD state bytes c notes → (i : ℕ) → i < slotsOf state
     → getD notes (TURNS + i) 0 ≡ turnMark (forest state) (asked bytes c) (idAt (forest state) i)
 unfolding turnWord
 turn-at told i h = told .written 5 (omega arith) i h
@@ -123,10 +124,10 @@ module _ {state bytes : List ℕ} {c : Scope} {notes : List ℕ} (told : Told AB
         (told .given .kept .parent-present (idAt (forest state) i) _
         (link-at (forest state) (told .given .kept .ascending) i within ∙ forest-link state i h ∙ a-link (linkIn state i) linked))
 
-    parent-there : getD notes (ABOVE + i) 0 < slotsOf state
+    pub parent-there : getD notes (ABOVE + i) 0 < slotsOf state
     parent-there = omega (arith, parent-word, stands .0, forest-length state)
 
-    parent-id : idAt (forest state) (getD notes (ABOVE + i) 0) ≡ linkIn state i .parent
+    pub parent-id : idAt (forest state) (getD notes (ABOVE + i) 0) ≡ linkIn state i .parent
     parent-id = rw parent-word (stands .1)
 
   -- ## The node as a graft
@@ -139,7 +140,7 @@ module _ {state bytes : List ℕ} {c : Scope} {notes : List ℕ} (told : Told AB
   claims-are j l = told .written 7 (omega arith) j l
 
   -- whether the tree that it grafted is claimed
-  claimed-is : {r : ℕ} → ClaimedFromIs (batchIn bytes) notes (c .listed) (graftBelow state i) r
+  claimed-is : {r : ℕ} → ClaimedFromIs (batchOf bytes) notes (c .listed) (graftBelow state i) r
       → isSome (claimedFrom (forest state) (asked bytes c) (idAt (forest state) i)) ≡ ltb r (c .listed)
   claimed-is {r} e =
       ap (λ o. isSome o)
@@ -149,7 +150,7 @@ module _ {state bytes : List ℕ} {c : Scope} {notes : List ℕ} (told : Told AB
 
   -- ## The fate of a root of another tree under it
 
-  module _ {r : ℕ} (claimed : ClaimedFromIs (batchIn bytes) notes (c .listed) (graftBelow state i) r) where
+  module _ {r : ℕ} (claimed : ClaimedFromIs (batchOf bytes) notes (c .listed) (graftBelow state i) r) where
     -- the tree is claimed
     pub under-claimed : r < c .listed → FateUnderIs state bytes c i 0
     unfolding fateElsewhere fateCode
@@ -163,7 +164,7 @@ module _ {state bytes : List ℕ} {c : Scope} {notes : List ℕ} (told : Told AB
           rw (other-index _ (x .tree) apart, claimed-is claimed ∙ le-ltb r (c .listed) free, turn-none (forest state) (asked bytes c) (idAt (forest state) i) (omega (arith, turn-at told i h)))
 
       module _ (listed : 1 ≤ getD notes (TURNS + i) 0) {v : Bool}
-          (held : v ≡ sameOption sameTree (graft? (listedAt (batchIn bytes) (getD notes (TURNS + i) 0 - 1) .body)) (graftBelow state i)) where
+          (held : v ≡ sameOption sameTree (graft? (listedAt (batchOf bytes) (getD notes (TURNS + i) 0 - 1) .body)) (graftBelow state i)) where
         -- one that is listed lets go of its tree, or not
         lets-go : letsGo (forest state) (asked bytes c) (idAt (forest state) i) ≡ not v
         lets-go =

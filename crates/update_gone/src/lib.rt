@@ -16,9 +16,9 @@ use update_notes::Scope;
 // What becomes of an old node: it stays, it goes, or it fares as its parent does.
 const STAYS: u64 = 0;
 
-const GOES: u64 = 1;
+pub const GOES: u64 = 1;
 
-const AS_PARENT: u64 = 2;
+pub const AS_PARENT: u64 = 2;
 
 // The phase: the parents' slots, and which nodes go.
 pub fn write_gone<'a>(state: &'a State, batch: &'a [u8], scope: Scope, notes: &mut Notes)
@@ -78,7 +78,13 @@ fn write_fates<'a>(state: &'a State, batch: &'a [u8], scope: Scope, notes: &mut 
 }
 
 // The fate of the node in slot i.
-fn fate_at<'a>(state: &'a State, batch: &'a [u8], scope: Scope, notes: &'a Notes, i: usize) -> u64
+pub fn fate_at<'a>(
+    state: &'a State,
+    batch: &'a [u8],
+    scope: Scope,
+    notes: &'a Notes,
+    i: usize,
+) -> u64
     requires { ⌜ Told ABOVE-TOLD (now state) (now batch) scope (now notes) ⌝ }
     requires { ⌜ i < slotsOf (now state) ⌝ }
     ensures { λ r. ⌜ r ≡ fateWord (now (state .entry)) (now (batch .entry)) scope i ⌝ }

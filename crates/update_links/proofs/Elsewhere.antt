@@ -11,7 +11,8 @@ use borrow.Author.Tests.{eq-eqb, ne-eqb, lt-ltb, le-ltb}
 use Rattle.base.specs.Tests.{if_then_else_}
 use Rattle.ids.specs.Ids.{sameIndex}
 use Rattle.ids.specs.declared.FullNodeId.{FullNodeId}
-use Rattle.record_reader.specs.Reader.{batchIn, listedAt}
+use Rattle.record.specs.Parse.{batchOf}
+use Rattle.record_reader.specs.Reader.{listedAt}
 use Rattle.record.specs.Batch.{Batch}
 use Rattle.state.specs.State.{ParentAndIndex, Forest}
 use Rattle.state_array.specs.Stored.{linkRow}
@@ -59,7 +60,7 @@ module _ (x : FullNodeId) {was : LinkRow} where
 
   module _ {state bytes : List ℕ} {c : Scope} {notes : List ℕ} (told : Told COMPARED state bytes c notes) where
     -- any other stands under the claimer of the tree that its parent grafted
-    link-elsewhere-claimed : {slot r : ℕ} → ClaimedFromIs (batchIn bytes) notes (c .listed) (graftBelow state slot) r
+    link-elsewhere-claimed : {slot r : ℕ} → ClaimedFromIs (batchOf bytes) notes (c .listed) (graftBelow state slot) r
         → (o : Option ParentAndIndex) → was ≡ linkRow o → slot ≡ slotAbove state o → ownTest x was ≡ false
         → {t : Bool} → ltb r (c .listed) ≡ t
         → (if t then underGraft (here (forest state) (asked bytes c) (listedAt (asked bytes c) r .id)) else o)
@@ -93,7 +94,7 @@ module _ {state bytes : List ℕ} {c : Scope} {notes : List ℕ} (told : Told CO
   pub elsewhere-own : ownTest x was ≡ true → LinkElsewhereIs state bytes c slot x was was
   elsewhere-own own o e above = link-elsewhere-own x (forest state) (asked bytes c) o e own
 
-  module _ (other : ownTest x was ≡ false) {i : ℕ} (found : ClaimedFromIs (batchIn bytes) notes (c .listed) (graftBelow state slot) i) where
+  module _ (other : ownTest x was ≡ false) {i : ℕ} (found : ClaimedFromIs (batchOf bytes) notes (c .listed) (graftBelow state slot) i) where
     pub elsewhere-kept : c .listed ≤ i → LinkElsewhereIs state bytes c slot x was was
     elsewhere-kept h o e above = e ∙ ap linkRow (link-elsewhere-claimed x told found o e above other (le-ltb i (c .listed) h))
 

@@ -19,7 +19,8 @@ use Rattle.ids.specs.declared.TreeIndex.{TreeIndex}
 use Rattle.ids.specs.declared.NodeId.{NodeId}
 use Rattle.ids.specs.declared.FullNodeId.{FullNodeId}
 use Rattle.record.specs.Batch.{graft?, Batch, listedIds, namedIds, Listed}
-use Rattle.record_reader.specs.Reader.{noNode, listedAt, batchIn}
+use Rattle.record.specs.Parse.{batchOf}
+use Rattle.record_reader.specs.Reader.{noNode, listedAt}
 use Rattle.state.specs.State.{ParentAndIndex, NodeState, Forest, holder}
 use Rattle.state_array.specs.Stored.{noState, linkRow}
 use Rattle.state_array.specs.View.{idIn, graftIn, bodyIn, nodeIn, slotsOf}
@@ -250,7 +251,7 @@ module _ (state : List ℕ) (t : TreeId) {slot : ℕ} (held : HolderIs state t s
 module _ {state bytes : List ℕ} {c : Scope} {notes : List ℕ} (told : Told COMPARED state bytes c notes) (x : FullNodeId) {was : LinkRow} {turn : ℕ} {root : Bool}
     (root-is : root ≡ sameOption sameId (rootIn c) (some x)) where
   -- the root that tree data gives a pane
-  pub here-pane : {t : TreeId} {r : LinkRow} → paneTest c root ≡ true → t ≡ batchIn bytes .tree → r ≡ linkRow (graftLink (forest state) t)
+  pub here-pane : {t : TreeId} {r : LinkRow} → paneTest c root ≡ true → t ≡ batchOf bytes .tree → r ≡ linkRow (graftLink (forest state) t)
       → LinkHereIs state bytes c x was turn r
   unfolding asked
   here-pane e tree q o is cut new =

@@ -18,7 +18,8 @@ use Rattle.ids.specs.Ids.{sameTree}
 use Rattle.ids.specs.declared.TreeId.{TreeId}
 use Rattle.ids.specs.declared.FullNodeId.{FullNodeId}
 use Rattle.record.specs.Batch.{NodeData, graft?, Listed, Batch}
-use Rattle.record_reader.specs.Reader.{batchIn, noListed, listedAt}
+use Rattle.record.specs.Parse.{batchOf}
+use Rattle.record_reader.specs.Reader.{noListed, listedAt}
 use Rattle.state.specs.State.{Forest, graftAt}
 use Rattle.state_array.specs.View.{graftIn, shapeIn, bodyIn, nodeIn, slotsOf}
 use Rattle.update.specs.Words.{here, listed, claim, claimer, claimedFrom, letsGo}
@@ -140,18 +141,18 @@ module _ (s : Forest) (b : Batch) where
   module _ (bytes : List ℕ) (batched : Batched bytes b) (notes : List ℕ) (k : ℕ) (count : k ≡ length (b .nodes))
       (say : Holds notes CLAIMS k (λ i. flag (isSome (claim s b (listedAt b i))))) where
     -- the listed node that claims a tree
-    pub claimer-is : (t : TreeId) (r : ℕ) → ClaimerIs (batchIn bytes) notes k t r
+    pub claimer-is : (t : TreeId) (r : ℕ) → ClaimerIs (batchOf bytes) notes k t r
         → claimer s b t ≡ (if ltb r k then some (here s b (listedAt b r .id)) else none)
     unfolding claimer listedAt
     claimer-is t r h =
         let test : (i : ℕ) → i < k
-        → (eqb (getD notes (CLAIMS + i) 0) 1 && sameTree (listedAt (batchIn bytes) i .body .graft) t) ≡ sameOption sameTree (claim s b (listedAt b i)) (some t) =
+        → (eqb (getD notes (CLAIMS + i) 0) 1 && sameTree (listedAt (batchOf bytes) i .body .graft) t) ≡ sameOption sameTree (claim s b (listedAt b i)) (some t) =
         λ i l. rw (batched-at bytes b batched i, say i l) (claim-test (listedAt b i) t) in
         first-given-at (λ l. sameOption sameTree (claim s b l) (some t)) (λ l. here s b (l .id)) noListed (b .nodes) r (rw (← count) (first-cong _ _ k r test h))
         ∙ rw (← count)
 
     -- the listed node that claims the tree that p grafted
-    pub claimed-from-is : (p : FullNodeId) (r : ℕ) → ClaimedFromIs (batchIn bytes) notes k (graftAt (s .nodes) p) r
+    pub claimed-from-is : (p : FullNodeId) (r : ℕ) → ClaimedFromIs (batchOf bytes) notes k (graftAt (s .nodes) p) r
         → claimedFrom s b p ≡ (if ltb r k then some (here s b (listedAt b r .id)) else none)
     unfolding claimedFrom
     claimed-from-is p r h =

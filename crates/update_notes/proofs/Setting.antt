@@ -5,18 +5,18 @@ use Prim.Native.Nat.{ℕ}
 use Rattle.record.specs.Batch.{Batch}
 use Rattle.record.specs.Parse.{batchOf}
 use Rattle.record.proofs.Parse.{parse-well, BatchFacts, batch-facts}
-use Rattle.record_reader.specs.Reader.{batchIn, listedAt}
+use Rattle.record_reader.specs.Reader.{listedAt}
 use Rattle.update_notes.specs.Setting.{Batched}
 
 module _ (bytes : List ℕ) (b : Batch) (h : Batched bytes b) where
   -- the nodes that b lists are the record's
-  pub batched-at : (i : ℕ) → listedAt (batchIn bytes) i ≡ listedAt b i
+  pub batched-at : (i : ℕ) → listedAt (batchOf bytes) i ≡ listedAt b i
   unfolding listedAt
   batched-at i = rw (h .nodes)
 
   -- its limits, and the rules of every node's fields
   pub batched-facts : BatchFacts b
-  unfolding batchIn
+  unfolding batchOf
   batched-facts =
       let f = batch-facts bytes (batchOf bytes) (parse-well bytes (h .formed)) in
       record {

@@ -18,7 +18,7 @@ use Rattle.state_array.specs.View.{graftIn, slotsOf, view}
 use Rattle.update.specs.Words.{here, mine, listed, turn, claim}
 use Rattle.update.specs.Gone.{gone}
 use Rattle.update.specs.Outcome.{outcome}
-use Rattle.update_notes.specs.Layout.{CLAIMS}
+use Rattle.update_notes.specs.Layout.{WORDS, CLAIMS}
 use Rattle.base.specs.Regions.{Part, part}
 use Rattle.update_notes.specs.Columns.{Column}
 use Rattle.update_notes.specs.declared.Scope.{Scope}
@@ -164,5 +164,5 @@ REPORTED = 15
 -- THE PREMISE OF A PHASE: what it is given, and that the notes' first k columns are written.
 pub record Told (k : ℕ) (state bytes : List ℕ) (c : Scope) (notes : List ℕ) : Type 0 where
   pub given : Given state bytes c
-  pub long : length notes ≡ 4096
+  pub long : length notes ≡ WORDS
   pub written : (j : ℕ) → j < k → Column (columns state bytes c) notes j

@@ -11,8 +11,7 @@ use Rattle.base.specs.Tests.{if_then_else_, all, distinct}
 use Rattle.ids.specs.Ids.{ROOT, sameTree, sameNode}
 use Rattle.ids.specs.declared.FullNodeId.{FullNodeId}
 use Rattle.record.specs.Batch.{fieldsOk, Batch, listedIds, namedIds}
-use Rattle.record.specs.Parse.{wellFormed}
-use Rattle.record_reader.specs.Reader.{batchIn}
+use Rattle.record.specs.Parse.{wellFormed, batchOf}
 use Rattle.state.specs.State.{ParentAndIndex, Forest, present, linkAt}
 use Rattle.state.specs.Sound as sound
 use Rattle.state_array.specs.View.{view}
@@ -25,7 +24,7 @@ use Rattle.update_notes.specs.declared.Scope.{Scope}
 -- The bytes are a record, and b lists its nodes. (A start's b is the record's batch with its tree data taken.)
 pub record Batched (bytes : List ℕ) (b : Batch) : Type 0 where
   pub formed : wellFormed bytes ≡ true
-  pub nodes : b .nodes ≡ batchIn bytes .nodes
+  pub nodes : b .nodes ≡ batchOf bytes .nodes
 
 -- the root that a scope names
 unfoldable pub rootIn : Scope → Option FullNodeId
@@ -43,10 +42,10 @@ pub record Scoped (s : Forest) (b : Batch) (c : Scope) : Type 0 where
 -- The batch that a record and a scope say: without tree data where the scope has none. (A start takes its record's tree data.)
 unfoldable pub asked : List ℕ → Scope → Batch
 asked bytes c = record {
-  tree = batchIn bytes .tree;
-  root = if c .«with_tree_data» then batchIn bytes .root else none;
-  focus = batchIn bytes .focus;
-  nodes = batchIn bytes .nodes;
+  tree = batchOf bytes .tree;
+  root = if c .«with_tree_data» then batchOf bytes .root else none;
+  focus = batchOf bytes .focus;
+  nodes = batchOf bytes .nodes;
 }
 
 -- the forest that the words of a state show

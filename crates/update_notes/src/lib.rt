@@ -6,7 +6,9 @@ ghost use Prim.Native.Nat.{_+_, _≤_};
 ghost use Rattle.base.specs.Tests.{isSome, sameOption};
 ghost use Rattle.ids.specs.Ids.{sameTree, sameId};
 ghost use Rattle.record.specs.Batch.{graft?};
-ghost use Rattle.record_reader.specs.Reader.{batchIn, listedAt};
+ghost use Rattle.record.specs.Parse.{batchOf};
+ghost use Rattle.record_reader.specs.Reader.{listedAt};
+ghost use Rattle.update_notes.specs.Layout.{WORDS};
 ghost use Rattle.update_notes.specs.Setting.{rootIn, refusal};
 ghost use Rattle.update_notes.specs.Says.{graftBelow, ClaimerIs, ClaimedFromIs, PositionIn, HolderIs};
 use ids::FullNodeId;
@@ -16,7 +18,9 @@ use ids::TreeIndex;
 use state_array::State;
 
 // The working words of an update, in columns that stand in the order in which the phases write them.
-pub type Notes = [u64; 4096];
+pub type Notes = [u64; WORDS];
+
+pub const WORDS: usize = 4096;
 
 // The numbers of the listed nodes (64), the children that they name (256), where the children of each end (64).
 pub const LISTED: usize = 0;
@@ -83,13 +87,13 @@ pub fn refuse(number: u8) -> Refusal
 
 // Whether listed node i grafts a tree.
 pub fn grafts_new(batch: &[u8], i: usize) -> bool
-    ensures { λ r. ⌜ r ≡ isSome (graft? (listedAt (batchIn (now (batch .entry))) i .body)) ⌝ }
+    ensures { λ r. ⌜ r ≡ isSome (graft? (listedAt (batchOf (now (batch .entry))) i .body)) ⌝ }
 {
     state_array::is_graft(record_reader::flags(batch, i) as u64)
 }
 
 // Whether the node in a slot grafts a tree.
-pub fn grafts_old(state: &State, slot: usize) -> bool
+fn grafts_old(state: &State, slot: usize) -> bool
     ensures { λ r. ⌜ r ≡ isSome (graftBelow (now (state .entry)) slot) ⌝ }
 {
     let n = state_array::slots(state);
@@ -99,7 +103,7 @@ pub fn grafts_old(state: &State, slot: usize) -> bool
 
 // Whether listed node i grafts what the node in a slot grafts: the same tree, or none both.
 pub fn same_graft<'a>(state: &'a State, batch: &'a [u8], i: usize, slot: usize) -> bool
-    ensures { λ r. ⌜ r ≡ sameOption sameTree (graft? (listedAt (batchIn (now (batch .entry))) i .body)) (graftBelow (now (state .entry)) slot) ⌝ }
+    ensures { λ r. ⌜ r ≡ sameOption sameTree (graft? (listedAt (batchOf (now (batch .entry))) i .body)) (graftBelow (now (state .entry)) slot) ⌝ }
 {
     let old = grafts_old(state, slot);
     if !grafts_new(batch, i) {
@@ -110,9 +114,9 @@ pub fn same_graft<'a>(state: &'a State, batch: &'a [u8], i: usize, slot: usize) 
 }
 
 // The first of k listed nodes that claims a tree, or k.
-pub fn claimer_of<'a>(batch: &'a [u8], notes: &'a Notes, k: usize, t: TreeId) -> usize
+fn claimer_of<'a>(batch: &'a [u8], notes: &'a Notes, k: usize, t: TreeId) -> usize
     requires { ⌜ k ≤ 64 ⌝ }
-    ensures { λ r. ⌜ ClaimerIs (batchIn (now (batch .entry))) (now (notes .entry)) k t r ⌝ }
+    ensures { λ r. ⌜ ClaimerIs (batchOf (now (batch .entry))) (now (notes .entry)) k t r ⌝ }
 {
     let mut i = 0usize;
     while i < k {
@@ -133,7 +137,7 @@ pub fn claimed_from<'a>(
     slot: usize,
 ) -> usize
     requires { ⌜ k ≤ 64 ⌝ }
-    ensures { λ r. ⌜ ClaimedFromIs (batchIn (now (batch .entry))) (now (notes .entry)) k (graftBelow (now (state .entry)) slot) r ⌝ }
+    ensures { λ r. ⌜ ClaimedFromIs (batchOf (now (batch .entry))) (now (notes .entry)) k (graftBelow (now (state .entry)) slot) r ⌝ }
 {
     if !grafts_old(state, slot) {
         return k;
@@ -151,7 +155,7 @@ pub fn is_root(scope: Scope, x: FullNodeId) -> bool
 
 // The first of the n words from `from` on that is x, or n.
 pub fn position_in(notes: &Notes, from: usize, n: usize, x: u64) -> usize
-    requires { ⌜ from + n ≤ 4096 ⌝ }
+    requires { ⌜ from + n ≤ WORDS ⌝ }
     ensures { λ r. ⌜ PositionIn (now (notes .entry)) from n x r ⌝ }
 {
     let mut i = 0usize;

@@ -20,9 +20,9 @@ use Rattle.ids.specs.declared.TreeId.{TreeId}
 use Rattle.ids.specs.declared.NodeId.{NodeId}
 use Rattle.ids.specs.declared.FullNodeId.{FullNodeId}
 use Rattle.record.specs.Batch.{NodeData, graft?, fieldsOk, Batch}
-use Rattle.record.specs.Parse.{nodeOf}
+use Rattle.record.specs.Parse.{nodeOf, batchOf}
 use Rattle.record.specs.Layout.{nodeCount, recordAt, labelLength, labelStart, labelAt}
-use Rattle.record_reader.specs.Reader.{noListed, batchIn, listedAt}
+use Rattle.record_reader.specs.Reader.{noListed, listedAt}
 use Rattle.state.specs.State.{ParentAndIndex, Forest, graftAt, holder}
 use Rattle.state_array.specs.Layout.{word, LABEL-LENGTH}
 use Rattle.state_array.specs.View.{idIn, linkIn, linkOf, labelByte, labelIn, boundsIn, transformIn, bodyIn, nodeIn, slotsOf, view}
@@ -84,12 +84,12 @@ view-bytes state =
 
 -- of a record's nodes
 asked-floats : (bytes : List ℕ) (c : Scope) → all (λ l. floatsFit (l .body)) (asked bytes c .nodes) ≡ true
-unfolding asked batchIn floatsOf _&&_
+unfolding asked batchOf floatsOf _&&_
 asked-floats bytes c = all-list-of (λ l. floatsFit (l .body)) (nodeCount bytes) (nodeOf bytes) (λ i l. simp float-fits)
 
 -- a record of bytes has labels of bytes
 asked-bytes : (bytes : List ℕ) (c : Scope) → ((i : ℕ) → getD bytes i 0 < 256) → all (λ l. bytesFit (l .body)) (asked bytes c .nodes) ≡ true
-unfolding asked batchIn
+unfolding asked batchOf
 asked-bytes bytes c h =
     let whole = all-index (λ x. ltb x 256) bytes 0 (λ i l. lt-ltb (getD bytes i 0) 256 (h i)) in
     all-list-of (λ l. bytesFit (l .body)) (nodeCount bytes) (nodeOf bytes)

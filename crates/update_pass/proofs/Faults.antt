@@ -1,7 +1,7 @@
 -- Laws of what the pass meets: at a child that is named, and at a node that is placed. Assumes nothing.
 use mathlib.Core.Bool.{Bool, true, false, not, _||_, false≢true, true≢false}
 use mathlib.Core.List.{List, [], _∷_}
-use mathlib.Core.Option.{none, some}
+use mathlib.Core.Option.{none, some, Option·none-ne-some}
 use mathlib.Core.Path.{_≡_, refl, sym, ap, _∙_, ap₂}
 use Prim.Native.Nat.{ℕ, zero, suc, _+_, _≤_, _<_}
 use native.Mathlib.Numerals.{add-one}
@@ -11,26 +11,33 @@ use lib.ListN.{length, getD, take, set}
 use lib.Seq.{take-suc, getD-set-same, getD-set-other}
 use borrow.Author.Tests.{eqb-true, eqb-false, lt-ltb, le-ltb, eq-eqb, ne-eqb}
 use Rattle.base.specs.Tests.{_&&_, if_then_else_, isSome, sameOption, has, isNil, given}
-use Rattle.base.specs.Tables.{first}
-use Rattle.base.proofs.Tests.{both, joined, iff, and-false, not-true}
+use Rattle.base.proofs.Tests.{and-false}
 use Rattle.base.proofs.Lists.{any-append, none-of}
-use Rattle.base.proofs.Bytes.{all-below-at, all-below-fails}
-use Rattle.base.proofs.Loops.{Passing}
-use Rattle.base.proofs.Indexed.{all-below-each, all-below-cong}
-use Rattle.base.proofs.Tables.{found-alone}
+use Rattle.base.specs.Search.{First}
+use Rattle.base.proofs.Loops.{Passing, passing-hit, passing-ends}
+use Rattle.base.proofs.Cases.{by-test}
 use Rattle.ids.specs.Ids.{sameTree, sameNode, ROOT}
+use Rattle.ids.proofs.Ids.{same-tree→≡}
 use Rattle.ids.specs.declared.TreeId.{TreeId}
 use Rattle.ids.specs.declared.NodeId.{NodeId}
 use Rattle.record.specs.Batch.{graft?, hasGraft, Listed, Batch, NodeData}
-use Rattle.record_reader.specs.Reader.{noNode, listedAt, batchIn}
+use Rattle.record_reader.specs.Reader.{noNode, listedAt}
+use Rattle.record.specs.Parse.{batchOf}
 use Rattle.state.specs.State.{Forest, graftAt}
 use Rattle.update.specs.Words.{here, claim}
-use Rattle.update.specs.Pass.{Event, names, fault, places}
+use Rattle.update.specs.Pass.{places}
+use Rattle.reasons.specs.Reasons.{Reason}
+use Rattle.reasons.specs.Pass as reasons
+use Rattle.reasons.specs.Pass.{claimerAmong}
+use Rattle.reasons.proofs.Steps.{crowded, claimer-last, claimer-before, places-stops, places-goes, placing-crowded, placing-claimless, placing-root, placing-claimed, placing-claim}
 use Rattle.update_notes.specs.Layout.{CLAIMS}
 use Rattle.update_notes.specs.declared.Scope.{Scope}
 use Rattle.update_notes.specs.Setting.{asked, forest}
 use Rattle.update_notes.specs.Says.{Told, READ}
-use Rattle.update_pass.specs.Steps.{seen, isTaken, unclaimedIn, placing, Claimed, GoesOn, PlacedIs}
+use Rattle.update_pass.specs.declared.Cause.{Cause}
+use Rattle.update_pass.specs.declared.Cause.the-variants.{Nothing, GraftOverChildren, GraftOfRoot, ClaimedTwice}
+use Rattle.update_pass.specs.Causes.{causeReason, causeNumber, Within}
+use Rattle.update_pass.specs.Steps.{seen, isTaken, placing, Claimed, GoesOn, PlacedIs}
 use mathlib.Core.Bool as bool
 use Rattle.update_notes.proofs.Setting.{batched-at}
 use Rattle.update_notes.proofs.Told.{batched}
@@ -56,17 +63,6 @@ seen-has cs (suc j) x h =
     last true false = refl
     last false true = refl
     last false false = refl
-
-module _ (s : Forest) (b : Batch) (seen : List NodeId) (claimed : List TreeId) (es : List Event) (c : NodeId) where
-  -- named before
-  pub fault-twice : has sameNode seen c ≡ true → fault s b seen claimed (names c ∷ es) ≡ 9
-  unfolding fault first
-  fault-twice h = rw h
-
-  -- named for the first time
-  pub fault-once : has sameNode seen c ≡ false → fault s b seen claimed (names c ∷ es) ≡ fault s b (c ∷ seen) claimed es
-  unfolding fault first
-  fault-once h = rw h (found-alone (fault s b (c ∷ seen) claimed es))
 
 -- ## The placing of a node
 
@@ -94,82 +90,91 @@ claim-given s b l e = go (sameOption sameTree (graft? (l .body)) (graftAt (s .no
     go false true e = refl
     go false false e = absurd (false≢true e)
 
-module _ (b : Batch) (notes done : List ℕ) (i : ℕ) (t : TreeId) where
-  -- by these marks, node m leaves the tree t free
-  abbrev free : List ℕ → ℕ → Bool
-  free marks m = not (isTaken b notes marks t m)
+-- ## Another node is done
 
+module _ (b : Batch) (notes done : List ℕ) (i : ℕ) (t : TreeId) where
   -- whether node m claims a tree, and t is its graft
   abbrev claims : ℕ → Bool
   claims m = eqb (getD notes (CLAIMS + m) 0) 1
 
   abbrev same : ℕ → Bool
-  same m = sameTree t (listedAt b m .body .graft)
+  same m = sameTree (listedAt b m .body .graft) t
 
-  -- the mark of a node that claims its graft
-  free-same : i < length done → claims i ≡ true → free (set done i 1) i ≡ not (same i)
+  -- it is the one, and claims its graft
+  taken-self : i < length done → claims i ≡ true → isTaken b notes (set done i 1) t i ≡ same i
   unfolding isTaken _&&_
-  free-same k e = rw (getD-set-same done i 1 0 k, e)
+  taken-self k e = rw (getD-set-same done i 1 0 k, e)
 
-  -- another node's mark
-  free-other : (m : ℕ) → (m ≡ i → ⊥) → free (set done i 1) m ≡ free done m
+  -- it is another
+  taken-other : (m : ℕ) → (m ≡ i → ⊥) → isTaken b notes (set done i 1) t m ≡ isTaken b notes done t m
   unfolding isTaken
-  free-other m n = rw (getD-set-other done i m 1 0 n)
+  taken-other m n = rw (getD-set-other done i m 1 0 n)
 
-  -- a node that claims nothing
-  free-claimless : (marks : List ℕ) (m : ℕ) → claims m ≡ false → free marks m ≡ true
+  -- a node that claims nothing, or another tree
+  taken-claimless : (marks : List ℕ) (m : ℕ) → claims m ≡ false → isTaken b notes marks t m ≡ false
   unfolding isTaken _&&_
-  free-claimless marks m e = rw (e, and-false (eqb (getD marks m 0) 1))
+  taken-claimless marks m e = rw (e, and-false (eqb (getD marks m 0) 1))
 
-  -- a node that claims another tree
-  free-apart : (marks : List ℕ) (m : ℕ) → same m ≡ false → free marks m ≡ true
+  taken-apart : (marks : List ℕ) (m : ℕ) → same m ≡ false → isTaken b notes marks t m ≡ false
   unfolding isTaken
-  free-apart marks m e = rw (e, and-false (eqb (getD marks m 0) 1 && claims m))
+  taken-apart marks m e = rw (e, and-false (eqb (getD marks m 0) 1 && claims m))
 
-  -- one more node is done, and claims nothing
-  pub done-claimless : ((m : ℕ) → m < length (b .nodes) → m ≡ i → claims m ≡ false) → unclaimedIn b notes (set done i 1) t ≡ unclaimedIn b notes done t
-  unfolding unclaimedIn
-  done-claimless h = all-below-cong (length (b .nodes)) (free (set done i 1)) (free done) (λ m l. go m l (eqb m i) refl)
+-- the node that claims a tree among those placed, once listed node i is done
+module _ {s : Forest} {b : Batch} {notes done : List ℕ} {placed : List Listed} (before : Claimed s b notes done placed) (i : ℕ) where
+  -- it claims nothing, or is none
+  claimed-still : (after : List Listed) → ((m : ℕ) → m < length (b .nodes) → m ≡ i → eqb (getD notes (CLAIMS + m) 0) 1 ≡ false)
+      → ((t : TreeId) → claimerAmong s b after t ≡ claimerAmong s b placed t) → Claimed s b notes (set done i 1) after
+  claimed-still after none-here same = record {
+    free = λ t f. same t ∙ before .free t (λ m l. sym (kept t m l) ∙ f m l);
+    held = λ t m l e. same t ∙ before .held t m l (sym (kept t m l) ∙ e);
+  }
     where
-      go : (m : ℕ) → m < length (b .nodes) → (c : Bool) → eqb m i ≡ c → free (set done i 1) m ≡ free done m
-      go m l true q = let e = h m l (eqb-true m i q) in free-claimless (set done i 1) m e ∙ sym (free-claimless done m e)
-      go m l false q = free-other m (eqb-false m i q)
+      kept : (t : TreeId) (m : ℕ) → m < length (b .nodes) → isTaken b notes (set done i 1) t m ≡ isTaken b notes done t m
+      kept t m l =
+          by-test (eqb m i)
+          (λ q. let e = none-here m l (eqb-true m i q) in taken-claimless b notes done i t (set done i 1) m e ∙ sym (taken-claimless b notes done i t done m e))
+          (λ q. taken-other b notes done i t m (eqb-false m i q))
 
-  -- one more node is done, and claims its graft
-  pub done-claims : i < length (b .nodes) → i < length done → claims i ≡ true
-      → unclaimedIn b notes (set done i 1) t ≡ (not (same i) && unclaimedIn b notes done t)
-  unfolding unclaimedIn
-  done-claims l k e =
-      let count = length (b .nodes) in
-      iff
-      (λ h.
-      let apart = sym (free-same k e) ∙ all-below-at (free (set done i 1)) count i h l in
-      joined apart (all-below-each (free done) count (λ m n. before m apart (all-below-at (free (set done i 1)) count m h n) (eqb m i) refl)))
-      (λ h. all-below-each (free (set done i 1)) count (λ m n. after m (both h .0) (all-below-at (free done) count m (both h .1) n) (eqb m i) refl))
+  -- it is the first to claim a tree
+  claimed-more : (t : TreeId) → i < length (b .nodes) → i < length done → eqb (getD notes (CLAIMS + i) 0) 1 ≡ true → claim s b (listedAt b i) ≡ some t
+      → listedAt b i .body .graft ≡ t → claimerAmong s b placed t ≡ none → Claimed s b notes (set done i 1) (listedAt b i ∷ placed)
+  claimed-more t h k e c g first = record { free = free; held = held }
     where
-      before : (m : ℕ) → not (same i) ≡ true → free (set done i 1) m ≡ true → (c : Bool) → eqb m i ≡ c → free done m ≡ true
-      before m a h true q = free-apart done m (rw (eqb-true m i q) (not-true a))
-      before m a h false q = sym (free-other m (eqb-false m i q)) ∙ h
+      self : (x : TreeId) → isTaken b notes (set done i 1) x i ≡ sameTree t x
+      self x = taken-self b notes done i x k e ∙ ap (λ y. sameTree y x) g
 
-      after : (m : ℕ) → not (same i) ≡ true → free done m ≡ true → (c : Bool) → eqb m i ≡ c → free (set done i 1) m ≡ true
-      after m a h true q = free-apart (set done i 1) m (rw (eqb-true m i q) (not-true a))
-      after m a h false q = free-other m (eqb-false m i q) ∙ h
+      others : (x : TreeId) → sameTree t x ≡ false → claimerAmong s b (listedAt b i ∷ placed) x ≡ claimerAmong s b placed x
+      others x q = claimer-before s b placed (listedAt b i) x (rw c q)
 
--- whether no node that is done claims the tree t, as the code asks it
-module _ {state bytes : List ℕ} {c : Scope} {notes : List ℕ} {i : ℕ} (told : Told READ state bytes c notes) (done : List ℕ) (t : TreeId) where
-  pub unclaimed-fails : {r : Bool} → i < c .listed → r ≡ isTaken (batchIn bytes) notes done t i → r ≡ true → false ≡ unclaimedIn (asked bytes c) notes done t
-  unfolding unclaimedIn isTaken listedAt asked
-  unclaimed-fails h e q = sym (all-below-fails _ _ i (omega (arith, told .given .scoped .listed)) (ap not (sym e ∙ q)))
+      free : (x : TreeId) → ((m : ℕ) → m < length (b .nodes) → isTaken b notes (set done i 1) x m ≡ false) → claimerAmong s b (listedAt b i ∷ placed) x ≡ none
+      free x f =
+          let apart = sym (self x) ∙ f i h in
+          others x apart ∙ before .free x (λ m l. by-test (eqb m i)
+          (λ q. let n : m ≡ i = eqb-true m i q in taken-apart b notes done i x done m (rw (n, g) apart))
+          (λ q. sym (taken-other b notes done i x m (eqb-false m i q)) ∙ f m l))
 
-  pub unclaimed-holds : Passing (isTaken (batchIn bytes) notes done t) (c .listed) i → c .listed ≤ i → true ≡ unclaimedIn (asked bytes c) notes done t
-  unfolding unclaimedIn isTaken listedAt asked
-  unclaimed-holds g h = sym (all-below-each _ _ (λ m l. ap not (g .passed m (omega (arith, told .given .scoped .listed)))))
+      held : (x : TreeId) (m : ℕ) → m < length (b .nodes) → isTaken b notes (set done i 1) x m ≡ true → claimerAmong s b (listedAt b i ∷ placed) x ≡ some (listedAt b m)
+      held x m l v =
+          by-test (eqb m i)
+          (λ q. let n : m ≡ i = eqb-true m i q in
+          claimer-last s b placed (listedAt b i) x (rw c (sym (self x) ∙ rw n at v)) ∙ ap (λ y. some (listedAt b y)) (sym n))
+          (λ q. let was = sym (taken-other b notes done i x m (eqb-false m i q)) ∙ v in
+          by-test (sameTree t x)
+          (λ y. absurd (Option·none-ne-some (listedAt b m) (sym first ∙ ap (claimerAmong s b placed) (same-tree→≡ t x y) ∙ before .held x m l was)))
+          (λ y. others x y ∙ before .held x m l was))
 
--- a graft node with children
-abbrev pub crowded : NodeData → Bool
-crowded d = isSome (graft? d) && not (isNil (d .children))
+-- the search for it, as the code makes it
+module _ {state bytes : List ℕ} {c : Scope} {notes : List ℕ} {i : ℕ} (told : Told READ state bytes c notes) (done : List ℕ) (t : TreeId)
+    (g : Passing (isTaken (batchOf bytes) notes done t) (c .listed) i) where
+  pub claimer-found : {r : Bool} → i < c .listed → r ≡ isTaken (batchOf bytes) notes done t i → r ≡ true → First (isTaken (asked bytes c) notes done t) (c .listed) i
+  unfolding isTaken listedAt asked
+  claimer-found h e q = passing-hit g h (sym e ∙ q)
 
--- as the code asks it
+  pub claimer-none : c .listed ≤ i → First (isTaken (asked bytes c) notes done t) (c .listed) (c .listed)
+  unfolding isTaken listedAt asked
+  claimer-none h = passing-ends g h
+
+-- a graft node with children, as the code asks it
 crowded-is : (d : NodeData) {g v : Bool} {n : ℕ} → g ≡ isSome (graft? d) → n ≡ length (d .children) → bool._&&_ g (ltb 0 n) ≡ v → crowded d ≡ v
 unfolding _&&_
 crowded-is d g n e = sym (ap₂ bool._&&_ g (ap (ltb 0) n ∙ some-length (d .children))) ∙ e
@@ -187,113 +192,118 @@ untaken true true d e = absurd (false≢true e)
 untaken true false d e = refl
 untaken false c d e = refl
 
--- both are
-pub taken : (a c d : Bool) → (not a || not c) ≡ false → a && c && d ≡ d
+-- both are, and the node's graft g is compared
+pub taken : (a c : Bool) {g h : TreeId} (t : TreeId) {r : Bool} → (not a || not c) ≡ false → g ≡ h → r ≡ sameTree g t → r ≡ a && c && sameTree h t
 unfolding _&&_
-taken true true d e = refl
-taken true false d e = absurd (true≢false e)
-taken false c d e = absurd (true≢false e)
+taken true true t e q s = s ∙ ap (λ x. sameTree x t) q
+taken true false t e q s = absurd (true≢false e)
+taken false c t e q s = absurd (true≢false e)
 
--- ## A node, and the trees that are claimed before it
-
--- what one node claims, as a list: nothing, or a tree
-module _ (s : Forest) (b : Batch) (l : Listed) where
-  claims-none : claim s b l ≡ none → given (claim s b) (l ∷ []) ≡ []
-  claims-none e = ap (λ o. elim o as (λ _. List TreeId) [ none ↦ [] | some t ↦ t ∷ [] ]) e
-
-  claims-some : (t : TreeId) → claim s b l ≡ some t → given (claim s b) (l ∷ []) ≡ t ∷ []
-  claims-some t e = ap (λ o. elim o as (λ _. List TreeId) [ none ↦ [] | some t ↦ t ∷ [] ]) e
+-- ## A node, and those placed before it
 
 module _ {state bytes : List ℕ} {c : Scope} {notes : List ℕ} {i : ℕ} (told : Told READ state bytes c notes) where
-  -- the pass goes on, and these trees are claimed then
-  goes-on : (done : List ℕ) → ((claimed : List TreeId) → i < length done → Claimed (asked bytes c) notes done claimed → GoesOn (forest state) (asked bytes c) notes done i claimed)
-      → PlacedIs (forest state) (asked bytes c) notes done i 0
-  goes-on done f = record { goes = λ _ k claimed. f claimed k; meets = λ z. absurd (omega arith) }
+  -- no row holds, and the pass goes on
+  goes-on : (done : List ℕ)
+      → ((placed : List Listed) → i < length done → Claimed (forest state) (asked bytes c) notes done placed → GoesOn (forest state) (asked bytes c) notes done i placed)
+      → PlacedIs (forest state) (asked bytes c) notes done i Nothing
+  unfolding Within causeNumber
+  goes-on done f = record { within = tt; goes = λ _ k placed. f placed k; meets = λ z. absurd (z refl) }
 
   -- nothing is placed
-  pub placed-past : {done : List ℕ} → c .listed ≤ i → PlacedIs (forest state) (asked bytes c) notes done i 0
+  pub placed-past : {done : List ℕ} → c .listed ≤ i → PlacedIs (forest state) (asked bytes c) notes done i Nothing
   placed-past {done} h =
       let past : length (asked bytes c .nodes) ≤ i = omega (arith, told .given .scoped .listed) in
-      goes-on done (λ claimed _ before. record {
-        after = claimed;
-        claimed-after = λ t. before t ∙ ap not (sym (done-claimless (asked bytes c) notes done i t (λ m n e. absurd (omega arith))));
+      goes-on done (λ placed _ before. record {
+        after = placed;
+        claimed-after = claimed-still before i placed (λ m n e. absurd (omega arith)) (λ t. refl);
         left = λ seen es. rw (placing-past (asked bytes c) i past);
       })
 
   -- a listed node, as the record says whether it is a graft node and how many children it has
-  module _ (h : i < c .listed) {g : Bool} {n : ℕ} (grafts : g ≡ isSome (graft? (listedAt (batchIn bytes) i .body)))
-      (count : n ≡ length (listedAt (batchIn bytes) i .body .children)) where
+  module _ (h : i < c .listed) {g : Bool} {n : ℕ} (grafts : g ≡ isSome (graft? (listedAt (batchOf bytes) i .body)))
+      (count : n ≡ length (listedAt (batchOf bytes) i .body .children)) where
     is-here : i < length (asked bytes c .nodes)
     is-here = omega (arith, told .given .scoped .listed)
 
-    same-node : listedAt (batchIn bytes) i ≡ listedAt (asked bytes c) i
+    same-node : listedAt (batchOf bytes) i ≡ listedAt (asked bytes c) i
     same-node = batched-at bytes (asked bytes c) (batched state bytes c (told .given)) i
 
     crowded-at : {v : Bool} → bool._&&_ g (ltb 0 n) ≡ v → crowded (listedAt (asked bytes c) i .body) ≡ v
-    crowded-at e = rw same-node at (crowded-is (listedAt (batchIn bytes) i .body) grafts count e)
+    crowded-at e = rw same-node at (crowded-is (listedAt (batchOf bytes) i .body) grafts count e)
 
-    -- a number that the node alone says
-    meets-number : (done : List ℕ) (r : ℕ) → 0 < r → ((claimed : List TreeId) → Claimed (asked bytes c) notes done claimed
-        → (seen : List NodeId) (es : List Event) → fault (forest state) (asked bytes c) seen claimed (places (listedAt (asked bytes c) i) ∷ es) ≡ r)
+    -- a row holds
+    stops : {done : List ℕ} (r : Cause) (x : Reason) → Within (asked bytes c) r → (causeNumber r ≡ 0 → ⊥) → causeReason (forest state) (asked bytes c) r ≡ some x
+        → ((placed : List Listed) → Claimed (forest state) (asked bytes c) notes done placed → reasons.placing (forest state) (asked bytes c) placed (listedAt (asked bytes c) i) ≡ some x)
         → PlacedIs (forest state) (asked bytes c) notes done i r
-    meets-number done r z e =
-        record {
-          goes = λ n. absurd (omega arith);
-          meets = λ _ claimed before seen es. rw (placing-here (asked bytes c) i is-here) (e claimed before seen es);
-        }
+    stops r x inside real is e = record {
+      within = inside;
+      goes = λ z. absurd (real z);
+      meets = λ _ placed before seen es. rw (placing-here (asked bytes c) i is-here)
+          (places-stops (forest state) (asked bytes c) seen placed es (listedAt (asked bytes c) i) x (e placed before) ∙ sym is);
+    }
 
     -- row 10
-    pub placed-ten : {done : List ℕ} → bool._&&_ g (ltb 0 n) ≡ true → PlacedIs (forest state) (asked bytes c) notes done i 10
-    unfolding fault first
-    placed-ten {done} e = meets-number done 10 (omega arith) (λ claimed before seen es. rw (crowded-at e))
+    pub placed-crowded : {done : List ℕ} → bool._&&_ g (ltb 0 n) ≡ true → PlacedIs (forest state) (asked bytes c) notes done i (GraftOverChildren i)
+    unfolding Within causeReason causeNumber
+    placed-crowded e =
+        stops (GraftOverChildren i) _ is-here (λ z. omega arith) refl (λ placed before. placing-crowded (forest state) (asked bytes c) placed (listedAt (asked bytes c) i) (crowded-at e))
 
     module _ (few : bool._&&_ g (ltb 0 n) ≡ false) where
+      -- none does
+      goes-here : {done : List ℕ}
+          → ((placed : List Listed) → i < length done → Claimed (forest state) (asked bytes c) notes done placed
+          → Claimed (forest state) (asked bytes c) notes (set done i 1) (listedAt (asked bytes c) i ∷ placed) × (reasons.placing (forest state) (asked bytes c) placed (listedAt (asked bytes c) i) ≡ none))
+          → PlacedIs (forest state) (asked bytes c) notes done i Nothing
+      goes-here {done} f = goes-on done (λ placed k before. record {
+        after = listedAt (asked bytes c) i ∷ placed;
+        claimed-after = f placed k before .0;
+        left = λ seen es. rw (placing-here (asked bytes c) i is-here)
+            (places-goes (forest state) (asked bytes c) seen placed es (listedAt (asked bytes c) i) (f placed k before .1));
+      })
+
       -- a node without a claim
-      pub placed-claimless : {done : List ℕ} → (getD notes (CLAIMS + i) 0 ≡ 1 → ⊥) → PlacedIs (forest state) (asked bytes c) notes done i 0
-      unfolding fault first
-      placed-claimless {done} e =
+      pub placed-claimless : {done : List ℕ} → (getD notes (CLAIMS + i) 0 ≡ 1 → ⊥) → PlacedIs (forest state) (asked bytes c) notes done i Nothing
+      placed-claimless e =
           let none-claimed = ne-eqb (getD notes (CLAIMS + i) 0) 1 e in
-          let unclaimed = none-of (claim (forest state) (asked bytes c) (listedAt (asked bytes c) i)) (ap not (sym (claim-listed told i h) ∙ none-claimed)) in
-          goes-on done (λ claimed _ before. record {
-            after = claimed;
-            claimed-after = λ t. before t ∙ ap not (sym (done-claimless (asked bytes c) notes done i t (λ m n q. rw q none-claimed)));
-            left = λ seen es. rw (placing-here (asked bytes c) i is-here, crowded-at few, claims-none (forest state) (asked bytes c) _ unclaimed)
-                (found-alone (fault (forest state) (asked bytes c) seen claimed es));
-          })
+          let l = listedAt (asked bytes c) i in
+          let unclaimed = none-of (claim (forest state) (asked bytes c) l) (ap not (sym (claim-listed told i h) ∙ none-claimed)) in
+          goes-here (λ placed k before. (
+            claimed-still before i (l ∷ placed) (λ m n q. rw q none-claimed)
+                (λ t. claimer-before (forest state) (asked bytes c) placed l t (rw unclaimed)),
+            placing-claimless (forest state) (asked bytes c) placed l (crowded-at few) unclaimed,
+          ))
 
       -- one that claims its graft t
-      module _ (claims : getD notes (CLAIMS + i) 0 ≡ 1) {t : TreeId} (graft : t ≡ listedAt (batchIn bytes) i .body .graft) {r : Bool} (root : r ≡ sameTree ROOT t) where
+      module _ (claims : getD notes (CLAIMS + i) 0 ≡ 1) {t : TreeId} (graft : t ≡ listedAt (batchOf bytes) i .body .graft) {r : Bool} (root : r ≡ sameTree t ROOT) where
         graft-at : listedAt (asked bytes c) i .body .graft ≡ t
         graft-at = sym (rw same-node at graft)
 
-        claims-graft : given (claim (forest state) (asked bytes c)) (listedAt (asked bytes c) i ∷ []) ≡ t ∷ []
-        claims-graft = claims-some (forest state) (asked bytes c) (listedAt (asked bytes c) i) t
-            (claim-given (forest state) (asked bytes c) (listedAt (asked bytes c) i) (sym (claim-listed told i h) ∙ eq-eqb _ _ claims) ∙ ap some graft-at)
+        claims-graft : claim (forest state) (asked bytes c) (listedAt (asked bytes c) i) ≡ some t
+        claims-graft =
+            claim-given (forest state) (asked bytes c) (listedAt (asked bytes c) i) (sym (claim-listed told i h) ∙ eq-eqb _ _ claims) ∙ ap some graft-at
 
         -- row 11
-        pub placed-eleven : {done : List ℕ} → r ≡ true → PlacedIs (forest state) (asked bytes c) notes done i 11
-        unfolding fault first
-        placed-eleven {done} e = meets-number done 11 (omega arith) (λ claimed before seen es. rw (crowded-at few, claims-graft, sym root ∙ e))
+        pub placed-root : {done : List ℕ} → r ≡ true → PlacedIs (forest state) (asked bytes c) notes done i (GraftOfRoot i)
+        unfolding Within causeReason causeNumber
+        placed-root e =
+            stops (GraftOfRoot i) _ is-here (λ z. omega arith) refl
+            (λ placed before. placing-root (forest state) (asked bytes c) placed (listedAt (asked bytes c) i) (crowded-at few) claims-graft (sym root ∙ e))
 
-        module _ (other : r ≡ false) {done : List ℕ} {u : Bool} (free : u ≡ unclaimedIn (asked bytes c) notes done t) where
+        module _ (other : r ≡ false) {done : List ℕ} {m : ℕ} (search : First (isTaken (asked bytes c) notes done t) (c .listed) m) where
           -- row 12
-          pub placed-twelve : u ≡ false → PlacedIs (forest state) (asked bytes c) notes done i 12
-          unfolding fault first
-          placed-twelve e =
-              meets-number done 12 (omega arith) (λ claimed before seen es. rw (crowded-at few, claims-graft, sym root ∙ other, before t ∙ ap not (sym free ∙ e)))
+          pub placed-claimed : m < c .listed → PlacedIs (forest state) (asked bytes c) notes done i (ClaimedTwice i m)
+          unfolding Within causeReason causeNumber
+          placed-claimed e =
+              let there : m < length (asked bytes c .nodes) = omega (arith, told .given .scoped .listed) in
+              stops (ClaimedTwice i m) _ (is-here, there) (λ z. omega arith) (rw graft-at)
+              (λ placed before. placing-claimed (forest state) (asked bytes c) placed (listedAt (asked bytes c) i) (crowded-at few) claims-graft (sym root ∙ other)
+              (listedAt (asked bytes c) m) (before .held t m there (search .hit e)))
 
           -- a node that claims a tree first
-          pub placed-claim : u ≡ true → PlacedIs (forest state) (asked bytes c) notes done i 0
-          unfolding fault first _&&_
+          pub placed-claim : c .listed ≤ m → PlacedIs (forest state) (asked bytes c) notes done i Nothing
           placed-claim e =
-              goes-on done (λ claimed k before. record {
-                after = t ∷ claimed;
-                claimed-after = λ x. ap (λ f. sameTree x t || f) (before x) ∙ either (sameTree x t) (unclaimedIn (asked bytes c) notes done x)
-                    ∙ ap not (sym (rw graft-at at (done-claims (asked bytes c) notes done i x is-here k (eq-eqb _ _ claims))));
-                left = λ seen es. rw (placing-here (asked bytes c) i is-here, crowded-at few, claims-graft, sym root ∙ other, before t ∙ ap not (sym free ∙ e))
-                    (found-alone (fault (forest state) (asked bytes c) seen (t ∷ claimed) es));
-              })
-            where
-              either : (a c : Bool) → (a || not c) ≡ not (not a && c)
-              either true c = refl
-              either false c = refl
+              goes-here (λ placed k before.
+              let first = before .free t (λ j l. search .passed j (omega (arith, told .given .scoped .listed))) in (
+                claimed-more before i t is-here k (eq-eqb _ _ claims) claims-graft graft-at first,
+                placing-claim (forest state) (asked bytes c) placed (listedAt (asked bytes c) i) (crowded-at few) claims-graft (sym root ∙ other) first,
+              ))

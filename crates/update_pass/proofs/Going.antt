@@ -1,22 +1,26 @@
 -- Laws of what is left of the pass: at a child entry, at a node's own turn; and of the whole: how it begins, goes on and ends. Assumes nothing.
-use mathlib.Core.Bool.{true, false, not, Bool, _||_}
+use mathlib.Core.Bool.{true, false, Bool, _||_}
 use mathlib.Core.List.{List, [], _++_, _∷_, append-assoc, append-nil}
 use mathlib.Core.Path.{_≡_, sym, ap, _∙_, refl}
 use Prim.Native.Nat.{ℕ, _+_, _≤_, _<_, suc, _-_}
 use native.Mathlib.Omega.{arith}
 use lib.ListN.{length, replicate, set, getD-replicate, length-set, length-replicate, getD, take, drop, take-append-drop, length-append, length-take, drop-of-length-le}
 use Rattle.base.specs.Tests.{_&&_, if_then_else_, has}
-use Rattle.base.proofs.Indexed.{all-below-each}
+use Rattle.base.proofs.Tests.{clash}
 use Rattle.ids.specs.declared.TreeId.{TreeId}
 use Rattle.record.specs.Batch.{Batch, namedIds, NodeData, Listed}
 use Rattle.state.specs.State.{Forest}
-use Rattle.update.specs.Pass.{fault, pass, Event, names, places, placedAtTurn, namings, events}
+use Rattle.update.specs.Pass.{Event, names, places, placedAtTurn, namings, events}
+use Rattle.reasons.specs.Pass.{claimerAmong, passReason, passFault}
 use Rattle.update_notes.specs.declared.Scope.{Scope}
 use Rattle.update_notes.specs.Setting.{asked, forest}
 use Rattle.update_notes.specs.Says.{Told, READ}
 use Rattle.update_notes.proofs.Told.{few-listed, few-named}
 use Rattle.update_pass.specs.declared.Step.{Step}
-use Rattle.update_pass.specs.Steps.{At, seen, rest, placing, Moves, isTaken, unclaimedIn, Claimed, PlacedIs, entriesBefore, restOver, waits}
+use Rattle.update_pass.specs.declared.Cause.{Cause}
+use Rattle.update_pass.specs.declared.Cause.the-variants.{Nothing, NamedTwice}
+use Rattle.update_pass.specs.Causes.{causeReason, causeNumber, Within, Explains}
+use Rattle.update_pass.specs.Steps.{At, seen, rest, placing, Moves, isTaken, Claimed, PlacedIs, entriesBefore, restOver, waits}
 use mathlib.Core.Option.{Option, none, some}
 use native.Mathlib.Numerals.{add-one}
 use lib.Seq.{take-suc, drop-cons, take-append-seam}
@@ -147,60 +151,69 @@ module _ (s : Forest) (b : Batch) where
 pub record Going (s : Forest) (b : Batch) (notes done : List ℕ) (i j : ℕ) : Type 0 where
   pub here : At b i j
   pub listed : i ≤ length (b .nodes)
-  pub claimed : List TreeId
-  pub claimed-is : Claimed b notes done claimed
-  pub left : fault s b (seen (namedIds (b .nodes)) j) claimed (rest s b i j) ≡ pass s b
+  pub placed : List Listed
+  pub claimed : Claimed s b notes done placed
+  pub left : passReason s b (seen (namedIds (b .nodes)) j) placed (rest s b i j) ≡ passFault s b
   pub long : length done ≡ 65
 
 -- no node is done yet
-none-done : (b : Batch) (notes : List ℕ) (t : TreeId) → length (b .nodes) ≤ 64 → unclaimedIn b notes (replicate 65 0) t ≡ true
-unfolding unclaimedIn isTaken _&&_
-none-done b notes t few =
-    all-below-each (λ m. not (isTaken b notes (replicate 65 0) t m)) (length (b .nodes)) (λ m l. rw (getD-replicate {A = ℕ} 65 m 0 0 (omega arith)))
+none-done : (s : Forest) (b : Batch) (notes : List ℕ) → length (b .nodes) ≤ 64 → Claimed s b notes (replicate 65 0) []
+unfolding claimerAmong
+none-done s b notes few = record { free = λ t f. refl; held = λ t m l e. absurd (clash (free t m l) e) }
+  where
+    free : (t : TreeId) (m : ℕ) → m < length (b .nodes) → isTaken b notes (replicate 65 0) t m ≡ false
+    free t m l = unfold isTaken _&&_ in (rw (getD-replicate {A = ℕ} 65 m 0 0 (omega arith)))
 
 -- at the first child entry
 pub begins : {state bytes : List ℕ} {c : Scope} {notes : List ℕ} → Told READ state bytes c notes → Going (forest state) (asked bytes c) notes (replicate 65 0) 0 0
-unfolding namedIds seen pass
+unfolding namedIds seen passFault
 begins {state} {bytes} {c} {notes} told =
     let few : length (asked bytes c .nodes) ≤ 64 = omega (arith, told .given .scoped .listed, few-listed state bytes c (told .given)) in
     record {
       here = record { begun = omega arith; within = λ h. omega arith };
       listed = omega arith;
-      claimed = [];
-      claimed-is = λ t. sym (ap not (none-done (asked bytes c) notes t few));
-      left = ap (fault (forest state) (asked bytes c) [] []) (rest-all (forest state) (asked bytes c));
+      placed = [];
+      claimed = none-done (forest state) (asked bytes c) notes few;
+      left = ap (passReason (forest state) (asked bytes c) [] []) (rest-all (forest state) (asked bytes c));
       long = length-replicate {A = ℕ} 65 0;
     }
 
 -- past the last node
 pub ends : {state bytes : List ℕ} {c : Scope} {notes done : List ℕ} {i j : ℕ} → Told READ state bytes c notes → Going (forest state) (asked bytes c) notes done i j
-    → c .listed ≤ i → 0 ≡ pass (forest state) (asked bytes c)
-unfolding fault
-ends {i = i} {j} told g h = sym (ap (fault _ _ _ (g .claimed)) (rest-end _ _ i j (omega (arith, told .given .scoped .listed)))) ∙ g .left
+    → c .listed ≤ i → Explains (forest state) (asked bytes c) (passFault (forest state) (asked bytes c)) Nothing
+unfolding passReason Within causeReason
+ends {i = i} {j} told g h = record {
+  within = tt;
+  is = sym (g .left) ∙ ap (passReason _ _ _ (g .placed)) (rest-end _ _ i j (omega (arith, told .given .scoped .listed)));
+}
 
 module _ {s : Forest} {b : Batch} {notes done : List ℕ} {i j : ℕ} (g : Going s b notes done i j) {r : Step} (m : Moves s b i j r) where
   -- at a child named before
-  pub stops-twice : r .twice ≡ true → 9 ≡ pass s b
-  stops-twice e = sym (m .twice (g .claimed) e) ∙ g .left
+  pub stops-twice : r .twice ≡ true → Explains s b (passFault s b) (NamedTwice j)
+  unfolding Within
+  stops-twice e = record { within = m .entry e; is = sym (g .left) ∙ m .twice (g .placed) e }
 
-  module _ (e : r .twice ≡ false) {n : ℕ} (placed : PlacedIs s b notes done (r .at) n) where
+  module _ (e : r .twice ≡ false) {met : Cause} (placed : PlacedIs s b notes done (r .at) met) where
     -- what is left after the step
-    after-step : fault s b (seen (namedIds (b .nodes)) (r .j)) (g .claimed) (placing b (r .at) ++ rest s b (r .i) (r .j)) ≡ pass s b
-    after-step = sym (m .once (g .claimed) e) ∙ g .left
+    after-step : passReason s b (seen (namedIds (b .nodes)) (r .j)) (g .placed) (placing b (r .at) ++ rest s b (r .i) (r .j)) ≡ passFault s b
+    after-step = sym (m .once (g .placed) e) ∙ g .left
 
-    -- at a node whose placing meets a number
-    pub stops : (n ≡ 0 → ⊥) → n ≡ pass s b
-    stops q = sym (placed .meets (omega arith) (g .claimed) (g .claimed-is) (seen (namedIds (b .nodes)) (r .j)) (rest s b (r .i) (r .j))) ∙ after-step
+    -- at a node whose placing meets a row
+    pub stops : {n : ℕ} → n ≡ causeNumber met → (n ≡ 0 → ⊥) → Explains s b (passFault s b) met
+    stops c q = record {
+      within = placed .within;
+      is = sym after-step ∙ placed .meets (λ z. q (c ∙ z)) (g .placed) (g .claimed) (seen (namedIds (b .nodes)) (r .j)) (rest s b (r .i) (r .j));
+    }
 
     -- it goes on after the others
-    pub goes : n ≡ 0 → Going s b notes (set done (r .at) 1) (r .i) (r .j)
-    goes q =
-        let o = placed .goes q (omega (arith, m .at-within, g .long)) (g .claimed) (g .claimed-is) in
+    pub goes : {n : ℕ} → n ≡ causeNumber met → n ≡ 0 → Going s b notes (set done (r .at) 1) (r .i) (r .j)
+    goes c q =
+        let o = placed .goes (sym c ∙ q) (omega (arith, m .at-within, g .long)) (g .placed) (g .claimed) in
         record {
           here = m .there;
           listed = m .listed;
-          claimed = o .after;
-          claimed-is = o .claimed-after;
+          placed = o .after;
+          claimed = o .claimed-after;
           left = sym (o .left (seen (namedIds (b .nodes)) (r .j)) (rest s b (r .i) (r .j))) ∙ after-step;
           long = length-set done (r .at) 1 ∙ g .long;
         }

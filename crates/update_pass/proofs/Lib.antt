@@ -3,3 +3,5 @@ pub mod Read
 pub mod Steps
 pub mod Going
 pub mod Rows
+pub mod Causes
+pub mod Words

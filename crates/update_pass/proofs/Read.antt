@@ -162,7 +162,7 @@ module _ (s : Forest) (b : Batch) (i : ℕ) where
       go false = omega (arith, position-first sameNode (listedAt b i .id) noNode (namedIds (b .nodes)) .within)
 
 -- as far as another number that is the same
-first-count : (f : ℕ → Bool) (m n r : ℕ) → m ≡ n → First f m r → First f n r
+pub first-count : (f : ℕ → Bool) (m n r : ℕ) → m ≡ n → First f m r → First f n r
 first-count f m n r e h = rw e at h
 
 -- the mark of a child, by its place among all
@@ -180,6 +180,12 @@ module _ {state bytes : List ℕ} {c : Scope} {notes : List ℕ} (told : Told RE
   listed-word : (i : ℕ) → i < c .listed → getD notes (LISTED + i) 0 ≡ listedAt (asked bytes c) i .id .0
   unfolding listedWord
   listed-word i h = told .written 0 (omega arith) i h
+
+  -- its id
+  pub listed-here : {i : ℕ} → i < c .listed
+      → record { tree = c .tree; node = record { 0 = getD notes (LISTED + i) 0 } } ≡ here (forest state) (asked bytes c) (listedAt (asked bytes c) i .id)
+  unfolding here
+  listed-here {i} h = ap₂ (λ t w. record { tree = t; node = record { 0 = w } }) (told .given .scoped .tree) (listed-word i h)
 
   -- where its children end
   pub end-word : (i : ℕ) → i < c .listed → getD notes (ENDS + i) 0 ≡ entriesBefore (asked bytes c) (i + 1)
@@ -230,6 +236,12 @@ module _ {state bytes : List ℕ} {c : Scope} {notes : List ℕ} (told : Told RE
   pub named-word : (j : ℕ) → j < c .named → getD notes (NAMED + j) 0 ≡ getD (namedIds (asked bytes c .nodes)) j noNode .0
   unfolding namedWord
   named-word j h = told .written 1 (omega arith) j h
+
+  -- its id
+  pub child-here : {j : ℕ} → j < c .named
+      → record { tree = c .tree; node = record { 0 = getD notes (NAMED + j) 0 } } ≡ here (forest state) (asked bytes c) (getD (namedIds (asked bytes c .nodes)) j noNode)
+  unfolding here
+  child-here {j} h = ap₂ (λ t w. record { tree = t; node = record { 0 = w } }) (told .given .scoped .tree) (named-word j h)
 
   -- whether it is old
   old-named : (j n : ℕ) → j < c .named → n ≡ slotsOf state

@@ -8,10 +8,10 @@ use native.Mathlib.Omega.{arith}
 use lib.Dec.{eqb, ltb}
 use lib.ListN.{length, getD, set, replicate, getD-replicate}
 use borrow.Author.Tests.{lt-ltb, le-ltb, eq-eqb, ne-eqb, eqb-true, eqb-false}
-use Rattle.base.specs.Tests.{_&&_, if_then_else_, any, has, position}
+use Rattle.base.specs.Tests.{_&&_, if_then_else_, has, position}
 use Rattle.base.specs.Search.{First}
 use Rattle.base.proofs.Tests.{and-false}
-use Rattle.base.proofs.Loops.{Passing, passing-cong, any-at, any-passed}
+use Rattle.base.proofs.Loops.{Passing, passing-cong, passing-hit, passing-ends}
 use Rattle.ids.specs.Ids.{sameNode}
 use Rattle.ids.specs.declared.NodeId.{NodeId}
 use Rattle.record.specs.Batch.{Batch, listedIds, namedIds}
@@ -186,23 +186,18 @@ module _ (s : Forest) (b : Batch) where
 
 module _ {state bytes : List ℕ} {c : Scope} {notes : List ℕ} (told : Told READ state bytes c notes) where
   module _ (due : List ℕ) (dues : Due (forest state) (asked bytes c) due) where
-    placeless-column : (m : ℕ) → m < c .listed → ltb (c .named) (getD due m 0) ≡ placeless (forest state) (asked bytes c) (getD (asked bytes c .nodes) m noListed)
-    unfolding listedAt
+    placeless-column : (m : ℕ) → m < c .listed → ltb (c .named) (getD due m 0) ≡ placeless (forest state) (asked bytes c) (listedAt (asked bytes c) m)
     placeless-column m h =
         ap (ltb (c .named)) (dues m (omega (arith, told .given .scoped .listed))) ∙ placeless-is (forest state) (asked bytes c) m (c .named) (told .given .scoped .named)
 
-    -- row 13 holds, or does not
-    pub placeless-some : {m : ℕ} → m < c .listed → c .named < getD due m 0 → true ≡ any (placeless (forest state) (asked bytes c)) (asked bytes c .nodes)
-    placeless-some {m} h l = any-at _ (asked bytes c .nodes) noListed (told .given .scoped .listed) h (placeless-column m h) (lt-ltb (c .named) (getD due m 0) l)
+    module _ {i : ℕ} (g : Passing (λ m. ltb (c .named) (getD due m 0)) (c .listed) i) where
+      -- the first node of row 13, or none
+      pub placeless-found : i < c .listed → c .named < getD due i 0
+          → First (λ m. placeless (forest state) (asked bytes c) (listedAt (asked bytes c) m)) (c .listed) i
+      placeless-found h l = passing-hit (passing-cong g _ placeless-column) h (sym (placeless-column i h) ∙ lt-ltb (c .named) (getD due i 0) l)
 
-    pub placeless-none : {i : ℕ} → Passing (λ m. ltb (c .named) (getD due m 0)) (c .listed) i → c .listed ≤ i
-        → false ≡ any (placeless (forest state) (asked bytes c)) (asked bytes c .nodes)
-    placeless-none g h = any-passed _ (asked bytes c .nodes) noListed (passing-cong g _ placeless-column) (told .given .scoped .listed) h
-
-  -- row 14 does not hold
-  pub nowhere-none : {j : ℕ} → Passing (λ m. nowhere (forest state) (asked bytes c) (getD (namedIds (asked bytes c .nodes)) m noNode)) (c .named) j → c .named ≤ j
-      → false ≡ any (nowhere (forest state) (asked bytes c)) (namedIds (asked bytes c .nodes))
-  nowhere-none g h = any-passed _ (namedIds (asked bytes c .nodes)) noNode g (told .given .scoped .named) h
+      pub placeless-none : c .listed ≤ i → First (λ m. placeless (forest state) (asked bytes c) (listedAt (asked bytes c) m)) (c .listed) (c .listed)
+      placeless-none h = passing-ends (passing-cong g _ placeless-column) h
 
   -- a child that is old, or not
   module _ {j n : ℕ} (h : j < c .named) (e : n ≡ slotsOf state) where

@@ -19,16 +19,19 @@ use Rattle.record_reader.specs.Reader.{noNode, listedAt}
 use Rattle.state.specs.State.{Forest}
 use Rattle.state_array.specs.View.{slotsOf}
 use Rattle.update.specs.Words.{listing, here, turn}
-use Rattle.update.specs.Pass.{Event, places, placedAtTurn, fault}
+use Rattle.update.specs.Pass.{Event, places, placedAtTurn}
+use Rattle.reasons.specs.Pass.{passReason}
+use Rattle.reasons.proofs.Steps.{names-twice, names-once}
 use Rattle.update_notes.specs.Layout.{NAMED, ENDS, NAMED-SLOTS, NAMINGS}
 use Rattle.update_notes.specs.declared.Scope.{Scope}
 use Rattle.update_notes.specs.Setting.{asked, forest}
 use Rattle.update_notes.specs.Says.{PositionIn}
 use Rattle.update_notes.proofs.Marks.{turn-first}
 use Rattle.update_notes.proofs.Told.{few-listed, few-named}
+use Rattle.update_pass.specs.Causes.{causeReason}
 use Rattle.update_pass.specs.Steps.{entriesBefore, At, Standing, rest, seen, placing, waits, Moves}
 use Rattle.update_pass.proofs.Going.{entries-before-within, entries-before-more, rest-name, rest-own}
-use Rattle.update_pass.proofs.Faults.{placing-here, placing-past, seen-has, seen-more, fault-twice, fault-once}
+use Rattle.update_pass.proofs.Faults.{placing-here, placing-past, seen-has, seen-more}
 use Rattle.update_pass.proofs.Read.{has-before, first-place, listing-found, listing-missing, due-reached, due-is, end-word, named-word, named-old, named-mark, named-search}
 use Rattle.update_pass.proofs.Rows.{first-listed, first-id, first-unplaced, first-at, first-found}
 
@@ -63,6 +66,7 @@ module _ {s : Forest} {b : Batch} {i j : ℕ} (at : At b i j) (h : i < length (b
       → twice ≡ has sameNode (take j (namedIds (b .nodes))) (getD (namedIds (b .nodes)) j noNode)
       → (twice ≡ false → placing b r ≡ waits s b (take i (b .nodes)) (getD (namedIds (b .nodes)) j noNode))
       → Moves s b i j (record { i = i; j = j + 1; twice = twice; at = r })
+  unfolding causeReason
   name-moves twice r entry short before goes =
       let all = namedIds (b .nodes) in
       let c = getD all j noNode in
@@ -75,8 +79,9 @@ module _ {s : Forest} {b : Batch} {i j : ℕ} (at : At b i j) (h : i < length (b
         listed = omega arith;
         at-within = short;
         one-more = omega arith;
-        twice = λ claimed q. rw left (fault-twice s b (seen all j) claimed after c (same ∙ q));
-        once = λ claimed q. rw (left, seen-more all j, goes q) (fault-once s b (seen all j) claimed after c (same ∙ q));
+        entry = λ _. few;
+        twice = λ placed q. rw left (names-twice s b (seen all j) placed after c (same ∙ q));
+        once = λ placed q. rw (left, seen-more all j, goes q) (names-once s b (seen all j) placed after c (same ∙ q));
       }
 
   -- the node's own turn
@@ -90,8 +95,9 @@ module _ {s : Forest} {b : Batch} {i j : ℕ} (at : At b i j) (h : i < length (b
         listed = omega arith;
         at-within = short;
         one-more = omega arith;
-        twice = λ claimed q. absurd (false≢true q);
-        once = λ claimed q. ap (fault s b (seen (namedIds (b .nodes)) j) claimed) (sym own);
+        entry = λ q. absurd (false≢true q);
+        twice = λ placed q. absurd (false≢true q);
+        once = λ placed q. ap (passReason s b (seen (namedIds (b .nodes)) j) placed) (sym own);
       }
 
 -- ## As the code finds it

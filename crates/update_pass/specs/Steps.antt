@@ -1,5 +1,5 @@
 -- The pass a step at a time: where it stands, what is left of it, and what each step does. Assumes nothing.
-use mathlib.Core.Bool.{Bool, true, false, not, _||_}
+use mathlib.Core.Bool.{Bool, true, false, _||_}
 use mathlib.Core.List.{List, [], _∷_, _++_}
 use mathlib.Core.Option.{none, some}
 use mathlib.Core.Path.{_≡_}
@@ -7,7 +7,6 @@ use Prim.Native.Nat.{ℕ, zero, suc, _+_, _-_, _≤_, _<_}
 use lib.Dec.{eqb, ltb}
 use lib.ListN.{length, getD, take, drop, set}
 use Rattle.base.specs.Tests.{_&&_, if_then_else_, has, position}
-use Rattle.base.specs.Bytes.{allBelow}
 use Rattle.ids.specs.Ids.{sameTree, sameNode}
 use Rattle.ids.specs.declared.TreeId.{TreeId}
 use Rattle.ids.specs.declared.NodeId.{NodeId}
@@ -15,14 +14,17 @@ use Rattle.record.specs.Batch.{Listed, Batch, namedIds}
 use Rattle.record_reader.specs.Reader.{noNode, listedAt}
 use Rattle.state.specs.State.{Forest}
 use Rattle.update.specs.Words.{listing}
-use Rattle.update.specs.Pass.{Event, places, placedAtTurn, namings, events, fault}
-use Rattle.update.specs.Numbers.{nowhere}
+use Rattle.update.specs.Pass.{Event, places, placedAtTurn, namings, events}
+use Rattle.reasons.specs.Pass.{claimerAmong, passReason}
 use Rattle.update_notes.specs.Layout.{CLAIMS}
 use Rattle.update_notes.specs.declared.Scope.{Scope}
 use Rattle.update_notes.specs.Setting.{asked, forest}
 use Rattle.update_notes.specs.Says.{Told, READ}
+use Rattle.update_pass.specs.declared.Cause.{Cause}
+use Rattle.update_pass.specs.declared.Cause.the-variants.{NamedTwice}
 use Rattle.update_pass.specs.declared.Step.{Step}
 use Rattle.update_pass.specs.declared.Naming.{Naming}
+use Rattle.update_pass.specs.Causes.{causeReason, causeNumber, Within}
 
 -- ## When a node is placed at its turn
 
@@ -101,10 +103,11 @@ pub record Moves (s : Forest) (b : Batch) (i j : ℕ) (r : Step) : Type 0 where
   pub listed : r .i ≤ length (b .nodes)
   pub at-within : r .at ≤ 64
   pub one-more : r .i + r .j ≡ i + j + 1
-  pub twice : (claimed : List TreeId) → r .twice ≡ true → fault s b (seen (namedIds (b .nodes)) j) claimed (rest s b i j) ≡ 9
-  pub once : (claimed : List TreeId) → r .twice ≡ false
-      → fault s b (seen (namedIds (b .nodes)) j) claimed (rest s b i j)
-      ≡ fault s b (seen (namedIds (b .nodes)) (r .j)) claimed (placing b (r .at) ++ rest s b (r .i) (r .j))
+  pub entry : r .twice ≡ true → j < length (namedIds (b .nodes))
+  pub twice : (placed : List Listed) → r .twice ≡ true → passReason s b (seen (namedIds (b .nodes)) j) placed (rest s b i j) ≡ causeReason s b (NamedTwice j)
+  pub once : (placed : List Listed) → r .twice ≡ false
+      → passReason s b (seen (namedIds (b .nodes)) j) placed (rest s b i j)
+      ≡ passReason s b (seen (namedIds (b .nodes)) (r .j)) placed (placing b (r .at) ++ rest s b (r .i) (r .j))
 
 -- what naming child entry j of listed node i does
 abbrev pub Names : Forest → Batch → ℕ → ℕ → Naming → Type 0
@@ -114,30 +117,22 @@ Names s b i j r = Moves s b i j (record { i = i; j = j + 1; twice = r .twice; at
 
 -- listed node m is done and claims the tree t
 unfoldable pub isTaken : Batch → List ℕ → List ℕ → TreeId → ℕ → Bool
-isTaken b notes done t m = eqb (getD done m 0) 1 && eqb (getD notes (CLAIMS + m) 0) 1 && sameTree t (listedAt b m .body .graft)
+isTaken b notes done t m = eqb (getD done m 0) 1 && eqb (getD notes (CLAIMS + m) 0) 1 && sameTree (listedAt b m .body .graft) t
 
--- no node that is done claims the tree t
-unfoldable pub unclaimedIn : Batch → List ℕ → List ℕ → TreeId → Bool
-unclaimedIn b notes done t = allBelow (length (b .nodes)) (λ m. not (isTaken b notes done t m))
+-- the nodes that are done are those placed so far, as far as claims go: each tree has the same claimer among both
+pub record Claimed (s : Forest) (b : Batch) (notes done : List ℕ) (placed : List Listed) : Type 0 where
+  pub free : (t : TreeId) → ((m : ℕ) → m < length (b .nodes) → isTaken b notes done t m ≡ false) → claimerAmong s b placed t ≡ none
+  pub held : (t : TreeId) (m : ℕ) → m < length (b .nodes) → isTaken b notes done t m ≡ true → claimerAmong s b placed t ≡ some (listedAt b m)
 
--- the trees that the nodes that are done claim
-abbrev pub Claimed : Batch → List ℕ → List ℕ → List TreeId → Type 0
-Claimed b notes done ts = (t : TreeId) → has sameTree ts t ≡ not (unclaimedIn b notes done t)
-
--- the pass goes on after the placing of listed node i, and these trees are claimed then
-pub record GoesOn (s : Forest) (b : Batch) (notes done : List ℕ) (i : ℕ) (claimed : List TreeId) : Type 0 where
-  pub after : List TreeId
-  pub claimed-after : Claimed b notes (set done i 1) after
-  pub left : (seen : List NodeId) (es : List Event) → fault s b seen claimed (placing b i ++ es) ≡ fault s b seen after es
+-- the pass goes on after the placing of listed node i, and these nodes are placed then
+pub record GoesOn (s : Forest) (b : Batch) (notes done : List ℕ) (i : ℕ) (placed : List Listed) : Type 0 where
+  pub after : List Listed
+  pub claimed-after : Claimed s b notes (set done i 1) after
+  pub left : (seen : List NodeId) (es : List Event) → passReason s b seen placed (placing b i ++ es) ≡ passReason s b seen after es
 
 -- what placing listed node i meets
-pub record PlacedIs (s : Forest) (b : Batch) (notes done : List ℕ) (i r : ℕ) : Type 0 where
-  pub goes : r ≡ 0 → i < length done → (claimed : List TreeId) → Claimed b notes done claimed → GoesOn s b notes done i claimed
-  pub meets : 0 < r → (claimed : List TreeId) → Claimed b notes done claimed
-      → (seen : List NodeId) (es : List Event) → fault s b seen claimed (placing b i ++ es) ≡ r
-
--- ## Row 14
-
--- whether child j is neither present nor listed
-abbrev pub NowhereAt : Forest → Batch → ℕ → Bool → Type 0
-NowhereAt s b j r = r ≡ nowhere s b (getD (namedIds (b .nodes)) j noNode)
+pub record PlacedIs (s : Forest) (b : Batch) (notes done : List ℕ) (i : ℕ) (r : Cause) : Type 0 where
+  pub within : Within b r
+  pub goes : causeNumber r ≡ 0 → i < length done → (placed : List Listed) → Claimed s b notes done placed → GoesOn s b notes done i placed
+  pub meets : (causeNumber r ≡ 0 → ⊥) → (placed : List Listed) → Claimed s b notes done placed
+      → (seen : List NodeId) (es : List Event) → passReason s b seen placed (placing b i ++ es) ≡ causeReason s b r

@@ -1,18 +1,20 @@
-// The crate's pass over the nodes, 9 to 12 as it meets them, and rows 13 and 14.
+// The crate's pass over the nodes, 9 to 12 as it meets them, and rows 13 and 14: the first that holds, and why.
+mod why;
+
 ghost use mathlib.Core.Path.{_≡_};
 ghost use Prim.Native.Nat.{_+_, _<_};
-ghost use Rattle.base.specs.Tests.{any};
-ghost use Rattle.record.specs.Batch.{namedIds};
-ghost use Rattle.record_reader.specs.Reader.{batchIn};
-ghost use Rattle.update.specs.Pass.{pass};
-ghost use Rattle.update.specs.Numbers.{placeless, nowhere};
+ghost use Rattle.base.specs.Search.{First};
+ghost use Rattle.record.specs.Parse.{batchOf};
+ghost use Rattle.reasons_why.specs.Why.{whyFor};
 ghost use Rattle.update_notes.specs.Setting.{forest, asked, refusal};
 ghost use Rattle.update_notes.specs.Says.{Told, READ};
-ghost use Rattle.update_pass.specs.Steps.{dueOf, Due, DueRoom, Firsts, Prepared, entriesBefore, Standing, Moves, Names, isTaken, unclaimedIn, PlacedIs, NowhereAt};
-ghost use Rattle.update_pass.specs.Rows.{passNumber};
+ghost use Rattle.update_pass.specs.Causes.{causeNumber};
+ghost use Rattle.update_pass.specs.Steps.{dueOf, Due, DueRoom, Firsts, Prepared, entriesBefore, Standing, Moves, Names, isTaken, PlacedIs};
+ghost use Rattle.update_pass.specs.Rows.{passNumber, rowReason, PassExplained, RowsExplained, FirstPlaceless, NowhereAt, FirstNowhere};
 use ids::FullNodeId;
 use ids::NodeId;
 use ids::TreeId;
+use reasons_why::Why;
 use state_array::State;
 use update_notes::Notes;
 use update_notes::Refusal;
@@ -36,33 +38,75 @@ struct Naming {
     at: usize,
 }
 
+// What makes the first of rows 9 to 14 hold, listed nodes and child entries by their places.
+enum Cause {
+    // None of them holds.
+    Nothing,
+    // 9: the entry names a child that an earlier one names.
+    NamedTwice(usize),
+    // 10 and 11: the listed node.
+    GraftOverChildren(usize),
+    GraftOfRoot(usize),
+    // 12: the listed node, and the one placed before it that claims the same tree.
+    ClaimedTwice(usize, usize),
+    // 13: the listed node.
+    WithoutPlace(usize),
+    // 14: the entry.
+    ChildNowhere(usize),
+}
+
 // Rows 9 to 14.
 pub fn pass_rows<'a>(state: &'a State, batch: &'a [u8], scope: Scope, notes: &'a Notes) -> Refusal
     requires { ⌜ Told READ (now state) (now batch) scope (now notes) ⌝ }
     ensures { λ r. ⌜ r ≡ refusal (passNumber (forest (now (state .entry))) (asked (now (batch .entry)) scope)) ⌝ }
 {
-    update_notes::refuse(pass_number(state, batch, scope, notes))
+    update_notes::refuse(number_of(cause_of(state, batch, scope, notes)))
 }
 
-// The first number of 9 to 14 that refuses the batch, 0 if none does.
-fn pass_number<'a>(state: &'a State, batch: &'a [u8], scope: Scope, notes: &'a Notes) -> u8
+// Why rows 9 to 14 refuse the batch.
+pub fn pass_why<'a>(state: &'a State, batch: &'a [u8], scope: Scope, notes: &'a Notes) -> Why
     requires { ⌜ Told READ (now state) (now batch) scope (now notes) ⌝ }
-    ensures { λ r. ⌜ r ≡ passNumber (forest (now (state .entry))) (asked (now (batch .entry)) scope) ⌝ }
+    ensures { λ r. ⌜ r ≡ whyFor (rowReason (forest (now (state .entry))) (asked (now (batch .entry)) scope)) ⌝ }
+{
+    let cause = cause_of(state, batch, scope, notes);
+    why::of_cause(state, batch, scope, notes, cause)
+}
+
+// The number of a cause.
+fn number_of(cause: Cause) -> u8
+    ensures { λ r. ⌜ r ≡ causeNumber cause ⌝ }
+{
+    match cause {
+        Cause::Nothing => 0,
+        Cause::NamedTwice(_) => 9,
+        Cause::GraftOverChildren(_) => 10,
+        Cause::GraftOfRoot(_) => 11,
+        Cause::ClaimedTwice(_, _) => 12,
+        Cause::WithoutPlace(_) => 13,
+        Cause::ChildNowhere(_) => 14,
+    }
+}
+
+// The first of rows 9 to 14 that holds.
+fn cause_of<'a>(state: &'a State, batch: &'a [u8], scope: Scope, notes: &'a Notes) -> Cause
+    requires { ⌜ Told READ (now state) (now batch) scope (now notes) ⌝ }
+    ensures { λ r. ⌜ RowsExplained (forest (now (state .entry))) (asked (now (batch .entry)) scope) r ⌝ }
 {
     let due = dues(state, batch, scope, notes);
     let firsts = firsts_of(scope.listed, &due);
-    let number = fault(state, batch, scope, notes, &due, &firsts);
-    if number != 0 {
-        return number;
+    let met = fault(state, batch, scope, notes, &due, &firsts);
+    if number_of(met) != 0 {
+        return met;
     }
-    if placeless(state, batch, scope, notes, &due) {
-        return 13;
+    let i = placeless(state, batch, scope, notes, &due);
+    if i < scope.listed {
+        return Cause::WithoutPlace(i);
     }
-    if nowhere(state, batch, scope, notes, &due, &firsts) {
-        14
-    } else {
-        0
+    let j = nowhere(state, batch, scope, notes, &due, &firsts);
+    if j < scope.named {
+        return Cause::ChildNowhere(j);
     }
+    Cause::Nothing
 }
 
 // For each listed node the number of named children from which on it is placed at its turn.
@@ -119,7 +163,7 @@ fn firsts_of(k: usize, due: &[usize; 64]) -> [usize; 258]
     out
 }
 
-// Rows 9 to 12: the first number that the pass meets, 0 if none.
+// Rows 9 to 12: the first that the pass meets.
 fn fault<'a>(
     state: &'a State,
     batch: &'a [u8],
@@ -127,9 +171,9 @@ fn fault<'a>(
     notes: &'a Notes,
     due: &'a [usize; 64],
     firsts: &'a [usize; 258],
-) -> u8
+) -> Cause
     requires { ⌜ Prepared (now state) (now batch) scope (now notes) (now due) (now firsts) ⌝ }
-    ensures { λ r. ⌜ r ≡ pass (forest (now (state .entry))) (asked (now (batch .entry)) scope) ⌝ }
+    ensures { λ r. ⌜ PassExplained (forest (now (state .entry))) (asked (now (batch .entry)) scope) r ⌝ }
 {
     let k = scope.listed;
     let mut done = [0u8; 65];
@@ -138,18 +182,18 @@ fn fault<'a>(
     while i < k {
         let next = next_step(state, batch, scope, notes, due, firsts, i, j);
         if next.twice {
-            return 9;
+            return Cause::NamedTwice(j);
         }
         let at = next.at;
-        let number = placed(state, batch, scope, notes, &done, at);
-        if number != 0 {
-            return number;
+        let met = placed(state, batch, scope, notes, &done, at);
+        if number_of(met) != 0 {
+            return met;
         }
         done[at] = 1;
         i = next.i;
         j = next.j;
     }
-    0
+    Cause::Nothing
 }
 
 // The step at child entry j of listed node i: the child is named, or the node's own turn comes.
@@ -252,7 +296,7 @@ fn new_step<'a>(
     Naming { twice, at: NONE }
 }
 
-// What placing listed node i meets, after those that are done: 10, 11, 12 or 0.
+// What placing listed node i meets, after those that are done: row 10, 11, 12 or none.
 fn placed<'a>(
     state: &'a State,
     batch: &'a [u8],
@@ -260,89 +304,90 @@ fn placed<'a>(
     notes: &'a Notes,
     done: &'a [u8; 65],
     i: usize,
-) -> u8
+) -> Cause
     requires { ⌜ Told READ (now state) (now batch) scope (now notes) ⌝ }
     ensures { λ r. ⌜ PlacedIs (forest (now (state .entry))) (asked (now (batch .entry)) scope) (now (notes .entry)) (now (done .entry)) i r ⌝ }
 {
-    if scope.listed <= i {
-        return 0;
+    let k = scope.listed;
+    if k <= i {
+        return Cause::Nothing;
     }
     if update_notes::grafts_new(batch, i) & (0 < record_reader::child_count(batch, i)) {
-        return 10;
+        return Cause::GraftOverChildren(i);
     }
     if notes[update_notes::CLAIMS + i] != 1 {
-        return 0;
+        return Cause::Nothing;
     }
     let t = record_reader::graft(batch, i);
-    if ids::same_tree(TreeId { high: 0, low: 0 }, t) {
-        return 11;
+    if ids::same_tree(t, TreeId { high: 0, low: 0 }) {
+        return Cause::GraftOfRoot(i);
     }
-    if unclaimed(state, batch, scope, notes, done, t) {
-        0
-    } else {
-        12
+    let m = claimer(state, batch, scope, notes, done, t);
+    if m < k {
+        return Cause::ClaimedTwice(i, m);
     }
+    Cause::Nothing
 }
 
-// Whether no node that is done claims the tree t.
-fn unclaimed<'a>(
+// The first listed node that is done and claims the tree t, or their number.
+fn claimer<'a>(
     state: &'a State,
     batch: &'a [u8],
     scope: Scope,
     notes: &'a Notes,
     done: &'a [u8; 65],
     t: TreeId,
-) -> bool
+) -> usize
     requires { ⌜ Told READ (now state) (now batch) scope (now notes) ⌝ }
-    ensures { λ r. ⌜ r ≡ unclaimedIn (asked (now (batch .entry)) scope) (now (notes .entry)) (now (done .entry)) t ⌝ }
+    ensures { λ r. ⌜ First (isTaken (asked (now (batch .entry)) scope) (now (notes .entry)) (now (done .entry)) t) (scope .listed) r ⌝ }
 {
     let k = scope.listed;
     let mut i = 0usize;
     while i < k {
         if takes(batch, notes, done, i, t) {
-            return false;
+            return i;
         }
         i += 1;
     }
-    true
+    k
 }
 
 // Whether listed node i is done and claims the tree t.
 fn takes<'a>(batch: &'a [u8], notes: &'a Notes, done: &'a [u8; 65], i: usize, t: TreeId) -> bool
     requires { ⌜ i < 64 ⌝ }
-    ensures { λ r. ⌜ r ≡ isTaken (batchIn (now (batch .entry))) (now (notes .entry)) (now (done .entry)) t i ⌝ }
+    ensures { λ r. ⌜ r ≡ isTaken (batchOf (now (batch .entry))) (now (notes .entry)) (now (done .entry)) t i ⌝ }
 {
     if (done[i] != 1) | (notes[update_notes::CLAIMS + i] != 1) {
         return false;
     }
-    ids::same_tree(t, record_reader::graft(batch, i))
+    ids::same_tree(record_reader::graft(batch, i), t)
 }
 
-// Row 13: whether a listed node is left without a place.
+// Row 13: the first listed node that is left without a place, or their number.
 fn placeless<'a>(
     state: &'a State,
     batch: &'a [u8],
     scope: Scope,
     notes: &'a Notes,
     due: &'a [usize; 64],
-) -> bool
+) -> usize
     requires { ⌜ Told READ (now state) (now batch) scope (now notes) ⌝ }
     requires { ⌜ Due (forest (now state)) (asked (now batch) scope) (now due) ⌝ }
-    ensures { λ r. ⌜ r ≡ any (placeless (forest (now (state .entry))) (asked (now (batch .entry)) scope)) (asked (now (batch .entry)) scope .nodes) ⌝ }
+    ensures { λ r. ⌜ FirstPlaceless (forest (now (state .entry))) (asked (now (batch .entry)) scope) (scope .listed) r ⌝ }
 {
     let k = scope.listed;
     let e = scope.named;
     let mut i = 0usize;
     while i < k {
         if e < due[i] {
-            return true;
+            return i;
         }
         i += 1;
     }
-    false
+    k
 }
 
-// Row 14: whether a named child is neither present nor listed.
+// Row 14: the first entry whose child is neither present nor listed, or their number.
 fn nowhere<'a>(
     state: &'a State,
     batch: &'a [u8],
@@ -350,22 +395,22 @@ fn nowhere<'a>(
     notes: &'a Notes,
     due: &'a [usize; 64],
     firsts: &'a [usize; 258],
-) -> bool
+) -> usize
     requires { ⌜ Prepared (now state) (now batch) scope (now notes) (now due) (now firsts) ⌝ }
-    ensures { λ r. ⌜ r ≡ any (nowhere (forest (now (state .entry))) (asked (now (batch .entry)) scope)) (namedIds (asked (now (batch .entry)) scope .nodes)) ⌝ }
+    ensures { λ r. ⌜ FirstNowhere (forest (now (state .entry))) (asked (now (batch .entry)) scope) (scope .named) r ⌝ }
 {
     let e = scope.named;
     let mut j = 0usize;
     while j < e {
         if nowhere_at(state, batch, scope, notes, due, firsts, j) {
-            return true;
+            return j;
         }
         j += 1;
     }
-    false
+    e
 }
 
-// The same of child j.
+// Whether the child of entry j is.
 fn nowhere_at<'a>(
     state: &'a State,
     batch: &'a [u8],

@@ -17,7 +17,7 @@ use Rattle.update.specs.Words.{here, old, turn}
 use Rattle.update.specs.Gone.{gone}
 use Rattle.update_notes.specs.Layout.{LISTED-SLOTS, GOES, CODES, LISTED}
 use Rattle.update_notes.specs.declared.Scope.{Scope}
-use Rattle.update_notes.specs.Setting.{asked, forest, KeptForest}
+use Rattle.update_notes.specs.Setting.{asked, forest, KeptForest, Given}
 use Rattle.update_notes.specs.Codes.{idAt, slotAt, flag, codeId}
 use Rattle.update_notes.specs.Says.{goesWord, listedSlot, Told, COMPARED, listedWord}
 use Rattle.update_notes.proofs.Places.{slot-old, forest-length, present-at, forest-id}
@@ -36,6 +36,10 @@ use Rattle.update_plan.proofs.Outcome.{ascending-pair}
 -- a number below one more is below, or is the last
 last-or-below : (k i : ℕ) → k < i + 1 → (k ≡ i) ⊎ (k < i)
 last-or-below k i l = eq-or-lt-of-le (le-of-suc-le-suc (rw add-one at l))
+
+-- a state that a phase is given has few nodes
+pub few-slots : (state bytes : List ℕ) (c : Scope) → Given state bytes c → slotsOf state ≤ 256
+few-slots state bytes c g = omega (arith, g .kept .few-nodes, forest-length state)
 
 module _ (s : Forest) (b : Batch) (kept : KeptForest s) where
   abbrev id : ℕ → FullNodeId

@@ -2,7 +2,9 @@
 ghost use mathlib.Core.Path.{_≡_};
 ghost use Prim.Native.Nat.{_+_, _≤_, _<_};
 ghost use lib.ListN.{length};
+ghost use Rattle.state_array.specs.Layout.{SLOTS};
 ghost use Rattle.state_array.specs.View.{slotsOf};
+ghost use Rattle.update_notes.specs.Layout.{WORDS};
 ghost use Rattle.update_notes.specs.Setting.{asked, forest};
 ghost use Rattle.update_notes.specs.Codes.{codeId};
 ghost use Rattle.update_notes.specs.Says.{Told, COMPARED, PLANNED, outcomeCount, sourceWord};
@@ -164,8 +166,8 @@ fn id_of<'a>(
 
 // Puts a code at a place among `count`, those from there on moved up by one.
 fn insert(notes: &mut Notes, count: usize, at: usize, code: u64)
-    requires { ⌜ (at ≤ count) × (count < 512) ⌝ }
-    requires { ⌜ length (now notes) ≡ 4096 ⌝ }
+    requires { ⌜ (at ≤ count) × (count < SLOTS) ⌝ }
+    requires { ⌜ length (now notes) ≡ WORDS ⌝ }
     ensures { λ _. ⌜ Inserted (now (notes .entry)) count at code (now (notes .exit)) ⌝ }
 {
     let mut r = count;

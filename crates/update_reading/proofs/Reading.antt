@@ -22,7 +22,8 @@ use Rattle.ids.specs.declared.TreeIndex.{TreeIndex}
 use Rattle.ids.specs.declared.NodeId.{NodeId}
 use Rattle.record.specs.Batch.{graft?, Listed, listedIds, namedIds}
 use Rattle.record.proofs.Batch.{listed-length, listed-at, named-append}
-use Rattle.record_reader.specs.Reader.{batchIn, noNode, noListed, listedAt, fieldAt, entriesOf}
+use Rattle.record.specs.Parse.{batchOf}
+use Rattle.record_reader.specs.Reader.{noNode, noListed, listedAt, fieldAt, entriesOf}
 use Rattle.record_reader.proofs.Reader.{entries-are, first-child-is}
 use Rattle.state.specs.State.{graftAt}
 use Rattle.state_array.specs.View.{slotsOf}
@@ -172,7 +173,7 @@ named-next ls i d h =
     rw (add-one i, take-suc ls i d h, named-append (take i ls) (getD ls i d ∷ []), append-nil (getD ls i d .body .children), length-append)
 
 module _ (state bytes : List ℕ) (c : Scope) (g : Given state bytes c) where
-  pub listed-is : (i : ℕ) → listedAt (batchIn bytes) i .id .0 ≡ listedWord state bytes c i
+  pub listed-is : (i : ℕ) → listedAt (batchOf bytes) i .id .0 ≡ listedWord state bytes c i
   unfolding listedWord
   listed-is i = ap (λ (x : Listed). x .id .0) (batched-at bytes (asked bytes c) (batched state bytes c g) i)
 
@@ -180,12 +181,12 @@ module _ (state bytes : List ℕ) (c : Scope) (g : Given state bytes c) where
   unfolding namedWord
   named-is j = ap (λ (xs : List NodeId). getD xs j noNode .0) (entries-are bytes (g .formed) ∙ ap namedIds (sym (batched state bytes c g .nodes)))
 
-  pub end-is : (i : ℕ) → i < c .listed → fieldAt 2 bytes i 32 + length (listedAt (batchIn bytes) i .body .children) ≡ endWord state bytes c i
+  pub end-is : (i : ℕ) → i < c .listed → fieldAt 2 bytes i 32 + length (listedAt (batchOf bytes) i .body .children) ≡ endWord state bytes c i
   unfolding endWord listedAt
   end-is i h =
       let nodes = batched state bytes c g .nodes in
-      let m : i < length (batchIn bytes .nodes) = rw (← nodes) (omega (arith, g .scoped .listed)) in
-      rw (first-child-is bytes (g .formed) i m, nodes) (sym (named-next (batchIn bytes .nodes) i noListed m))
+      let m : i < length (batchOf bytes .nodes) = rw (← nodes) (omega (arith, g .scoped .listed)) in
+      rw (first-child-is bytes (g .formed) i m, nodes) (sym (named-next (batchOf bytes .nodes) i noListed m))
 
   -- ## Slots
 

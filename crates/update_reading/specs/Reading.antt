@@ -10,9 +10,10 @@ use Rattle.base.specs.Search.{First}
 use Rattle.ids.specs.Ids.{sameTree}
 use Rattle.ids.specs.declared.TreeIndex.{TreeIndex}
 use Rattle.record.specs.Batch.{graft?}
-use Rattle.record_reader.specs.Reader.{batchIn, listedAt}
+use Rattle.record.specs.Parse.{batchOf}
+use Rattle.record_reader.specs.Reader.{listedAt}
 use Rattle.state_array.specs.Layout.{SLOTS}
-use Rattle.update_notes.specs.Layout.{LISTED-SLOTS}
+use Rattle.update_notes.specs.Layout.{WORDS, LISTED-SLOTS}
 use Rattle.update_notes.specs.Columns.{Holds, Below}
 use Rattle.update_notes.specs.Setting.{forest}
 use Rattle.update_notes.specs.Codes.{slotAt, flag}
@@ -20,13 +21,13 @@ use Rattle.update_notes.specs.Says.{graftBelow}
 
 -- n words from `to` on stand within the notes
 abbrev pub Room : ℕ → ℕ → Type 0
-Room to n = to + n ≤ 4096
+Room to n = to + n ≤ WORDS
 
 -- ## Slots
 
 -- count numbers from `from` on stand before `to`, and there is room for their slots
 abbrev pub SlotRoom : ℕ → ℕ → ℕ → Type 0
-SlotRoom from count to = (from + count ≤ to) × (to + count ≤ 4096)
+SlotRoom from count to = (from + count ≤ to) × (to + count ≤ WORDS)
 
 -- the slot of number j of tree t
 unfoldable pub slotWord : List ℕ → TreeIndex → List ℕ → ℕ → ℕ → ℕ
@@ -45,9 +46,9 @@ MarksTo slot count to n notes = (i : ℕ) → i < n → MarkOf slot count i (get
 -- count slots stand before `to`, and zeros in n places from there on
 pub record MarkRoom (from count to n : ℕ) (notes : List ℕ) : Type 0 where
   pub before : from + count ≤ to
-  pub room : to + n ≤ 4096
+  pub room : to + n ≤ WORDS
   pub few : n ≤ SLOTS
-  pub long : length notes ≡ 4096
+  pub long : length notes ≡ WORDS
   pub zeros : Holds notes to n (λ i. 0)
 
 -- the slots from `from` on mark the words from `to` on, and nothing before is other
@@ -60,5 +61,5 @@ pub record Marked (from count to n : ℕ) (s t : List ℕ) : Type 0 where
 -- whether listed node i grafts a tree that the node in its slot did not graft
 unfoldable pub claimOf : List ℕ → List ℕ → List ℕ → ℕ → ℕ
 claimOf state bytes notes i =
-    flag (isSome (graft? (listedAt (batchIn bytes) i .body))
-    && not (sameOption sameTree (graft? (listedAt (batchIn bytes) i .body)) (graftBelow state (getD notes (LISTED-SLOTS + i) 0))))
+    flag (isSome (graft? (listedAt (batchOf bytes) i .body))
+    && not (sameOption sameTree (graft? (listedAt (batchOf bytes) i .body)) (graftBelow state (getD notes (LISTED-SLOTS + i) 0))))

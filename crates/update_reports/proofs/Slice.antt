@@ -268,16 +268,17 @@ list-slice-after c slice after r h =
 
 module _ (c : Changes) (slice : List ℕ) (l : Lists) (added-is : l .added ≡ length (c .added)) (updated-is : l .updated ≡ length (c .updated))
     (removed-is : l .removed ≡ length (c .removed)) (relinked-is : l .relinked ≡ length (c .relinked))
-    (told : l .fit ≡ leb (2 * (l .added + l .updated + l .removed + l .relinked)) (length slice)) where
+    (words : l .words ≡ 2 * (l .added + l .updated + l .removed + l .relinked)) (told : l .fit ≡ leb (l .words) (length slice)) where
   -- without room the slice stays as it is
   pub lists-short : l .fit ≡ false → ListsWritten c slice slice l
   lists-short e =
-      let short = leb-false (2 * (l .added + l .updated + l .removed + l .relinked)) (length slice) (sym told ∙ e) in
+      let short = leb-false (l .words) (length slice) (sym told ∙ e) in
       record {
         added-is = added-is;
         updated-is = updated-is;
         removed-is = removed-is;
         relinked-is = relinked-is;
+        words-are = omega (arith, lists-length c);
         fit-is = e ∙ sym (ap not (lt-ltb (length slice) (length (changeWords c)) (omega (arith, lists-length c))));
         slice-is = sym (ap (λ (t : Bool). if t then sliceAfter slice c else slice) e);
       }
@@ -286,7 +287,7 @@ module _ (c : Changes) (slice : List ℕ) (l : Lists) (added-is : l .added ≡ l
   pub lists-slice-after : l .fit ≡ true → (x y z w : List ℕ) (i j k m : ℕ) → ListWritten (c .added) 0 slice x i → ListWritten (c .updated) i x y j
       → ListWritten (c .removed) j y z k → ListWritten (c .relinked) k z w m → ListsWritten c slice w l
   lists-slice-after e x y z w i j k m wx wy wz ww =
-      let room = leb-true (2 * (l .added + l .updated + l .removed + l .relinked)) (length slice) (sym told ∙ e) in
+      let room = leb-true (l .words) (length slice) (sym told ∙ e) in
       let two = list-then (c .added) (c .updated) slice x y i j wx wy in
       let three = list-then (c .added ++ c .updated) (c .removed) slice y z j k two wz in
       let four = list-then (c .added ++ c .updated ++ c .removed) (c .relinked) slice z w k m three ww in
@@ -295,6 +296,7 @@ module _ (c : Changes) (slice : List ℕ) (l : Lists) (added-is : l .added ≡ l
         updated-is = updated-is;
         removed-is = removed-is;
         relinked-is = relinked-is;
+        words-are = omega (arith, lists-length c);
         fit-is = e ∙ sym (ap not (le-ltb (length slice) (length (changeWords c)) (omega (arith, lists-length c))));
         slice-is = list-slice-after c slice w m four ∙ sym (ap (λ (t : Bool). if t then sliceAfter slice c else slice) e);
       }

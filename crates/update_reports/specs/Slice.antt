@@ -11,13 +11,14 @@ use Rattle.ids.specs.Ids.{idWords}
 use Rattle.ids.specs.declared.FullNodeId.{FullNodeId}
 use Rattle.state_array.specs.View.{idIn, slotsOf}
 use Rattle.update.specs.Reports.{Changes, changeWords, sliceAfter}
+use Rattle.update_notes.specs.Layout.{WORDS}
 use Rattle.update_reports.specs.declared.Lists.{Lists}
 
 -- ## Marks
 
 -- n words of the notes from a place on, and the weight of a bit
 pub record Marks (start n weight : ℕ) : Type 0 where
-  pub within : start + n ≤ 4096
+  pub within : start + n ≤ WORDS
   pub some : 0 < weight
 
 -- those of the first n slots whose word has the bit of a weight
@@ -56,5 +57,6 @@ pub record ListsWritten (c : Changes) (before after : List ℕ) (l : Lists) : Ty
   pub updated-is : l .updated ≡ length (c .updated)
   pub removed-is : l .removed ≡ length (c .removed)
   pub relinked-is : l .relinked ≡ length (c .relinked)
+  pub words-are : l .words ≡ length (changeWords c)
   pub fit-is : l .fit ≡ not (ltb (length before) (length (changeWords c)))
   pub slice-is : after ≡ (if l .fit then sliceAfter before c else before)

@@ -1,6 +1,5 @@
 // What a batch reports: what changed of each node, the four change lists in the lent slice, the focus before and after with the extra ids.
 ghost use mathlib.Core.Bool.{true, not};
-ghost use mathlib.Core.Option.{none};
 ghost use mathlib.Core.Path.{_≡_};
 ghost use Prim.Native.Nat.{_+_, _*_, _<_};
 ghost use Rattle.base.specs.Tests.{_&&_, isSome, sameOption, has};
@@ -35,12 +34,13 @@ const RELINKED: u64 = 4;
 
 const REMOVED: u64 = 1;
 
-// The lengths of the four lists, and whether the lent slice has room for them.
+// The lengths of the four lists, how many elements they take together, and whether the lent slice has room for them.
 pub struct Lists {
     pub added: usize,
     pub updated: usize,
     pub removed: usize,
     pub relinked: usize,
+    pub words: usize,
     pub fit: bool,
 }
 
@@ -175,12 +175,14 @@ pub fn write_lists<'a>(
     let updated = count_of(notes, CHANGED, m, UPDATED);
     let removed = count_of(notes, GOES, n, REMOVED);
     let relinked = count_of(notes, CHANGED, m, RELINKED);
-    let fit = 2 * (added + updated + removed + relinked) <= changes.len();
+    let words = 2 * (added + updated + removed + relinked);
+    let fit = words <= changes.len();
     let lists = Lists {
         added,
         updated,
         removed,
         relinked,
+        words,
         fit,
     };
     if !fit {
@@ -279,13 +281,6 @@ pub fn report_start(after: FoundNode) -> Report
         extra_before: FoundNode::Nothing,
         extra_after: FoundNode::Nothing,
     }
-}
-
-// What a refusal reports.
-pub fn no_report() -> Report
-    ensures { λ r. ⌜ OnlyAfter none r ⌝ }
-{
-    report_start(FoundNode::Nothing)
 }
 
 // Two answers, with what is left of them as extra ids where they differ.

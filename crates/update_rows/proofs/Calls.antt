@@ -11,9 +11,8 @@ use Rattle.base.specs.Tables.{row, found, first}
 use Rattle.base.proofs.Tables.{found-counts, found-passes, found-alone}
 use Rattle.ids.specs.Ids.{ROOT, sameTree, sameNode}
 use Rattle.record.specs.Batch.{Batch, listedIds}
-use Rattle.record.specs.Parse.{wellFormed, parse}
+use Rattle.record.specs.Parse.{wellFormed, parse, batchOf}
 use Rattle.record.proofs.Parse.{parse-well, parse-refused}
-use Rattle.record_reader.specs.Reader.{batchIn}
 use Rattle.state.specs.State.{Forest, State, blank}
 use Rattle.state.specs.Sound.{sound}
 use Rattle.update.specs.Outcome.{outcome}
@@ -37,7 +36,7 @@ module _ (s : State) (bytes slice : List ℕ) where
   f = s .forest
 
   abbrev b : Batch
-  b = batchIn bytes
+  b = batchOf bytes
 
   -- the state after it
   abbrev pub updateState : State
@@ -53,9 +52,9 @@ module _ (s : State) (bytes slice : List ℕ) where
 
   module _ (w : wellFormed bytes ≡ true) where
     by-number : (k : ℕ) → updateNumber s (some b) slice ≡ k → update s bytes slice ≡ judged k s slice (accepted s updateState (changesOf f b) slice)
-    unfolding updateBatch batchIn
+    unfolding updateBatch batchOf
     by-number k q =
-        update-is s bytes slice (some (batchIn bytes)) (parse-well bytes w)
+        update-is s bytes slice (some (batchOf bytes)) (parse-well bytes w)
         ∙ ap (λ (n : ℕ). judged n s slice (accepted s updateState (changesOf f b) slice)) q
 
     by-refusal : (k : ℕ) → updateNumber s (some b) slice ≡ k → (k ≡ 0 → ⊥) → update s bytes slice ≡ refused k s slice
@@ -117,7 +116,7 @@ module _ (s : State) (bytes slice : List ℕ) where
 
 module _ (bytes : List ℕ) (host : Bool) where
   abbrev e : Batch
-  e = batchIn bytes
+  e = batchOf bytes
 
   -- the forest that it begins with, and its batch
   abbrev o : Forest
@@ -144,8 +143,8 @@ module _ (bytes : List ℕ) (host : Bool) where
 
   module _ (w : wellFormed bytes ≡ true) where
     start-by : (k : ℕ) → startNumber e ≡ k → start bytes host ≡ judged k blank [] (started startState)
-    unfolding startBatch batchIn
-    start-by k q = start-parsed (some (batchIn bytes)) (parse-well bytes w) ∙ ap (λ (n : ℕ). judged n blank [] (started startState)) q
+    unfolding startBatch batchOf
+    start-by k q = start-parsed (some (batchOf bytes)) (parse-well bytes w) ∙ ap (λ (n : ℕ). judged n blank [] (started startState)) q
 
     -- rows 3 to 5
     begins : (startRows bytes ≡ 0 → ⊥) → (p q : Bool) → isNone (e .root) ≡ p → sameTree (e .tree) ROOT ≡ q → startNumber e ≡ startRows bytes

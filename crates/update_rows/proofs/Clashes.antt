@@ -4,23 +4,26 @@ use native.Mathlib.Nat.{zero-add}
 use Rattle.base.proofs.Regions.{fill-put}
 use Rattle.base.specs.Search.{First}
 use Rattle.update_notes.proofs.Setting.{batched-facts}
-use Rattle.record.specs.Parse.{wellFormed}
+use Rattle.record.specs.Parse.{wellFormed, batchOf}
 use mathlib.Core.Bool.{Bool, true, false, not, false≢true}
 use mathlib.Core.List.{List}
 use mathlib.Core.Option.{Option, none, some}
 use mathlib.Core.Path.{_≡_, refl, sym, ap, _∙_, ap₂}
 use Prim.Native.Nat.{ℕ, _+_, _≤_, _<_}
 use native.Mathlib.Omega.{arith}
-use lib.Dec.{eqb}
+use lib.Dec.{eqb, ltb}
 use lib.ListN.{length, getD, set, replicate, length-replicate}
-use borrow.Author.Tests.{ltb-true, eq-eqb, ne-eqb}
+use borrow.Author.Tests.{ltb-true, ltb-false, eq-eqb, ne-eqb}
 use Rattle.base.specs.Tests.{_&&_, isSome, distinct}
+use Rattle.base.proofs.Cases.{by-test}
 use Rattle.base.proofs.Tests.{and-false, and-right, bit-is}
 use Rattle.record.specs.Batch.{sameData, Listed, Batch, listedIds}
 use Rattle.base.proofs.Loops.{Passing, any-at, any-passed, Filling, filling-begins, filling-goes}
 use Rattle.update_rows.specs.Rows.{clashes}
+use Rattle.update_rows.specs.Parts.{ListedAgain}
+use Rattle.update_rows.specs.declared.Again.{Again}
 use Rattle.ids.specs.declared.FullNodeId.{FullNodeId}
-use Rattle.record_reader.specs.Reader.{noListed, listedAt, noNode, batchIn}
+use Rattle.record_reader.specs.Reader.{noListed, listedAt, noNode}
 use Rattle.state.specs.State.{NodeState, Forest, find, present}
 use Rattle.state_array.specs.View.{slotsOf}
 use Rattle.update.specs.Words.{here}
@@ -44,7 +47,7 @@ module _ (b : Batch) where
   abbrev pub listedId : ℕ → NodeId
   listedId i = listedAt b i .id
 
-  listed-ids : listOf (length (b .nodes)) listedId ≡ listedIds (b .nodes)
+  pub listed-ids : listOf (length (b .nodes)) listedId ≡ listedIds (b .nodes)
   unfolding listedAt
   listed-ids = rw (← listed-length (b .nodes)) (list-of-each noNode (listedIds (b .nodes)) listedId (λ i l. sym (listed-at (b .nodes) i noListed)))
 
@@ -58,9 +61,9 @@ module _ (b : Batch) where
     pub apart : (j : ℕ) → j < i → (h : ℕ) → h < j → sameNode (listedId h) (listedId j) ≡ false
 
 -- none yet
-pub listing-begins : (bytes : List ℕ) {k : ℕ} → wellFormed bytes ≡ true → k ≡ length (batchIn bytes .nodes) → Listing (batchIn bytes) k 0 (replicate 64 0)
+pub listing-begins : (bytes : List ℕ) {k : ℕ} → wellFormed bytes ≡ true → k ≡ length (batchOf bytes .nodes) → Listing (batchOf bytes) k 0 (replicate 64 0)
 listing-begins bytes formed e =
-    let facts = batched-facts bytes (batchIn bytes) (record { formed = formed; nodes = refl }) in
+    let facts = batched-facts bytes (batchOf bytes) (record { formed = formed; nodes = refl }) in
     record { filling = filling-begins (omega (arith, facts .nodes-limit)); apart = λ j h. absurd (omega arith) }
 
 module _ {b : Batch} {k i : ℕ} {seen : List ℕ} (g : Listing b k i seen) where
@@ -73,8 +76,17 @@ module _ {b : Batch} {k i : ℕ} {seen : List ℕ} (g : Listing b k i seen) wher
         let stored = rw zero-add at (fill-put 0 (λ j. listedId b j .0) i (replicate 64 0) room h m) in
         ap₂ eqb (ap (λ s. getD s h 0) (g .filling .filled) ∙ stored) (ap (λ (y : NodeId). y .0) id)
 
-    pub listing-found : k ≡ length (b .nodes) → p < i → true ≡ not (distinct sameNode (listedIds (b .nodes)))
-    listing-found e h = twice-found b p i h (omega arith) (sym (same p h) ∙ first .hit h)
+    pub listing-found : k ≡ length (b .nodes) → p < i → ListedAgain b (record { first = p; second = i })
+    listing-found e h = record {
+      within = omega arith;
+      apart = g .apart;
+      earlier = λ m. h;
+      again = λ m. record {
+        within = first .within;
+        passed = λ j n. sym (same j (omega arith)) ∙ first .passed j n;
+        hit = λ n. sym (same p n) ∙ first .hit n;
+      };
+    }
 
     pub listing-goes : i ≤ p → Listing b k (i + 1) (set seen i (x .0))
     listing-goes past = record {
@@ -83,16 +95,34 @@ module _ {b : Batch} {k i : ℕ} {seen : List ℕ} (g : Listing b k i seen) wher
     }
 
   -- all of them
-  pub listing-ends : k ≡ length (b .nodes) → k ≤ i → false ≡ not (distinct sameNode (listedIds (b .nodes)))
-  listing-ends e done =
-      sym (ap (λ ids. not (distinct sameNode ids)) (sym (listed-ids b))
-      ∙ ap not (distinct-list-of sameNode (length (b .nodes)) (listedId b) (λ h j l m. g .apart j (omega (arith, g .filling .within)) h l)))
+  pub listing-ends : k ≡ length (b .nodes) → k ≤ i → ListedAgain b (record { first = k; second = k })
+  listing-ends e done = record {
+    within = omega arith;
+    apart = λ j m. g .apart j (omega arith);
+    earlier = λ m. absurd (omega arith);
+    again = λ m. absurd (omega arith);
+  }
+
+-- row 5 by these places
+pub again-twice : {b : Batch} {r : Again} {k : ℕ} → ListedAgain b r → k ≡ length (b .nodes) → ltb (r .second) k ≡ not (distinct sameNode (listedIds (b .nodes)))
+again-twice {b} {r} {k} g e = by-test (ltb (r .second) k) found apart
+  where
+    found : ltb (r .second) k ≡ true → ltb (r .second) k ≡ not (distinct sameNode (listedIds (b .nodes)))
+    found t =
+        let l : r .second < length (b .nodes) = rw (← e) (ltb-true (r .second) k t) in
+        t ∙ twice-found b (r .first) (r .second) (g .earlier l) l (g .again l .hit (g .earlier l))
+
+    apart : ltb (r .second) k ≡ false → ltb (r .second) k ≡ not (distinct sameNode (listedIds (b .nodes)))
+    apart t =
+        let past = ltb-false (r .second) k t in
+        t ∙ sym (ap (λ ids. not (distinct sameNode ids)) (sym (listed-ids b))
+        ∙ ap not (distinct-list-of sameNode (length (b .nodes)) (listedId b) (λ h j l m. g .apart j (omega arith) h l)))
 
 -- ## A listed node
 
 module _ (s : Forest) (b : Batch) (l : Listed) where
   -- one that differs is old
-  differs-old : differs s b l ≡ true → present (s .nodes) (here s b (l .id)) ≡ true
+  pub differs-old : differs s b l ≡ true → present (s .nodes) (here s b (l .id)) ≡ true
   unfolding differs present
   differs-old e = go (find (here s b (l .id)) (s .nodes)) e
     where
@@ -101,7 +131,7 @@ module _ (s : Forest) (b : Batch) (l : Listed) where
       go (some n) f = refl
 
   -- the two tests of row 18
-  clash-is : updatedAndRemoved s b l ≡ (gone s b (here s b (l .id)) && differs s b l)
+  pub clash-is : updatedAndRemoved s b l ≡ (gone s b (here s b (l .id)) && differs s b l)
   unfolding updatedAndRemoved differs
   clash-is = refl
 

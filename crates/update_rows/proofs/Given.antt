@@ -9,7 +9,7 @@ use lib.ListN.{length, getD, take, length-append}
 use Rattle.base.specs.Tests.{if_then_else_, isSome, _&&_, isNone, position}
 use Rattle.ids.specs.declared.NodeId.{NodeId}
 use Rattle.record.specs.Batch.{Batch, Listed, namedIds}
-use Rattle.record_reader.specs.Reader.{batchIn, noListed, listedAt, fieldAt, rootOrZero}
+use Rattle.record_reader.specs.Reader.{noListed, listedAt, fieldAt, rootOrZero}
 use Rattle.state.specs.State.{Forest, find, linkAt, TreeEntry, SubtreeState, subtreeState, subtreeFrom, subtreeOf}
 use Rattle.state.specs.Sound as sound
 use Rattle.state.proofs.Pool.{childTotal}
@@ -31,7 +31,7 @@ use Rattle.ids.specs.Ids.{ROOT, sameTree}
 use Rattle.ids.specs.declared.TreeId.{TreeId}
 use Rattle.ids.specs.declared.FullNodeId.{FullNodeId}
 use Rattle.ids.proofs.Ids.{same-tree→≡}
-use Rattle.record.specs.Parse.{wellFormed}
+use Rattle.record.specs.Parse.{wellFormed, batchOf}
 use Rattle.record.proofs.Batch.{named-append}
 use Rattle.record_reader.proofs.Reader.{first-child-is}
 use Rattle.state_lookup.specs.Lookup.{endsOf}
@@ -48,11 +48,11 @@ entries-none [] h = refl
 entries-none (l ∷ ls) h = absurd (omega arith)
 
 -- they end where those of the last listed node end
-pub entries-last : (bytes : List ℕ) → wellFormed bytes ≡ true → (i : ℕ) → i + 1 ≡ length (batchIn bytes .nodes)
-    → fieldAt 2 bytes i 32 + length (listedAt (batchIn bytes) i .body .children) ≡ length (namedIds (batchIn bytes .nodes))
+pub entries-last : (bytes : List ℕ) → wellFormed bytes ≡ true → (i : ℕ) → i + 1 ≡ length (batchOf bytes .nodes)
+    → fieldAt 2 bytes i 32 + length (listedAt (batchOf bytes) i .body .children) ≡ length (namedIds (batchOf bytes .nodes))
 unfolding listedAt namedIds
 entries-last bytes formed i e =
-    let ls = batchIn bytes .nodes in
+    let ls = batchOf bytes .nodes in
     let l : i < length ls = omega arith in
     let all : take (suc i) ls ≡ ls = rw (← add-one i, e) (take-length ls) in
     let split : namedIds ls ≡ namedIds (take i ls) ++ getD ls i noListed .body .children =
@@ -132,16 +132,16 @@ root-kept none = refl
 root-kept (some r) = refl
 
 -- that of a batch on a state is the record's
-pub asked-update : (s : Forest) (bytes : List ℕ) (c : Scope) → Scoped s (batchIn bytes) c → asked bytes c ≡ batchIn bytes
+pub asked-update : (s : Forest) (bytes : List ℕ) (c : Scope) → Scoped s (batchOf bytes) c → asked bytes c ≡ batchOf bytes
 unfolding asked withTreeData
 asked-update s bytes c h =
-    let b = batchIn bytes in
+    let b = batchOf bytes in
     ap (λ (t : Bool). withRoot b (if t then b .root else none)) (h .tree-data) ∙ ap (withRoot b) (root-kept (b .root))
 
 -- that of a start is without tree data
-pub asked-start : (s : Forest) (bytes : List ℕ) (c : Scope) → Scoped s (withoutTreeData (batchIn bytes)) c → asked bytes c ≡ withoutTreeData (batchIn bytes)
+pub asked-start : (s : Forest) (bytes : List ℕ) (c : Scope) → Scoped s (withoutTreeData (batchOf bytes)) c → asked bytes c ≡ withoutTreeData (batchOf bytes)
 unfolding asked withTreeData withoutTreeData
-asked-start s bytes c h = let b = batchIn bytes in ap (λ (t : Bool). withRoot b (if t then b .root else none)) (h .tree-data)
+asked-start s bytes c h = let b = batchOf bytes in ap (λ (t : Bool). withRoot b (if t then b .root else none)) (h .tree-data)
 
 -- ## What the phases are given
 
@@ -164,22 +164,22 @@ module _ (state bytes notes : List ℕ) (c : Scope) where
   told-none g long = record { given = g; long = long; written = λ j h. absurd (omega arith) }
 
   -- a batch that passed rows 1, 2 and 5 to 8
-  pub told-update : firstNumber (view state .forest) bytes ≡ 0 → Scoped (view state .forest) (batchIn bytes) c → length notes ≡ 4096 → Told 0 state bytes c notes
+  pub told-update : firstNumber (view state .forest) bytes ≡ 0 → Scoped (view state .forest) (batchOf bytes) c → length notes ≡ 4096 → Told 0 state bytes c notes
   told-update e h =
       let p = first-passed (view state .forest) bytes e in
-      let l = listable (view state .forest) (batchIn bytes) (p .before) in
+      let l = listable (view state .forest) (batchOf bytes) (p .before) in
       let is = asked-update (view state .forest) bytes c h in
       told-none (record { kept = kept-sound (view state .forest) (p .is-sound); formed = p .formed; scoped = rw is h; once = rw is (l .once); numbered = rw is (l .numbered) })
 
   -- a start that passed rows 2 to 5
-  pub told-start : startRows bytes ≡ 0 → view state .forest ≡ seed (batchIn bytes) → Scoped (seed (batchIn bytes)) (withoutTreeData (batchIn bytes)) c
+  pub told-start : startRows bytes ≡ 0 → view state .forest ≡ seed (batchOf bytes) → Scoped (seed (batchOf bytes)) (withoutTreeData (batchOf bytes)) c
       → length notes ≡ 4096 → Told 0 state bytes c notes
   told-start e q h =
       let l = start-listable bytes e in
-      let is = asked-start (seed (batchIn bytes)) bytes c h in
+      let is = asked-start (seed (batchOf bytes)) bytes c h in
       told-none
       (record {
-        kept = rw q (kept-seed (batchIn bytes));
+        kept = rw q (kept-seed (batchOf bytes));
         formed = start-begun bytes e .formed;
         scoped = rw (q, is) h;
         once = rw is (l .once);

@@ -15,8 +15,7 @@ use Rattle.base.proofs.Tests.{not-false, call-true}
 use Rattle.ids.specs.Ids.{ROOT, sameTree, sameNode}
 use Rattle.ids.specs.declared.TreeId.{TreeId}
 use Rattle.record.specs.Batch.{Batch, listedIds, namedIds}
-use Rattle.record.specs.Parse.{wellFormed}
-use Rattle.record_reader.specs.Reader.{batchIn}
+use Rattle.record.specs.Parse.{wellFormed, batchOf}
 use Rattle.state.specs.State.{Forest, holder, subtreeOf}
 use Rattle.state.specs.Sound.{sound}
 use Rattle.update.specs.Words.{known, withTreeData}
@@ -84,7 +83,7 @@ module _ (s : Forest) (bytes : List ℕ) where
   pub record Passed : Type 0 where
     pub is-sound : sound s ≡ true
     pub formed : wellFormed bytes ≡ true
-    pub before : first (rowsBeforePass s (batchIn bytes)) ≡ 0
+    pub before : first (rowsBeforePass s (batchOf bytes)) ≡ 0
 
   pub first-passed : firstNumber s bytes ≡ 0 → Passed
   unfolding firstNumber
@@ -113,8 +112,8 @@ module _ (b : Batch) where
       (not (known s d)))
 
 -- past rows 2 and 3, as the code asks them
-pub start-past : (bytes : List ℕ) {w d r : Bool} {t : TreeId} {j : ℕ} → w ≡ wellFormed bytes → not w ≡ false → d ≡ isSome (batchIn bytes .root) → not d ≡ false
-    → t ≡ batchIn bytes .tree → r ≡ sameTree t ROOT → j ≡ first (row 4 (not r) ∷ row 5 (not (distinct sameNode (listedIds (batchIn bytes .nodes)))) ∷ []) → j ≡ startRows bytes
+pub start-past : (bytes : List ℕ) {w d r : Bool} {t : TreeId} {j : ℕ} → w ≡ wellFormed bytes → not w ≡ false → d ≡ isSome (batchOf bytes .root) → not d ≡ false
+    → t ≡ batchOf bytes .tree → r ≡ sameTree t ROOT → j ≡ first (row 4 (not r) ∷ row 5 (not (distinct sameNode (listedIds (batchOf bytes .nodes)))) ∷ []) → j ≡ startRows bytes
 unfolding startRows first
 start-past bytes f v g q e h k = k ∙ sym (rw (call-true f v, call-true g q, h, e))
 
@@ -122,9 +121,9 @@ module _ (bytes : List ℕ) where
   -- rows 2 to 5 passed
   pub record Begun : Type 0 where
     pub formed : wellFormed bytes ≡ true
-    pub rooted : isNone (batchIn bytes .root) ≡ false
-    pub root-tree : sameTree (batchIn bytes .tree) ROOT ≡ true
-    pub once : distinct sameNode (listedIds (batchIn bytes .nodes)) ≡ true
+    pub rooted : isNone (batchOf bytes .root) ≡ false
+    pub root-tree : sameTree (batchOf bytes .tree) ROOT ≡ true
+    pub once : distinct sameNode (listedIds (batchOf bytes .nodes)) ≡ true
 
   pub start-begun : startRows bytes ≡ 0 → Begun
   unfolding startRows
@@ -133,10 +132,10 @@ module _ (bytes : List ℕ) where
       record { formed = not-false (z .0); rooted = z .1 .0; root-tree = not-false (z .1 .1 .0); once = not-false (z .1 .1 .1 .0) }
 
   -- no number of rows 5 to 8
-  pub start-before : startRows bytes ≡ 0 → first (rowsBeforePass (seed (batchIn bytes)) (withoutTreeData (batchIn bytes))) ≡ 0
+  pub start-before : startRows bytes ≡ 0 → first (rowsBeforePass (seed (batchOf bytes)) (withoutTreeData (batchOf bytes))) ≡ 0
   unfolding first
-  start-before e = let p = start-begun e in seed-before (batchIn bytes) (p .root-tree) ∙ rw (p .once)
+  start-before e = let p = start-begun e in seed-before (batchOf bytes) (p .root-tree) ∙ rw (p .once)
 
   -- each node is listed once, and ROOT has a number
-  pub start-listable : startRows bytes ≡ 0 → Listable (seed (batchIn bytes)) (withoutTreeData (batchIn bytes))
-  start-listable e = listable (seed (batchIn bytes)) (withoutTreeData (batchIn bytes)) (start-before e)
+  pub start-listable : startRows bytes ≡ 0 → Listable (seed (batchOf bytes)) (withoutTreeData (batchOf bytes))
+  start-listable e = listable (seed (batchOf bytes)) (withoutTreeData (batchOf bytes)) (start-before e)

@@ -122,7 +122,7 @@ module _ (state : List ℕ) {r : FoundNode} (way : foundOf r ≡ effectiveFocus 
 
 module _ (state : List ℕ) (r : FoundTree) (ends : endsOf r ≡ subtreeOf (forest state) ROOT) where
   -- the root that a search found
-  root-found : rootOf (forest state) ≡ (elim (endsOf r) as (λ _. Option FullNodeId) [ none ↦ none | some u ↦ some (u .root) ])
+  pub root-found : rootOf (forest state) ≡ (elim (endsOf r) as (λ _. Option FullNodeId) [ none ↦ none | some u ↦ some (u .root) ])
   unfolding rootOf
   root-found = rw ends
 

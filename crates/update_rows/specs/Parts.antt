@@ -1,21 +1,32 @@
 -- What the helpers answer: rows 6 to 8 by themselves, the root that a batch leaves, rows 15 to 17. Assumes nothing.
-use mathlib.Core.Bool.{Bool, not}
+use mathlib.Core.Bool.{Bool, false, not}
 use mathlib.Core.List.{[], _∷_}
 use mathlib.Core.Option.{none, some}
 use mathlib.Core.Path.{_≡_}
-use Prim.Native.Nat.{ℕ}
+use Prim.Native.Nat.{ℕ, _≤_, _<_}
 use lib.Dec.{leb}
 use lib.ListN.{length}
 use Rattle.base.specs.Tests.{_&&_, if_then_else_, isNone}
 use Rattle.base.specs.Tables.{row, first}
-use Rattle.ids.specs.Ids.{ROOT, sameTree}
+use Rattle.base.specs.Search.{First}
+use Rattle.ids.specs.Ids.{ROOT, sameTree, sameNode}
 use Rattle.record.specs.Batch.{Batch}
+use Rattle.record_reader.specs.Reader.{listedAt}
 use Rattle.state.specs.State.{Forest, holder, subtreeOf}
 use Rattle.state.specs.Down.{rootOf}
 use Rattle.state.specs.Focus.{effectiveFocus}
 use Rattle.update.specs.Words.{known, here, withTreeData, rootAfter}
 use Rattle.update.specs.Numbers.{absent}
+use Rattle.update_rows.specs.declared.Again.{Again}
 use Rattle.update_rows.specs.declared.Root.{Root}
+
+-- Row 5: the first listed node that was listed before stands at `second`, and before at `first`; `second` is the number of listed nodes where there
+-- is none.
+pub record ListedAgain (b : Batch) (r : Again) : Type 0 where
+  pub within : r .second ≤ length (b .nodes)
+  pub apart : (j : ℕ) → j < r .second → (h : ℕ) → h < j → sameNode (listedAt b h .id) (listedAt b j .id) ≡ false
+  pub earlier : r .second < length (b .nodes) → r .first < r .second
+  pub again : r .second < length (b .nodes) → First (λ h. sameNode (listedAt b h .id) (listedAt b (r .second) .id)) (r .second) (r .first)
 
 module _ (s : Forest) (b : Batch) where
   -- row 6: tree data for a tree other than ROOT that no node grafts

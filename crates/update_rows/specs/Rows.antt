@@ -8,8 +8,7 @@ use Rattle.base.specs.Tests.{isNone, any, distinct}
 use Rattle.base.specs.Tables.{row, first}
 use Rattle.ids.specs.Ids.{ROOT, sameTree, sameNode}
 use Rattle.record.specs.Batch.{listedIds}
-use Rattle.record.specs.Parse.{wellFormed}
-use Rattle.record_reader.specs.Reader.{batchIn}
+use Rattle.record.specs.Parse.{wellFormed, batchOf}
 use Rattle.state.specs.State.{Forest}
 use Rattle.state.specs.Down.{rootOf}
 use Rattle.state.specs.Focus.{effectiveFocus}
@@ -20,16 +19,16 @@ use Rattle.update_notes.specs.Setting.{asked, forest}
 
 -- rows 1, 2 and 5 to 8 of a batch on a forest
 unfoldable pub firstNumber : Forest → List ℕ → ℕ
-firstNumber s bytes = first (row 1 (not (sound s)) ∷ row 2 (not (wellFormed bytes)) ∷ rowsBeforePass s (batchIn bytes))
+firstNumber s bytes = first (row 1 (not (sound s)) ∷ row 2 (not (wellFormed bytes)) ∷ rowsBeforePass s (batchOf bytes))
 
 -- rows 2 to 5 of a start
 unfoldable pub startRows : List ℕ → ℕ
 startRows bytes =
     first
     (row 2 (not (wellFormed bytes))
-    ∷ row 3 (isNone (batchIn bytes .root))
-    ∷ row 4 (not (sameTree (batchIn bytes .tree) ROOT))
-    ∷ row 5 (not (distinct sameNode (listedIds (batchIn bytes .nodes))))
+    ∷ row 3 (isNone (batchOf bytes .root))
+    ∷ row 4 (not (sameTree (batchOf bytes .tree) ROOT))
+    ∷ row 5 (not (distinct sameNode (listedIds (batchOf bytes .nodes))))
     ∷ [])
 
 -- 12's second part and rows 15 to 20 of an outcome; `clash` is row 18

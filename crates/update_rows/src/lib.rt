@@ -9,8 +9,8 @@ ghost use Rattle.base.specs.Tables.{first};
 ghost use Rattle.base.specs.Search.{First};
 ghost use Rattle.ids.specs.Ids.{ROOT, sameTree, sameNode};
 ghost use Rattle.record.specs.Batch.{listedIds, namedIds};
-ghost use Rattle.record.specs.Parse.{wellFormed};
-ghost use Rattle.record_reader.specs.Reader.{batchIn, listedAt};
+ghost use Rattle.record.specs.Parse.{wellFormed, batchOf};
+ghost use Rattle.record_reader.specs.Reader.{listedAt};
 ghost use Rattle.state.specs.State.{subtreeOf};
 ghost use Rattle.state.specs.Down.{rootOf};
 ghost use Rattle.state.specs.Sound.{graftsDiffer, soundShape};
@@ -20,7 +20,7 @@ ghost use Rattle.update.specs.Calls.{seed, withoutTreeData};
 ghost use Rattle.update_notes.specs.Setting.{Scoped, asked, refusal};
 ghost use Rattle.update_notes.specs.Says.{Told, COMPARED};
 ghost use Rattle.update_rows.specs.Rows.{firstNumber, startRows, lastNumber, clashes};
-ghost use Rattle.update_rows.specs.Parts.{ungrafted, missing, full, RootAfter, focusNumber};
+ghost use Rattle.update_rows.specs.Parts.{ListedAgain, ungrafted, missing, full, RootAfter, focusNumber};
 use ids::NodeId;
 use ids::TreeId;
 use ids::TreeIndex;
@@ -31,13 +31,16 @@ use update_notes::Notes;
 use update_notes::Refusal;
 use update_notes::Scope;
 
-// The most nodes that a state has.
-const MOST_NODES: usize = 256;
-
 // The root of a tree as a batch leaves it, if there is one.
 struct Root {
     rooted: bool,
     node: NodeId,
+}
+
+// Two places of one node among the listed ones; both are their number where no node is listed twice.
+pub struct Again {
+    pub first: usize,
+    pub second: usize,
 }
 
 // Rows 1, 2 and 5 to 8.
@@ -56,7 +59,7 @@ pub fn start_rows(batch: &[u8]) -> Refusal
 
 // What a batch on a state is about.
 pub fn scope_of<'a>(state: &'a State, batch: &'a [u8]) -> Scope
-    ensures { λ r. ⌜ (wellFormed (now (batch .entry)) ≡ true → Scoped (view (now (state .entry)) .forest) (batchIn (now (batch .entry))) r) ⌝ }
+    ensures { λ r. ⌜ (wellFormed (now (batch .entry)) ≡ true → Scoped (view (now (state .entry)) .forest) (batchOf (now (batch .entry))) r) ⌝ }
 {
     let header = record_view::read_header(batch);
     let id = header.tree;
@@ -76,7 +79,7 @@ pub fn scope_of<'a>(state: &'a State, batch: &'a [u8]) -> Scope
 
 // What a start is about.
 pub fn start_scope(batch: &[u8]) -> Scope
-    ensures { λ r. ⌜ (startRows (now (batch .entry)) ≡ 0 → Scoped (seed (batchIn (now (batch .entry)))) (withoutTreeData (batchIn (now (batch .entry)))) r) ⌝ }
+    ensures { λ r. ⌜ (startRows (now (batch .entry)) ≡ 0 → Scoped (seed (batchOf (now (batch .entry)))) (withoutTreeData (batchOf (now (batch .entry)))) r) ⌝ }
 {
     let header = record_view::read_header(batch);
     let root = header.root;
@@ -120,7 +123,7 @@ pub fn updated_and_removed<'a>(
 }
 
 // Whether listed node i has other data than before, so that it is old, and goes.
-fn clashes_at<'a>(
+pub fn clashes_at<'a>(
     state: &'a State,
     batch: &'a [u8],
     scope: Scope,
@@ -155,7 +158,7 @@ fn first_number<'a>(state: &'a State, batch: &'a [u8]) -> u8
 // Rows 5 to 8 of a record.
 fn number_before_pass<'a>(state: &'a State, batch: &'a [u8]) -> u8
     requires { ⌜ wellFormed (now batch) ≡ true ⌝ }
-    ensures { λ r. ⌜ r ≡ first (rowsBeforePass (view (now (state .entry)) .forest) (batchIn (now (batch .entry)))) ⌝ }
+    ensures { λ r. ⌜ r ≡ first (rowsBeforePass (view (now (state .entry)) .forest) (batchOf (now (batch .entry)))) ⌝ }
 {
     if listed_twice(batch) {
         return 5;
@@ -188,20 +191,33 @@ fn start_number(batch: &[u8]) -> u8
 // Row 5: whether a record lists a node twice.
 fn listed_twice(batch: &[u8]) -> bool
     requires { ⌜ wellFormed (now batch) ≡ true ⌝ }
-    ensures { λ r. ⌜ r ≡ not (distinct sameNode (listedIds (batchIn (now (batch .entry)) .nodes))) ⌝ }
+    ensures { λ r. ⌜ r ≡ not (distinct sameNode (listedIds (batchOf (now (batch .entry)) .nodes))) ⌝ }
+{
+    let again = listed_again(batch);
+    again.second < record_reader::node_count(batch)
+}
+
+// The first listed node that was listed before, and where.
+pub fn listed_again(batch: &[u8]) -> Again
+    requires { ⌜ wellFormed (now batch) ≡ true ⌝ }
+    ensures { λ r. ⌜ ListedAgain (batchOf (now (batch .entry))) r ⌝ }
 {
     let k = record_reader::node_count(batch);
     let mut seen = [0u64; 64];
     let mut i = 0usize;
     while i < k {
         let x = record_reader::node_id(batch, i);
-        if first_of(&seen, i, x.0) < i {
-            return true;
+        let first = first_of(&seen, i, x.0);
+        if first < i {
+            return Again { first, second: i };
         }
         seen[i] = x.0;
         i += 1;
     }
-    false
+    Again {
+        first: k,
+        second: k,
+    }
 }
 
 // The first of n numbers that is x, or n.
@@ -220,8 +236,8 @@ fn first_of(seen: &[u64; 64], n: usize, x: u64) -> usize
 }
 
 // Row 6: tree data for a tree other than ROOT that no node grafts.
-fn is_ungrafted<'a>(state: &'a State, batch: &'a [u8]) -> bool
-    ensures { λ r. ⌜ r ≡ ungrafted (view (now (state .entry)) .forest) (batchIn (now (batch .entry))) ⌝ }
+pub fn is_ungrafted<'a>(state: &'a State, batch: &'a [u8]) -> bool
+    ensures { λ r. ⌜ r ≡ ungrafted (view (now (state .entry)) .forest) (batchOf (now (batch .entry))) ⌝ }
 {
     if !record_reader::has_tree_data(batch) {
         return false;
@@ -231,16 +247,16 @@ fn is_ungrafted<'a>(state: &'a State, batch: &'a [u8]) -> bool
 }
 
 // Row 7: no tree data for a tree other than ROOT that does not exist.
-fn is_missing<'a>(state: &'a State, batch: &'a [u8]) -> bool
-    ensures { λ r. ⌜ r ≡ missing (view (now (state .entry)) .forest) (batchIn (now (batch .entry))) ⌝ }
+pub fn is_missing<'a>(state: &'a State, batch: &'a [u8]) -> bool
+    ensures { λ r. ⌜ r ≡ missing (view (now (state .entry)) .forest) (batchOf (now (batch .entry))) ⌝ }
 {
     let id = record_reader::tree_id(batch);
     !record_reader::has_tree_data(batch) & !is_root_id(id) & !exists(state, id)
 }
 
 // Row 8: a tree without a number, where none is left.
-fn is_full<'a>(state: &'a State, batch: &'a [u8]) -> bool
-    ensures { λ r. ⌜ r ≡ full (view (now (state .entry)) .forest) (batchIn (now (batch .entry))) ⌝ }
+pub fn is_full<'a>(state: &'a State, batch: &'a [u8]) -> bool
+    ensures { λ r. ⌜ r ≡ full (view (now (state .entry)) .forest) (batchOf (now (batch .entry))) ⌝ }
 {
     let m = state_array::trees(state);
     (m <= state_lookup::find_tree(state, record_reader::tree_id(batch))) & (state_array::TREES <= m)
@@ -265,7 +281,7 @@ fn exists(state: &State, id: TreeId) -> bool
 
 // The root of the batch's tree as the batch leaves it.
 fn root_after<'a>(state: &'a State, batch: &'a [u8]) -> Root
-    ensures { λ r. ⌜ RootAfter (view (now (state .entry)) .forest) (batchIn (now (batch .entry))) r ⌝ }
+    ensures { λ r. ⌜ RootAfter (view (now (state .entry)) .forest) (batchOf (now (batch .entry))) r ⌝ }
 {
     if record_reader::has_tree_data(batch) {
         return Root {
@@ -286,7 +302,7 @@ fn root_after<'a>(state: &'a State, batch: &'a [u8]) -> Root
 
 // How many children the listed nodes name.
 fn entries_of(batch: &[u8]) -> usize
-    ensures { λ r. ⌜ (wellFormed (now (batch .entry)) ≡ true → r ≡ length (namedIds (batchIn (now (batch .entry)) .nodes))) ⌝ }
+    ensures { λ r. ⌜ (wellFormed (now (batch .entry)) ≡ true → r ≡ length (namedIds (batchOf (now (batch .entry)) .nodes))) ⌝ }
 {
     let k = record_reader::node_count(batch);
     if k < 1 {
@@ -314,7 +330,7 @@ fn last_number(next: &State, clash: bool) -> u8
     if !sound {
         return 19;
     }
-    if MOST_NODES < state_array::slots(next) {
+    if state_array::MOST_NODES < state_array::slots(next) {
         20
     } else {
         0
@@ -333,7 +349,7 @@ fn grafted_twice(next: &State, sound: bool) -> bool
 }
 
 // The number of rows 15 to 17.
-fn focus_number(next: &State) -> u8
+pub fn focus_number(next: &State) -> u8
     ensures { λ r. ⌜ r ≡ focusNumber (view (now (next .entry)) .forest) ⌝ }
 {
     let FoundNode::At(x) = state_focus::effective_focus(next) else {

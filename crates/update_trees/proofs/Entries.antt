@@ -1,5 +1,5 @@
 -- Laws of the table of trees after a batch, entry by entry, and of roots that go. Assumes nothing.
-use Rattle.record_reader.specs.Reader.{batchIn}
+use Rattle.record.specs.Parse.{batchOf}
 use Rattle.state_array.specs.declared.TreeRow.{TreeRow}
 use mathlib.Core.Bool.{Bool, true, false}
 use mathlib.Core.List.{List, [], _∷_, map}
@@ -188,7 +188,7 @@ module _ {state bytes : List ℕ} {c : Scope} (g : Given state bytes c) where
           let unknown : known s b ≡ false = known-number s b ∙ rw (← g .scoped .tree) (le-ltb (c .tree .0) (length (s .trees)) (omega arith)) in
           rw last (new-tree s b unknown) ∙ own-entry (c .tree .0) none (tree-absent state (b .tree) (c .tree .0) number-first (omega arith))
 
-  pub own-row : {i : ℕ} {r : TreeRow} → i ≡ c .tree .0 → r ≡ treeRow (ownEntry (batchIn bytes) c) → r ≡ treeRow (treeAfter state bytes c i)
+  pub own-row : {i : ℕ} {r : TreeRow} → i ≡ c .tree .0 → r ≡ treeRow (ownEntry (batchOf bytes) c) → r ≡ treeRow (treeAfter state bytes c i)
   unfolding ownEntry asked
   own-row {i} e q = q ∙ ap treeRow (sym (own-tree i e))
 

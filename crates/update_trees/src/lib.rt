@@ -4,8 +4,8 @@ ghost use Prim.Native.Nat.{_<_};
 ghost use lib.ListN.{length, set};
 ghost use mathlib.Core.Option.{none};
 ghost use Rattle.base.specs.Regions.{row};
-ghost use Rattle.record_reader.specs.Reader.{batchIn};
-ghost use Rattle.state_array.specs.Layout.{entryPlace};
+ghost use Rattle.record.specs.Parse.{batchOf};
+ghost use Rattle.state_array.specs.Layout.{TREES, TREE-FIELDS, entryPlace};
 ghost use Rattle.state_array.specs.Stored.{treeRow};
 ghost use Rattle.update.specs.Gone.{gone};
 ghost use Rattle.update_notes.specs.Setting.{forest, asked};
@@ -87,7 +87,7 @@ fn tree_after<'a>(
 
 // The row of the batch's tree: its id, its root, if it has one, and its focus.
 fn own_row(batch: &[u8], scope: Scope) -> TreeRow
-    ensures { λ r. ⌜ r ≡ treeRow (ownEntry (batchIn (now (batch .entry))) scope) ⌝ }
+    ensures { λ r. ⌜ r ≡ treeRow (ownEntry (batchOf (now (batch .entry))) scope) ⌝ }
 {
     let id = record_reader::tree_id(batch);
     if scope.rooted {
@@ -125,7 +125,7 @@ fn root_goes<'a>(
     root: NodeId,
 ) -> bool
     requires { ⌜ Told PLANNED (now state) (now batch) scope (now notes) ⌝ }
-    requires { ⌜ k < 32 ⌝ }
+    requires { ⌜ k < TREES ⌝ }
     ensures { λ r. ⌜ r ≡ gone (forest (now (state .entry))) (asked (now (batch .entry)) scope) (record { tree = record { 0 = k }; node = root }) ⌝ }
 {
     let tree = TreeIndex(k as u32);
@@ -138,7 +138,7 @@ fn root_goes<'a>(
 
 // Stores the row of tree k.
 fn put_tree(next: &mut State, k: usize, t: TreeRow)
-    requires { ⌜ k < 32 ⌝ }
+    requires { ⌜ k < TREES ⌝ }
     ensures { λ _. ⌜ now (next .exit) ≡ row (rowRegions t) k (now (next .entry)) ⌝ }
 {
     put_entry(next, state_array::TREE_HIGH, k, t.id.high);
@@ -150,7 +150,7 @@ fn put_tree(next: &mut State, k: usize, t: TreeRow)
 
 // Stores field j of tree k.
 fn put_entry(next: &mut State, j: usize, k: usize, v: u64)
-    requires { ⌜ (j < 5) × (k < 32) ⌝ }
+    requires { ⌜ (j < TREE-FIELDS) × (k < TREES) ⌝ }
     ensures { λ _. ⌜ now (next .exit) ≡ set (now (next .entry)) (entryPlace j k) v ⌝ }
 {
     next[state_array::TABLE + state_array::TREES * j + k] = v;

@@ -13,7 +13,8 @@ use Rattle.base.proofs.Bytes.{length-list-of, list-of-at, sum-more}
 use Rattle.base.proofs.Regions.{fill-none, fill-more, fill-set, fill-cong, fill-add, row-stored}
 use Rattle.ids.specs.declared.NodeId.{NodeId}
 use Rattle.record.specs.Batch.{NodeData}
-use Rattle.record_reader.specs.Reader.{batchIn, listedAt}
+use Rattle.record.specs.Parse.{batchOf}
+use Rattle.record_reader.specs.Reader.{listedAt}
 use Rattle.state.specs.State.{NodeState}
 use Rattle.state_array.specs.Layout.{place, childPlace, FIRST-CHILD, TREE, PARENT-TREE}
 use Rattle.state_array.specs.View.{idIn, shapeIn, childrenIn, bodyIn, nodeIn}
@@ -73,14 +74,14 @@ module _ (state bytes : List ℕ) (source : ℕ) where
       (sym (ap (λ (x : NodeId). x .0) (list-of-at (shapeIn state source .«child_count») j (λ j. record { 0 = slotChild state source j }) noNode (rw (← slot-count h refl) at l))))
 
   -- a listed node's
-  listed-children : 320 ≤ source → sourceChildren state bytes source ≡ listedAt (batchIn bytes) (source - 320) .body .children
+  listed-children : 320 ≤ source → sourceChildren state bytes source ≡ listedAt (batchOf bytes) (source - 320) .body .children
   unfolding sourceChildren
   listed-children h = rw (le-ltb source 320 h)
 
-  pub listed-count : {n : ℕ} → 320 ≤ source → n ≡ length (listedAt (batchIn bytes) (source - 320) .body .children) → n ≡ length (sourceChildren state bytes source)
+  pub listed-count : {n : ℕ} → 320 ≤ source → n ≡ length (listedAt (batchOf bytes) (source - 320) .body .children) → n ≡ length (sourceChildren state bytes source)
   listed-count h e = e ∙ sym (ap length (listed-children h))
 
-  pub listed-child : {x : NodeId} (j : ℕ) → 320 ≤ source → x ≡ getD (listedAt (batchIn bytes) (source - 320) .body .children) j noNode → x .0 ≡ kidWord (sourceChildren state bytes source) j
+  pub listed-child : {x : NodeId} (j : ℕ) → 320 ≤ source → x ≡ getD (listedAt (batchOf bytes) (source - 320) .body .children) j noNode → x .0 ≡ kidWord (sourceChildren state bytes source) j
   listed-child j h e = rw (listed-children h) (ap (λ (x : NodeId). x .0) e)
 
   -- the children of the data that comes from it

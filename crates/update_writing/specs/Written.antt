@@ -7,7 +7,8 @@ use Rattle.base.specs.Tests.{if_then_else_}
 use Rattle.base.specs.Regions.{fill, Region, fills}
 use Rattle.ids.specs.declared.NodeId.{NodeId}
 use Rattle.ids.specs.declared.FullNodeId.{FullNodeId}
-use Rattle.record_reader.specs.Reader.{batchIn, listedAt}
+use Rattle.record.specs.Parse.{batchOf}
+use Rattle.record_reader.specs.Reader.{listedAt}
 use Rattle.state.specs.State.{NodeState}
 use Rattle.state_array.specs.declared.LinkRow.{LinkRow}
 use Rattle.state_array.specs.declared.Body.{Body}
@@ -65,7 +66,7 @@ kidWord kids j = getD kids j noNode .0
 
 -- the children that a source names: a slot's node or a listed one
 unfoldable pub sourceChildren : List ℕ → List ℕ → ℕ → List NodeId
-sourceChildren state bytes source = if ltb source SLOTS then nodeIn state source .body .children else listedAt (batchIn bytes) (source - SLOTS) .body .children
+sourceChildren state bytes source = if ltb source SLOTS then nodeIn state source .body .children else listedAt (batchOf bytes) (source - SLOTS) .body .children
 
 -- child j of the node in a slot
 abbrev pub slotChild : List ℕ → ℕ → ℕ → ℕ

@@ -198,7 +198,6 @@ fn child_count<'a>(state: &'a State, batch: &'a [u8], source: usize) -> usize
 // The number of child j of those that a source names.
 fn child_of<'a>(state: &'a State, batch: &'a [u8], source: usize, j: usize) -> u64
     requires { ⌜ j < length (sourceChildren (now state) (now batch) source) ⌝ }
-    requires { ⌜ j < ENTRIES ⌝ }
     ensures { λ r. ⌜ r ≡ kidWord (sourceChildren (now (state .entry)) (now (batch .entry)) source) j ⌝ }
 {
     if source < state_array::SLOTS {
@@ -210,16 +209,12 @@ fn child_of<'a>(state: &'a State, batch: &'a [u8], source: usize, j: usize) -> u
 
 // The number of child j of the node in a slot, its own where there is no such entry.
 fn old_child(state: &State, slot: usize, j: usize) -> u64
-    requires { ⌜ j < ENTRIES ⌝ }
     ensures { λ r. ⌜ r ≡ slotChild (now (state .entry)) slot j ⌝ }
 {
     let x = state_array::id_at(state, slot);
     let d = state_array::shape_at(state, slot);
-    let first = d.first_child as usize;
-    if state_array::ENTRIES <= first {
-        return x.node.0;
-    }
-    state_array::child_at(state, x.node.0, first + j)
+    let child = state_array::child_at(state, x.node, d.first_child, j);
+    child.0
 }
 
 // The head: how many nodes and trees, and the host flag as it was.

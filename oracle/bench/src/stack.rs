@@ -4,7 +4,7 @@ use crate::inputs::{Batch, Shape};
 use crate::questions::*;
 use crate::screens::{Screen, clipping_chain};
 use calls::plain::Id;
-use cartgravel::{CHANGES, STACK, TreeId, sys};
+use cartgravel::{CHANGES, STACK, TreeId, WAY_WORDS, sys};
 use std::hint::black_box;
 use std::ptr::with_exposed_provenance;
 
@@ -86,6 +86,9 @@ fn calls() {
     line("`cartgravel_start`", size, stack_of(&mut || done(state.start(&start, true))));
     line("`cartgravel_update`", size, stack_of(&mut || done(state.update(&labels, &mut changes))));
     line("`cartgravel_host_focus`", size, stack_of(&mut || done(state.host_focus(false))));
+    let (mut way, size) = ([0; WAY_WORDS], size_of::<sys::Explanation>());
+    line("`cartgravel_explain`", size, stack_of(&mut || done(state.explain(&labels, CHANGES, &mut way))));
+    line("`cartgravel_explain_start`", size, stack_of(&mut || done(state.explain_start(&start, &mut way))));
 }
 
 /// The questions, each of the node for which it goes furthest.

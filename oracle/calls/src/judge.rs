@@ -25,7 +25,7 @@ impl Input {
     }
 
     /// The batch, if the bytes hold one.
-    fn read(&self) -> Option<Batch> {
+    pub fn read(&self) -> Option<Batch> {
         match self {
             Input::Batch(b) => Batch::decode(&b.encode()).inspect(|read| assert_eq!(read, b)),
             Input::Bytes(bytes) => Batch::decode(bytes),
@@ -362,9 +362,32 @@ fn words_of(said: &str) -> &'static str {
     if said == UNWRAP { UNWRAP } else { panic_row(said).said }
 }
 
+/// The state that the crate's `update` leaves behind (none before: of a start for ROOT with tree data), also where it panics,
+/// and what it said then. A batch that does not get 1 to 8.
+pub fn left(before: Option<&Held>, batch: &Batch) -> (State, Option<String>) {
+    let Some(old) = before else {
+        let (inner, said) = probe::left_at_start(to_update(batch), true);
+        return (shown(probe::dump(&inner)), said);
+    };
+    let (mut inner, said) = probe::left(&old.inner, to_update(batch));
+    restore_link(old, batch, &mut inner);
+    (shown(probe::dump(&inner)), said)
+}
+
+/// A sound state of the crate, or an outcome that it accepted.
 fn plain(inner: &TreeState) -> State {
     let d = probe::dump(inner);
-    let state = State {
+    let (root, info_root, focus) = (d.root, d.info_root, d.focus);
+    let state = shown(d);
+    assert_eq!(Some(root.1), state.trees[0].1.map(|at| at.0));
+    assert_eq!(root, (0, info_root));
+    assert_eq!(Some(focus), state.effective_focus());
+    state
+}
+
+/// What a state of the crate holds.
+fn shown(d: Dump) -> State {
+    State {
         nodes: d
             .nodes
             .into_iter()
@@ -381,11 +404,7 @@ fn plain(inner: &TreeState) -> State {
             })
             .collect(),
         host: d.host,
-    };
-    assert_eq!(Some(d.root.1), state.trees[0].1.map(|at| at.0));
-    assert_eq!(d.root, (0, d.info_root));
-    assert_eq!(Some(d.focus), state.effective_focus());
-    state
+    }
 }
 
 /// A sound state as the crate would hold it.

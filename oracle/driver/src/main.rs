@@ -11,6 +11,8 @@ mod histories;
 mod library;
 mod memory;
 mod questions;
+mod reasons;
+mod rules;
 mod tally;
 mod text;
 

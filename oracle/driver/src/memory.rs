@@ -106,11 +106,20 @@ pub fn shown(m: &sys::State) -> Option<State> {
         }
         s.nodes.insert(id, (link_shown(m, i), data_shown(m, i)));
     }
-    for k in 0..m.words[TREE_COUNT].min(TREES as u64 + 1) as usize {
-        let row = if k < TREES { [0, 1, 2, 3, 4].map(|j| m.words[entry(j, k)]) } else { [0; TREE_FIELDS] };
-        s.trees.push(((row[0], row[1]) as Tid, (row[4] != 0).then_some((row[2], row[3]))));
-    }
+    s.trees = trees_shown(m);
     Some(s)
+}
+
+/// The nodes that a memory shows, slot by slot, also where the ids do not ascend.
+pub fn nodes_shown(m: &sys::State) -> Vec<(Id, Link, Data)> {
+    (0..counts(m).0).map(|i| (id_shown(m, 0, i), link_shown(m, i), data_shown(m, i))).collect()
+}
+
+/// The trees that a memory shows: of a count past the table one more than there is room for.
+pub fn trees_shown(m: &sys::State) -> Vec<(Tid, Option<(u64, u64)>)> {
+    let row = |k: usize| if k < TREES { [0, 1, 2, 3, 4].map(|j| m.words[entry(j, k)]) } else { [0; TREE_FIELDS] };
+    let rows = (0..m.words[TREE_COUNT].min(TREES as u64 + 1) as usize).map(row);
+    rows.map(|r| ((r[0], r[1]), (r[4] != 0).then_some((r[2], r[3])))).collect()
 }
 
 /// The id whose tree number is field f of slot i; a tree number is cut at the largest.

@@ -1,6 +1,7 @@
 //! Runs calls on both sides, compares the whole answers and counts.
 use crate::library::{self, Given};
 use crate::questions::Asked;
+use crate::reasons::{self, Judged, Reasons};
 use crate::{memory, text};
 use calls::judge::{Answer, Call, Did, Held, held, judge};
 use calls::plain::{Id, State};
@@ -33,6 +34,7 @@ pub struct Tally {
     restored: u64,
     differences: u64,
     pub asked: Asked,
+    reasons: Reasons,
     /// The shortest description of a difference.
     shortest: Option<String>,
 }
@@ -63,7 +65,7 @@ impl Tally {
 
     /// Whether so many calls or questions differ that the run ends.
     pub fn gave_up(&self) -> bool {
-        self.differences + self.asked.differences >= LIMIT
+        self.differences + self.asked.differences + self.reasons.wrong >= LIMIT
     }
 
     /// A call on a sound state that both sides hold (none: a start). Answers what is due, and the next state
@@ -78,6 +80,7 @@ impl Tally {
         }
         self.count(on.map(|p| &p.held.plain), call, &answer);
         self.note(&parts, on.map(|p| &p.held.plain), call, &answer, &given);
+        self.explain(on.map(|p| &p.held), memory, call, answer.number);
         let next = next
             .map(|held| if parts.is_empty() { Pair { held, memory: given.memory } } else { Pair::new(held) });
         (answer, next)
@@ -88,8 +91,9 @@ impl Tally {
         let before = memory::shown(memory);
         let sound = before.clone().filter(State::sound);
         let slice = if let Call::Update(_, slice) = call { slice.clone() } else { vec![] };
-        let answer = match sound {
-            Some(s) => judge(Some(&held(s)), call).0,
+        let sound = sound.map(held);
+        let answer = match &sound {
+            Some(s) => judge(Some(s), call).0,
             None => Answer { number: 1, slice, ..Answer::default() },
         };
         let given = library::run(Some(memory), call);
@@ -103,6 +107,28 @@ impl Tally {
         *self.shown.entry(still).or_default() += (answer.number != 1) as u64;
         self.count(before.as_ref(), call, &answer);
         self.note(&parts, before.as_ref(), call, &answer, &given);
+        self.explain(sound.as_ref(), Some(memory), call, answer.number);
+    }
+
+    /// Asks why a start or a batch gets its number, and tests the reason. `before` is the state on the crate's side; there
+    /// is none before a start, and where the memory is not sound.
+    fn explain(&mut self, before: Option<&Held>, memory: Option<&sys::State>, call: &Call, number: u8) {
+        let (input, room) = match call {
+            Call::Start(input, _) => (input, 0),
+            Call::Update(input, slice) => (input, slice.len()),
+            Call::Host(_) => return,
+        };
+        let why = reasons::ask(memory.filter(|_| call.kind() == 'u'), input, room);
+        let unsound = before.is_none() && call.kind() == 'u';
+        let tested = match memory {
+            Some(memory) if unsound => why.holds_unsound(memory),
+            _ => why.holds(&Judged { number, before: before.filter(|_| call.kind() == 'u'), input, room }),
+        };
+        self.reasons.count(&why, if unsound { 2 } else { (call.kind() == 's') as usize });
+        if let Err(fault) = tested {
+            let shown = memory.and_then(memory::shown);
+            self.reasons.note(&why, fault, self.calls(), described(shown.as_ref(), call));
+        }
     }
 
     /// Counts a call: its number, what it shows, and what the crate did where document 01's own rule refuses.
@@ -157,7 +183,7 @@ impl Tally {
         if !missing.is_empty() {
             println!("\nnumbers that did not occur: {missing:?}");
         }
-        self.asked.report() & (missing.is_empty() && self.differences == 0)
+        self.asked.report() & self.reasons.report() & (missing.is_empty() && self.differences == 0)
     }
 
     /// The calls of all kinds that got this number.

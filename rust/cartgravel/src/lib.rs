@@ -1,8 +1,9 @@
 //! The accessibility tree of a payment terminal: safe types over Cartgravel's proved library.
 //!
 //! A shop draws a screen, a bank draws a payment pane inside it, and both send batches of nodes. A [`State`] is
-//! what they add up to. Each call answers what changed, a [`Report`], or why it refused, a [`Number`]. Then the state
-//! is asked: what has the focus, what it is called, what a cardholder can reach from there, each a [`NodeRef`].
+//! what they add up to. Each call answers what changed, a [`Report`], or with what it refused, a [`Number`], and then
+//! [`explain`](State::explain) says why, a [`Reason`]. Then the state is asked: what has the focus, what it is called, what
+//! a cardholder can reach from there, each a [`NodeRef`].
 //! Nothing here panics, whatever the bytes: the library is proved to answer every batch and every question on every
 //! state. Nothing allocates, and the crate needs no `std`.
 //!
@@ -40,7 +41,7 @@
 //! # Ok::<(), Box<dyn std::error::Error>>(())
 //! ```
 //!
-//! A batch that breaks a rule is refused, and the state is as it was:
+//! A batch that breaks a rule is refused, and the state is as it was, so that it can say why:
 //!
 //! ```
 //! use cartgravel::{Batch, Node, Number, RECORD_BYTES, State, TreeId};
@@ -53,6 +54,9 @@
 //! let twice = Batch::new(TreeId::ROOT, 1).nodes(&[Node::new(1).children(&[2, 2])]).encode(&mut buffer)?;
 //! assert_eq!(state.update(twice, &mut []).unwrap_err(), Number::ChildNamedTwice);
 //! assert_eq!(state, before);
+//! let why = state.explain(twice, 0);
+//! assert_eq!(why.to_string(), "node (0, 1) names the child (0, 2) twice");
+//! assert_eq!(why.reason().mend(), Some("let only the new parent name the child, once"));
 //! # Ok::<(), Box<dyn std::error::Error>>(())
 //! ```
 #![no_std]
@@ -69,6 +73,7 @@ mod iterators;
 mod label;
 mod node;
 mod number;
+mod reason;
 mod record;
 mod report;
 mod state;
@@ -83,6 +88,7 @@ pub use iterators::{NodeIds, NodeRefs, Side, Walk};
 pub use label::Label;
 pub use node::NodeRef;
 pub use number::{NoSuchNumber, Number};
+pub use reason::{Broken, Dropped, Explanation, Reason};
 pub use report::{Ids, Report};
 pub use state::{Counts, State, TreeEnds, WrongLength};
 
@@ -104,6 +110,8 @@ pub const CHANGES: usize = 1_024;
 pub const STATE_WORDS: usize = 9_640;
 /// The bytes of a state.
 pub const STATE_BYTES: usize = 8 * STATE_WORDS;
+/// The words of the way that an explanation has room for.
+pub const WAY_WORDS: usize = 66;
 /// The bytes of stack that a call needs, measured and rounded up to the next 64 KiB.
 pub const STACK: usize = 196_608;
 /// The bytes of stack that [`State::start`] needs, which answers a state by value.

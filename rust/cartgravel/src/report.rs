@@ -93,9 +93,16 @@ pub(crate) fn present(id: sys::OptionalId) -> Option<FullNodeId> {
     (id.present != 0).then_some(FullNodeId::new(TreeIndex(id.tree), NodeId(id.node)))
 }
 
-/// One of the lists of a [`Report`], as an iterator whose length is known.
+/// One of the lists of a [`Report`], or the way of a [`Reason`](crate::Reason), as an iterator whose length is known.
 #[derive(Clone, PartialEq, Eq)]
 pub struct Ids<'a>(&'a [[u64; 2]]);
+
+impl<'a> Ids<'a> {
+    /// The first n ids of some words, or as many as there are.
+    pub(crate) fn first(words: &'a [u64], n: usize) -> Self {
+        split(words.as_chunks().0, n).0
+    }
+}
 
 /// The id that two elements say. A tree number is below 32.
 pub(crate) fn full_id(&[tree, node]: &[u64; 2]) -> FullNodeId {

@@ -1,8 +1,9 @@
 //! The state, its calls and the questions about it as a whole: document 01, "The update".
 use crate::node::NodeRef;
 use crate::number::{Number, accepted};
+use crate::reason::Explanation;
 use crate::report::{Report, present};
-use crate::{FullNodeId, STATE_BYTES, TreeId, TreeIndex, sys};
+use crate::{FullNodeId, STATE_BYTES, TreeId, TreeIndex, WAY_WORDS, sys};
 use core::error::Error;
 use core::fmt;
 
@@ -66,6 +67,28 @@ impl State {
         let reply = self.0.host_focus(host_focused);
         accepted(reply.number)?;
         Ok(Report::new(&reply, &[]))
+    }
+
+    /// Why a batch on this state would get its number, or be accepted, with so many elements lent for its lists. Nothing is
+    /// changed: a batch that was refused can be explained on the same state.
+    pub fn explain(&self, batch: &[u8], room: usize) -> Explanation {
+        let mut way = [0; WAY_WORDS];
+        let why = self.0.explain(batch, room, &mut way);
+        Explanation::new(why, way)
+    }
+
+    /// Why a [`start`](State::start) would get its number, or be accepted. It works in a state of its own, so it needs
+    /// [`START_STACK`](crate::START_STACK) bytes of stack.
+    pub fn explain_start(batch: &[u8]) -> Explanation {
+        Self::blank().explain_restart(batch)
+    }
+
+    /// Why a [`restart`](State::restart) would get its number, or be accepted. It works in this state, whatever that was, and
+    /// leaves the blank one, as a refused `restart` does; it needs no more than [`STACK`](crate::STACK).
+    pub fn explain_restart(&mut self, batch: &[u8]) -> Explanation {
+        let mut way = [0; WAY_WORDS];
+        let why = self.0.explain_start(batch, &mut way);
+        Explanation::new(why, way)
     }
 
     /// How many nodes its words count, sound or not; [`counts`](State::counts) asks the library.

@@ -1,7 +1,7 @@
 //! The proved library's own structs and functions, as include/cartgravel.h has them: for programs that measure or
 //! compare them. Others use [`State`](crate::State). The only unsafe code of this crate is here.
 #![allow(unsafe_code, missing_docs)]
-use crate::{Affine, FullNodeId, Rect, STATE_WORDS, TreeId};
+use crate::{Affine, FullNodeId, Rect, STATE_WORDS, TreeId, WAY_WORDS};
 
 /// The state's memory. Any words are a value of it.
 #[repr(C)]
@@ -45,6 +45,20 @@ pub struct Report {
 pub struct Reply {
     pub lengths: Lengths,
     pub report: Report,
+    pub number: u32,
+}
+
+/// Why a call gets its number; include/cartgravel.h says what each field holds. What a number does not use is 0.
+#[repr(C)]
+#[derive(Clone, Copy, Debug, Default, PartialEq, Eq)]
+pub struct Explanation {
+    pub place: usize,
+    pub other: usize,
+    pub tree: TreeId,
+    pub node: OptionalId,
+    pub by: OptionalId,
+    pub also: OptionalId,
+    pub rule: u32,
     pub number: u32,
 }
 
@@ -172,6 +186,20 @@ unsafe extern "C" {
     ) -> Reply;
     safe fn cartgravel_host_focus(state: &mut State, host_focused: u32) -> Reply;
 
+    fn cartgravel_explain(
+        state: &State,
+        batch: *const u8,
+        length: usize,
+        room: usize,
+        way: &mut [u64; WAY_WORDS],
+    ) -> Explanation;
+    fn cartgravel_explain_start(
+        memory: &mut State,
+        batch: *const u8,
+        length: usize,
+        way: &mut [u64; WAY_WORDS],
+    ) -> Explanation;
+
     safe fn cartgravel_node(state: &State, id: FullNodeId) -> PlainNode;
     fn cartgravel_label(state: &State, id: FullNodeId, out: *mut u8, room: usize) -> Listed;
     safe fn cartgravel_focus(state: &State) -> FoundId;
@@ -232,6 +260,22 @@ impl State {
     /// A host focus change of this state.
     pub fn host_focus(&mut self, host_focused: bool) -> Reply {
         cartgravel_host_focus(self, host_focused.into())
+    }
+}
+
+/// Why a call gets its number.
+impl State {
+    /// Why a batch on this state gets its number, with so many elements lent for its lists.
+    pub fn explain(&self, batch: &[u8], room: usize, way: &mut [u64; WAY_WORDS]) -> Explanation {
+        // SAFETY: a slice's pointer is not null and points to its length of bytes, which are lent for the call; `way` is
+        // lent alone, so it overlaps nothing.
+        unsafe { cartgravel_explain(self, batch.as_ptr(), batch.len(), room, way) }
+    }
+
+    /// Why a start gets its number. This state is the memory that is worked in, and is blank afterwards.
+    pub fn explain_start(&mut self, batch: &[u8], way: &mut [u64; WAY_WORDS]) -> Explanation {
+        // SAFETY: as above; this state is lent alone too.
+        unsafe { cartgravel_explain_start(self, batch.as_ptr(), batch.len(), way) }
     }
 }
 

@@ -5,10 +5,10 @@ use Rattle.batchcheck_floats.proofs.fraction.Statement.{statement}
 use Rattle.batchcheck_floats.proofs.fraction.Tie as tie
 
 abbrev Inv-loop : tie.InvT-loop
-Inv-loop digits first place₀ place = 0 ≤ place
+Inv-loop out₀ digits first place₀ out place = 0 ≤ place
 
 abbrev μ-loop : tie.MeasureT-loop
-μ-loop digits first place₀ place = place
+μ-loop out₀ digits first place₀ out place = place
 
 pub fraction-spec : {M : Type 1} → statement M
 fraction-spec =

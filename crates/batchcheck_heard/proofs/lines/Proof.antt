@@ -5,10 +5,10 @@ use Rattle.batchcheck_heard.proofs.lines.Statement.{statement}
 use Rattle.batchcheck_heard.proofs.lines.Tie as tie
 
 abbrev Inv-loop : tie.InvT-loop
-Inv-loop state first focused roles at₀ left₀ at left = 0 ≤ left
+Inv-loop out₀ state first focused roles at₀ left₀ out at left = 0 ≤ left
 
 abbrev μ-loop : tie.MeasureT-loop
-μ-loop state first focused roles at₀ left₀ at left = left
+μ-loop out₀ state first focused roles at₀ left₀ out at left = left
 
 pub lines-spec : {M : Type 1} → statement M
 lines-spec =

@@ -1,7 +1,7 @@
 -- `calls::seed` meets its contract. Assumes nothing.
 use borrow.Author.Needs.{needs}
 use denote.Ref.{now}
-use Rattle.calls.proofs.Starts.{seed-shows}
+use Rattle.replies.proofs.Starts.{seed-shows}
 use Rattle.calls.proofs.seed.Statement.{statement}
 use Rattle.calls.proofs.seed.Tie as tie
 

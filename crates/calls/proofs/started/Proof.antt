@@ -7,8 +7,8 @@ use Rattle.update_reports.specs.Reported.{OnlyAfter}
 use Rattle.state.specs.State.{State}
 use Rattle.update_notes.specs.declared.Refusal.{Refusal}
 use Rattle.update_rows.proofs.Given.{told-start}
-use Rattle.calls.proofs.Updates.{later-pass}
-use Rattle.calls.proofs.Starts.{seed-forest, later-refused, start-accepted}
+use Rattle.replies.proofs.Updates.{later-pass}
+use Rattle.replies.proofs.Starts.{seed-forest, later-refused, start-accepted}
 use Rattle.calls.proofs.started.Statement.{statement}
 use Rattle.calls.proofs.started.Tie as tie
 

@@ -2,7 +2,7 @@
 use borrow.Author.Needs.{needs}
 use mathlib.Core.Path.{sym, ap, _∙_}
 use Rattle.update_notes.specs.declared.Refusal.{Refusal}
-use Rattle.calls.proofs.Updates.{first-refused}
+use Rattle.replies.proofs.Updates.{first-refused}
 use Rattle.calls.proofs.update.Statement.{statement}
 use Rattle.calls.proofs.update.Tie as tie
 

@@ -5,7 +5,7 @@ use Rattle.base.proofs.Tests.{not-true, not-false}
 use Rattle.update_notes.specs.declared.Refusal.{Refusal}
 use Rattle.update_rows.proofs.Given.{told-update}
 use Rattle.update_rows.proofs.Numbers.{first-passed}
-use Rattle.calls.proofs.Updates.{later-pass, later-refused, full-refused, update-accepted}
+use Rattle.replies.proofs.Updates.{later-pass, later-refused, full-refused, update-accepted}
 use Rattle.calls.proofs.updated.Statement.{statement}
 use Rattle.calls.proofs.updated.Tie as tie
 

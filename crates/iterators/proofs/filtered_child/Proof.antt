@@ -4,7 +4,7 @@ use native.Mathlib.Omega.{arith}
 use borrow.Author.Needs.{needs}
 use Rattle.questions.specs.Filters.{filterOf}
 use Rattle.iterators_shown.specs.Shown.{filteredChildOn}
-use Rattle.node.proofs.Answers.{node-refused}
+use Rattle.node_answers.proofs.Answers.{node-refused}
 use Rattle.iterators.proofs.Lists.{node-asked}
 use Rattle.iterators.proofs.filtered_child.Statement.{statement}
 use Rattle.iterators.proofs.filtered_child.Tie as tie

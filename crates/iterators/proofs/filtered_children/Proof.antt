@@ -3,7 +3,7 @@ use native.Mathlib.Omega.{arith}
 use borrow.Author.Needs.{needs}
 use Rattle.questions.specs.Filters.{filterOf}
 use Rattle.questions.specs.Walks.{filteredChildren}
-use Rattle.node.proofs.Answers.{list-refused}
+use Rattle.node_answers.proofs.Answers.{list-refused}
 use Rattle.iterators.proofs.Lists.{list-asked, children-listed}
 use Rattle.iterators.proofs.filtered_children.Statement.{statement}
 use Rattle.iterators.proofs.filtered_children.Tie as tie

@@ -4,7 +4,7 @@ use native.Mathlib.Omega.{arith}
 use borrow.Author.Needs.{needs}
 use Rattle.questions.specs.Filters.{filterOf}
 use Rattle.questions.specs.Walks.{filteredParent}
-use Rattle.node.proofs.Answers.{node-refused}
+use Rattle.node_answers.proofs.Answers.{node-refused}
 use Rattle.iterators.proofs.Lists.{node-asked}
 use Rattle.iterators.proofs.filtered_parent.Statement.{statement}
 use Rattle.iterators.proofs.filtered_parent.Tie as tie

@@ -3,7 +3,7 @@ use native.Mathlib.Omega.{arith}
 use borrow.Author.Needs.{needs}
 use Rattle.questions.specs.Filters.{filterOf}
 use Rattle.questions.specs.Walks.{filteredSiblings}
-use Rattle.node.proofs.Answers.{list-refused}
+use Rattle.node_answers.proofs.Answers.{list-refused}
 use Rattle.iterators.proofs.Lists.{list-asked}
 use Rattle.iterators.proofs.filtered_siblings.Statement.{statement}
 use Rattle.iterators.proofs.filtered_siblings.Tie as tie

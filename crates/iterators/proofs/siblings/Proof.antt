@@ -10,7 +10,7 @@ use Rattle.ids.proofs.Ids.{id-words-length}
 use Rattle.state_array.specs.View.{view}
 use Rattle.questions.specs.Answers.{written}
 use Rattle.questions.specs.Links.{siblings}
-use Rattle.node.proofs.Answers.{list-refused, list-short, list-written}
+use Rattle.node_answers.proofs.Answers.{list-refused, list-short, list-written}
 use Rattle.iterators.proofs.siblings.Statement.{statement}
 use Rattle.iterators.proofs.siblings.Tie as tie
 

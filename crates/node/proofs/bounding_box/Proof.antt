@@ -3,8 +3,8 @@ use denote.Ref.{now}
 use mathlib.Core.Path.{_≡_, sym, _∙_}
 use Rattle.state_array.specs.View.{view}
 use Rattle.questions.specs.Boxes.{boundingBox}
-use Rattle.node.proofs.Answers.{of-asked}
-use Rattle.node.proofs.Links.{box-refused, box-given}
+use Rattle.node_answers.proofs.Answers.{of-asked}
+use Rattle.node_answers.proofs.Links.{box-refused, box-given}
 use borrow.Author.Needs.{needs}
 use Rattle.node.proofs.bounding_box.Statement.{statement}
 use Rattle.node.proofs.bounding_box.Tie as tie

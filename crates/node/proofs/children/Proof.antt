@@ -10,7 +10,7 @@ use Rattle.state_array.specs.View.{view}
 use Rattle.questions.specs.Answers.{written}
 use Rattle.questions.specs.Links.{childIds}
 use Rattle.node_asked.proofs.Asks.{asked-here}
-use Rattle.node.proofs.Answers.{of-asked, list-refused, list-short, list-written}
+use Rattle.node_answers.proofs.Answers.{of-asked, list-refused, list-short, list-written}
 use borrow.Author.Needs.{needs}
 use Rattle.node.proofs.children.Statement.{statement}
 use Rattle.node.proofs.children.Tie as tie

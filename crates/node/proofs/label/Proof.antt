@@ -6,8 +6,8 @@ use mathlib.Core.List.{List}
 use lib.ListN.{length}
 use Rattle.state_array.specs.View.{view}
 use Rattle.questions.specs.Answers.{written}
-use Rattle.node.proofs.Answers.{list-refused, list-short, list-written}
-use Rattle.node.proofs.Reading.{label-long, label-is}
+use Rattle.node_answers.proofs.Answers.{list-refused, list-short, list-written}
+use Rattle.node_answers.proofs.Reading.{label-long, label-is}
 use borrow.Author.Needs.{needs}
 use Rattle.node.proofs.label.Statement.{statement}
 use Rattle.node.proofs.label.Tie as tie

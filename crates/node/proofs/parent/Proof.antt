@@ -4,8 +4,8 @@ use mathlib.Core.Path.{_≡_, sym, _∙_}
 use Rattle.state.specs.State.{parentAt}
 use Rattle.state_array.specs.View.{view}
 use Rattle.node_links.specs.Slots.{slotId}
-use Rattle.node.specs.Links.{parentAnswer}
-use Rattle.node.proofs.Answers.{of-asked, node-refused, node-given}
+use Rattle.node_answers.specs.Links.{parentAnswer}
+use Rattle.node_answers.proofs.Answers.{of-asked, node-refused, node-given}
 use borrow.Author.Needs.{needs}
 use Rattle.node.proofs.parent.Statement.{statement}
 use Rattle.node.proofs.parent.Tie as tie

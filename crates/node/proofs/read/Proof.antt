@@ -2,7 +2,7 @@
 use denote.Ref.{now}
 use mathlib.Core.Path.{sym, _∙_}
 use Rattle.node_asked.proofs.Asks.{asked-here}
-use Rattle.node.proofs.Reading.{reading-refused, reading-given}
+use Rattle.node_answers.proofs.Reading.{reading-refused, reading-given}
 use borrow.Author.Needs.{needs}
 use Rattle.node.proofs.read.Statement.{statement}
 use Rattle.node.proofs.read.Tie as tie

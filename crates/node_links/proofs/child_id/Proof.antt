@@ -10,7 +10,7 @@ returns : tie.Need-returns
 returns c = λ sound there within.
     let g = c .before .before .before in
     kid-plain _ sound _ there _ (g .before .before .shape-at .ensures) (call-false (g .is-graft .ensures) (c .before .before .if1 .taken)) _ _ _
-    (g .before .id-at .ensures) (c .child-entry .ensures) within
+    (g .before .id-at .ensures) (c .child-at .ensures) within
 
 returns-2 : tie.Need-returns-2
 returns-2 c = λ sound there within.

@@ -6,14 +6,15 @@ use borrow.Author.Needs.{needs}
 use Rattle.base.specs.Tests.{_&&_}
 use Rattle.base.proofs.Scan.{Missed, scan}
 use Rattle.ids.specs.Ids.{sameTree}
-use Rattle.record_reader.specs.Reader.{batchIn, listedAt}
+use Rattle.record.specs.Parse.{batchOf}
+use Rattle.record_reader.specs.Reader.{listedAt}
 use Rattle.update_notes.specs.Layout.{CLAIMS}
 use Rattle.update_notes.proofs.Grafts.{claim-read}
 use Rattle.update_notes.proofs.claimer_of.Statement.{statement}
 use Rattle.update_notes.proofs.claimer_of.Tie as tie
 
 abbrev Inv-loop : tie.InvT-loop
-Inv-loop batch notes k t i₀ i = Missed (λ j. eqb (getD notes (CLAIMS + j) 0) 1 && sameTree (listedAt (batchIn batch) j .body .graft) t) k i
+Inv-loop batch notes k t i₀ i = Missed (λ j. eqb (getD notes (CLAIMS + j) 0) 1 && sameTree (listedAt (batchOf batch) j .body .graft) t) k i
 
 abbrev μ-loop : tie.MeasureT-loop
 μ-loop batch notes k t i₀ i = k - i

@@ -15,9 +15,9 @@ Inv-loop state batch scope notes due firsts k done₀ i₀ j₀ done i j = Going
 
 loop-less : tie.Need-loop-less Inv-loop μ-loop
 loop-less c =
-    let before = c .before .before .before .before .before .before in
-    let far = going-within (before .before .before .pre .told) (before .loop .inv) (c .before .before .before .before .before .loop-test .taken) in
-    omega (arith, c .before .before .before .before .next-step .ensures .one-more)
+    let before = c .before .before .before .before .before .before .before in
+    let far = going-within (before .before .before .pre .told) (before .loop .inv) (c .before .before .before .before .before .before .loop-test .taken) in
+    omega (arith, c .before .before .before .before .before .next-step .ensures .one-more)
 
 pub fault-spec : {M : Type 1} → statement M
 fault-spec =
@@ -28,7 +28,7 @@ fault-spec =
     (λ c. search begins)
     (λ c κs. search needs)
     (λ c. search stops-twice)
-    (λ c κs. search needs)
+    (λ c κs. search needs) (λ c κs. search needs)
     (λ c. search stops)
     (λ c. search needs)
     loop-less

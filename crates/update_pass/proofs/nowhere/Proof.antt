@@ -2,8 +2,8 @@
 use Prim.Native.Nat.{_-_}
 use lib.ListN.{getD}
 use borrow.Author.Needs.{needs}
-use Rattle.base.proofs.Loops.{Passing, passing-begins, passing-called, any-at}
-use Rattle.update_pass.proofs.Rows.{nowhere-none}
+use Rattle.base.proofs.Loops.{Passing, passing-begins, passing-called, passing-hit, passing-ends}
+use Rattle.base.proofs.Scan.{call-is}
 use Rattle.record.specs.Batch.{namedIds}
 use Rattle.record_reader.specs.Reader.{noNode}
 use Rattle.update.specs.Numbers.{nowhere}
@@ -26,7 +26,7 @@ nowhere-spec =
     μ-loop
     (λ c. search passing-begins)
     (λ c κs. search needs)
-    (λ c. search any-at)
+    (λ c. search (passing-hit, call-is))
     (λ c. search needs) (λ c. search needs)
     (λ c. search passing-called)
-    (λ c. search nowhere-none))
+    (λ c. search passing-ends))

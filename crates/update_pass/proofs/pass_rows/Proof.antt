@@ -2,9 +2,13 @@
 use mathlib.Core.Path.{ap, _∙_}
 use borrow.Author.Needs.{needs}
 use Rattle.update_notes.specs.Setting.{refusal}
+use Rattle.update_pass.proofs.Causes.{explains-number}
 use Rattle.update_pass.proofs.pass_rows.Statement.{statement}
 use Rattle.update_pass.proofs.pass_rows.Tie as tie
 
 pub pass-rows-spec : {M : Type 1} → statement M
 pass-rows-spec =
-    tie.close (tie.spec (λ c κs. search needs) (λ c κs. search needs) (λ c. c .refuse .ensures ∙ ap refusal (c .before .pass-number .ensures)))
+    tie.close
+    (tie.spec
+    (λ c κs. search needs) (λ c κs. search needs) (λ c κs. search needs)
+    (λ c. c .refuse .ensures ∙ ap refusal (c .before .number-of .ensures ∙ explains-number (c .before .before .cause-of .ensures))))

@@ -2,7 +2,7 @@
 use native.Mathlib.Omega.{arith}
 use borrow.Author.Needs.{needs}
 use Rattle.update_notes.proofs.Told.{few-listed}
-use Rattle.update_pass.proofs.Faults.{placed-past, placed-ten, placed-claimless, placed-eleven, placed-twelve, placed-claim}
+use Rattle.update_pass.proofs.Faults.{placed-past, placed-crowded, placed-claimless, placed-root, placed-claimed, placed-claim}
 use Rattle.update_pass.proofs.placed.Statement.{statement}
 use Rattle.update_pass.proofs.placed.Tie as tie
 
@@ -12,11 +12,11 @@ placed-spec =
     (tie.spec
     (λ c. search placed-past)
     (λ c κs. search needs) (λ c κs. search needs)
-    (λ c. search placed-ten)
+    (λ c. search placed-crowded)
     (λ c. omega (arith, few-listed)) (λ c. omega (arith, few-listed)) (λ c. omega (arith, few-listed))
     (λ c. search placed-claimless)
     (λ c κs. search needs) (λ c κs. search needs)
-    (λ c. search placed-eleven)
+    (λ c. search placed-root)
     (λ c κs. search needs)
-    (λ c. search placed-claim)
-    (λ c. search placed-twelve))
+    (λ c. search placed-claimed)
+    (λ c. search placed-claim))

@@ -1,7 +1,5 @@
 -- `update_pass::takes` meets its contract. Assumes nothing.
-use mathlib.Core.Path.{sym, ap, _∙_}
 use borrow.Author.Needs.{needs}
-use Rattle.ids.specs.Ids.{sameTree}
 use Rattle.update_pass.specs.Steps.{isTaken}
 use Rattle.update_pass.proofs.Faults.{untaken, taken}
 use Rattle.update_pass.proofs.takes.Statement.{statement}
@@ -14,4 +12,4 @@ takes-spec =
     (λ c. search needs) (λ c. search needs) (λ c. search needs) (λ c. search needs)
     (λ c. unfold isTaken in (search untaken))
     (λ c κs. search needs) (λ c κs. search needs)
-    (λ c. unfold isTaken in (c .same-tree .ensures ∙ ap (sameTree _) (c .before .graft .ensures) ∙ sym (taken _ _ _ (c .before .before .if1 .left)))))
+    (λ c. unfold isTaken in (search taken)))

@@ -1,6 +1,6 @@
 -- `update_plan::add_listed` meets its contract. Assumes nothing.
 use Rattle.update_notes.proofs.Told.{few-listed}
-use Rattle.update_plan.proofs.Planned.{plan-old, plan-new}
+use Rattle.update_plan.proofs.Planned.{few-slots, plan-old, plan-new}
 use borrow.Author.Needs.{needs}
 use native.Mathlib.Omega.{arith}
 use Rattle.update_plan.proofs.add_listed.Statement.{statement}
@@ -15,6 +15,6 @@ add-listed-spec =
     (λ c. search plan-old)
     (λ c κs. search needs)
     (λ c. omega (arith, few-listed))
-    (λ c κs. omega (arith, few-listed))
+    (λ c κs. omega (arith, few-listed, few-slots _ _ _ (c .before .before .before .before .before .before .before .pre .0 .told .given)))
     (λ c. omega (arith, few-listed))
     (λ c. search plan-new))

@@ -3,6 +3,7 @@ use denote.Ref.{now}
 use mathlib.Core.Path.{_≡_, refl}
 use Prim.Native.Nat.{_≤_, _-_}
 use lib.ListN.{length, length-set}
+use Rattle.update_notes.specs.Layout.{WORDS}
 use Rattle.update_plan.proofs.Codes.{Shifted, shift-none, shift-one, shift-end}
 use native.Mathlib.Omega.{arith}
 use borrow.Author.Needs.{needs}
@@ -10,7 +11,7 @@ use Rattle.update_plan.proofs.insert.Statement.{statement}
 use Rattle.update_plan.proofs.insert.Tie as tie
 
 abbrev Inv-loop : tie.InvT-loop
-Inv-loop notes₀ count at code r₀ notes r = (at ≤ r) × (r ≤ count) × (length notes ≡ 4096) × Shifted notes₀ count r notes
+Inv-loop notes₀ count at code r₀ notes r = (at ≤ r) × (r ≤ count) × (length notes ≡ WORDS) × Shifted notes₀ count r notes
 
 abbrev μ-loop : tie.MeasureT-loop
 μ-loop notes₀ count at code r₀ notes r = r - at

@@ -3,7 +3,8 @@ use denote.Ref.{now}
 use mathlib.Core.Path.{ap₂, refl}
 use Prim.Native.Nat.{_+_, _-_}
 use lib.ListN.{length}
-use Rattle.record_reader.specs.Reader.{batchIn, listedAt, fieldAt}
+use Rattle.record.specs.Parse.{batchOf}
+use Rattle.record_reader.specs.Reader.{listedAt, fieldAt}
 use Rattle.update_notes.specs.Layout.{ENDS}
 use Rattle.update_notes.proofs.Told.{few-listed, told-filled}
 use Rattle.record_view.proofs.View.{end-small}
@@ -18,7 +19,7 @@ abbrev μ-loop : tie.MeasureT-loop
 μ-loop state batch notes₀ k i₀ notes i = k - i
 
 abbrev Inv-loop : tie.InvT-loop
-Inv-loop state batch notes₀ k i₀ notes i = Filling ENDS 64 k (λ j. fieldAt 2 batch j 32 + length (listedAt (batchIn batch) j .body .children)) notes₀ i notes
+Inv-loop state batch notes₀ k i₀ notes i = Filling ENDS 64 k (λ j. fieldAt 2 batch j 32 + length (listedAt (batchOf batch) j .body .children)) notes₀ i notes
 
 add-end : tie.Need-add-end Inv-loop μ-loop
 add-end c =

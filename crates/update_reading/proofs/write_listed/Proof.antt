@@ -2,7 +2,8 @@
 use mathlib.Core.Path.{ap, refl}
 use Prim.Native.Nat.{_-_}
 use Rattle.ids.specs.declared.NodeId.{NodeId}
-use Rattle.record_reader.specs.Reader.{batchIn, listedAt}
+use Rattle.record.specs.Parse.{batchOf}
+use Rattle.record_reader.specs.Reader.{listedAt}
 use Rattle.update_notes.specs.Layout.{LISTED}
 use Rattle.update_notes.proofs.Told.{few-listed, told-filled}
 use Rattle.update_reading.proofs.Reading.{listed-is}
@@ -16,7 +17,7 @@ abbrev μ-loop : tie.MeasureT-loop
 μ-loop state batch notes₀ k i₀ notes i = k - i
 
 abbrev Inv-loop : tie.InvT-loop
-Inv-loop state batch notes₀ k i₀ notes i = Filling LISTED 64 k (λ j. listedAt (batchIn batch) j .id .0) notes₀ i notes
+Inv-loop state batch notes₀ k i₀ notes i = Filling LISTED 64 k (λ j. listedAt (batchOf batch) j .id .0) notes₀ i notes
 
 returns : tie.Need-returns Inv-loop μ-loop
 returns c =

@@ -53,7 +53,7 @@ returns c =
     (k .1 ∙ ap length (picked-updated (s .pre)))
     (k .2 ∙ ap length (picked-removed (s .pre)))
     (k .3 ∙ ap length (picked-relinked (s .pre)))
-    refl (not-true (c .if1 .taken))
+    refl refl (not-true (c .if1 .taken))
 
 returns-2 : tie.Need-returns-2
 returns-2 c =
@@ -70,7 +70,7 @@ returns-2 c =
     let removed = picked-removed (s .pre) in
     let relinked = picked-relinked (s .pre) in
     lists-slice-after (changesIn (now (a .state)) (now (a .batch)) (a .scope)) (now (a .changes)) _ (k .0 ∙ ap length added) (k .1 ∙ ap length updated)
-    (k .2 ∙ ap length removed) (k .3 ∙ ap length relinked) refl (not-false (e .if1 .left)) _ _ _ _ _ _ _ _ (rw added at (one .write-list .ensures))
+    (k .2 ∙ ap length removed) (k .3 ∙ ap length relinked) refl refl (not-false (e .if1 .left)) _ _ _ _ _ _ _ _ (rw added at (one .write-list .ensures))
     (rw updated at (two .write-list2 .ensures)) (rw removed at (three .write-list3 .ensures)) (rw relinked at (four .write-list4 .ensures))
 
 pub write-lists-spec : {M : Type 1} → statement M

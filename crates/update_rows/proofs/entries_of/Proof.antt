@@ -3,7 +3,7 @@ use denote.Ref.{now}
 use mathlib.Core.Path.{_≡_, _∙_}
 use Prim.Native.Nat.{_+_, _-_}
 use lib.ListN.{length}
-use Rattle.record_reader.specs.Reader.{batchIn}
+use Rattle.record.specs.Parse.{batchOf}
 use Rattle.update_rows.proofs.Given.{entries-none, entries-last}
 use borrow.Author.Needs.{needs}
 use native.Mathlib.Omega.{arith}
@@ -15,7 +15,7 @@ returns-2 c =
     let bytes = now (c .before .before .before .before .args .batch) in
     let k = c .before .before .node-count .result in
     λ formed.
-    let last : k - 1 + 1 ≡ length (batchIn bytes .nodes) = omega (arith, c .before .before .node-count .ensures) in
+    let last : k - 1 + 1 ≡ length (batchOf bytes .nodes) = omega (arith, c .before .before .node-count .ensures) in
     c .children-end .ensures ∙ entries-last bytes formed (k - 1) last
 
 pub entries-of-spec : {M : Type 1} → statement M

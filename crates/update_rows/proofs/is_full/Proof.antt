@@ -1,7 +1,7 @@
 -- `update_rows::is_full` meets its contract: the search of the table says both. Assumes nothing.
 use denote.Ref.{now}
 use Rattle.base.specs.Tests.{_&&_}
-use Rattle.record_reader.specs.Reader.{batchIn}
+use Rattle.record.specs.Parse.{batchOf}
 use Rattle.update_rows.proofs.Outcomes.{full-is}
 use borrow.Author.Needs.{needs}
 use Rattle.update_rows.proofs.is_full.Statement.{statement}
@@ -10,7 +10,7 @@ use Rattle.update_rows.proofs.is_full.Tie as tie
 returns : tie.Need-returns
 unfolding _&&_
 returns c = let a = c .before .before .before .before .args in
-    rw (c .before .before .trees .ensures) (full-is (now (a .state)) (batchIn (now (a .batch))) _ (rw (c .before .tree-id .ensures) at (c .find-tree .ensures)))
+    rw (c .before .before .trees .ensures) (full-is (now (a .state)) (batchOf (now (a .batch))) _ (rw (c .before .tree-id .ensures) at (c .find-tree .ensures)))
 
 pub is-full-spec : {M : Type 1} → statement M
 is-full-spec = tie.close (tie.spec (λ c κs. search needs) (λ c κs. search needs) (λ c κs. search needs) returns)

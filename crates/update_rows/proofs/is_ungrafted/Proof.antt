@@ -3,7 +3,7 @@ use denote.Ref.{now}
 use mathlib.Core.Path.{sym}
 use Rattle.base.specs.Tests.{_&&_}
 use Rattle.base.proofs.Tests.{call-true, call-false}
-use Rattle.record_reader.specs.Reader.{batchIn}
+use Rattle.record.specs.Parse.{batchOf}
 use Rattle.update.specs.Words.{withTreeData}
 use Rattle.update_rows.specs.Parts.{ungrafted}
 use Rattle.update_rows.proofs.Outcomes.{ungrafted-is}
@@ -15,7 +15,7 @@ returns-2 : tie.Need-returns-2
 unfolding _&&_
 returns-2 c = let a = c .before .before .before .before .before .before .before .args in
     rw (c .before .before .is-root-id .ensures, c .before .before .before .tree-id .ensures, c .before .slots .ensures)
-    (ungrafted-is (now (a .state)) (batchIn (now (a .batch))) _ (rw (c .before .before .before .tree-id .ensures) at (c .holder-of .ensures)) (call-true (c .before .before .before .before .before .has-tree-data .ensures) (c .before .before .before .before .if1 .left)))
+    (ungrafted-is (now (a .state)) (batchOf (now (a .batch))) _ (rw (c .before .before .before .tree-id .ensures) at (c .holder-of .ensures)) (call-true (c .before .before .before .before .before .has-tree-data .ensures) (c .before .before .before .before .if1 .left)))
 
 pub is-ungrafted-spec : {M : Type 1} → statement M
 is-ungrafted-spec =

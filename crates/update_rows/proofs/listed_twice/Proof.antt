@@ -1,29 +1,8 @@
--- `update_rows::listed_twice` meets its contract: the numbers passed are read out, and differ. Assumes nothing.
-use Prim.Native.Nat.{_-_}
-use Rattle.record_reader.specs.Reader.{batchIn}
-use Rattle.update_rows.proofs.Clashes.{Listing, listing-begins, listing-found, listing-goes, listing-ends}
+-- `update_rows::listed_twice` meets its contract: the first node that is listed again is one of them. Assumes nothing.
+use Rattle.update_rows.proofs.Clashes.{again-twice}
 use borrow.Author.Needs.{needs}
-use native.Mathlib.Omega.{arith}
 use Rattle.update_rows.proofs.listed_twice.Statement.{statement}
 use Rattle.update_rows.proofs.listed_twice.Tie as tie
 
-abbrev μ-loop : tie.MeasureT-loop
-μ-loop batch k seen₀ i₀ seen i = k - i
-
-abbrev Inv-loop : tie.InvT-loop
-Inv-loop batch k seen₀ i₀ seen i = Listing (batchIn batch) k i seen
-
 pub listed-twice-spec : {M : Type 1} → statement M
-listed-twice-spec =
-    tie.close
-    (tie.spec
-    Inv-loop
-    μ-loop
-    (λ c κs. search needs)
-    (λ c. search listing-begins)
-    (λ c κs. search needs)
-    (λ c κs. omega arith)
-    (λ c. search listing-found)
-    (λ c. search needs) (λ c. search needs) (λ c. search needs) (λ c. search needs)
-    (λ c. search listing-goes)
-    (λ c. search listing-ends))
+listed-twice-spec = tie.close (tie.spec (λ c κs. search needs) (λ c κs. search needs) (λ c. search again-twice))

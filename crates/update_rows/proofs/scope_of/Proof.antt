@@ -5,7 +5,7 @@ use mathlib.Core.Path.{ap, _∙_}
 use Rattle.base.specs.Tests.{if_then_else_}
 use Rattle.ids.specs.Ids.{ROOT, sameTree}
 use Rattle.ids.specs.declared.TreeIndex.{TreeIndex}
-use Rattle.record_reader.specs.Reader.{batchIn}
+use Rattle.record.specs.Parse.{batchOf}
 use Rattle.record_reader.specs.declared.BatchHeader.{BatchHeader}
 use Rattle.update.specs.Words.{here, withTreeData}
 use Rattle.update_notes.specs.Setting.{rootIn}
@@ -20,7 +20,7 @@ returns c = let a = c .before .before .before .before .before .before .before .b
     let header = c .before .before .before .before .before .before .read-header .ensures in
     let id = ap (λ (h : BatchHeader). h .tree) header in
     let after = c .before .before .before .root-after in
-    let tree = number-is (now (a .state)) (batchIn (now (a .batch))) _ (rw id at (c .before .before .before .before .find-tree .ensures)) in
+    let tree = number-is (now (a .state)) (batchOf (now (a .batch))) _ (rw id at (c .before .before .before .before .find-tree .ensures)) in
     λ formed.
     record {
       tree = tree;

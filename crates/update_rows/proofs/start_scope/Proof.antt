@@ -1,7 +1,7 @@
 -- `update_rows::start_scope` meets its contract, part by part. Assumes nothing.
 use denote.Ref.{now}
 use mathlib.Core.Path.{refl, sym, ap}
-use Rattle.record_reader.specs.Reader.{batchIn}
+use Rattle.record.specs.Parse.{batchOf}
 use Rattle.record_reader.specs.declared.BatchHeader.{BatchHeader}
 use Rattle.update.specs.Words.{withTreeData}
 use Rattle.update.specs.Calls.{withoutTreeData}
@@ -19,12 +19,12 @@ returns c = let bytes = now (c .before .before .before .before .args .batch) in
     λ e.
     let p = start-begun bytes e in
     record {
-      tree = start-number (batchIn bytes) (p .root-tree);
+      tree = start-number (batchOf bytes) (p .root-tree);
       root-tree = sym (p .root-tree);
       listed = ap (λ (h : BatchHeader). h .nodes) header;
       named = c .entries-of .ensures (p .formed);
       tree-data = refl;
-      root = rw (ap (λ (h : BatchHeader). h .root) header) (sym (start-root (batchIn bytes) (p .root-tree) (p .rooted)));
+      root = rw (ap (λ (h : BatchHeader). h .root) header) (sym (start-root (batchOf bytes) (p .root-tree) (p .rooted)));
     }
 
 pub start-scope-spec : {M : Type 1} → statement M

@@ -3,7 +3,7 @@ use crate::batch::{every_field, full};
 use crate::record;
 use cartgravel::{
     Affine, CHANGES, CHILD_ENTRIES, Filter, FullNodeId, LABEL_BYTES, LISTED_NODES, NODES, Node, Number,
-    RECORD_BYTES, Rect, STACK, STATE_BYTES, STATE_WORDS, Side, TREES, TreeId, sys,
+    RECORD_BYTES, Rect, STACK, STATE_BYTES, STATE_WORDS, Side, TREES, TreeId, WAY_WORDS, sys,
 };
 
 const HEADER: &str = include_str!("../../../../include/cartgravel.h");
@@ -33,6 +33,7 @@ fn sizes() {
     assert_eq!(value("IDS"), 2 * NODES);
     assert_eq!(value("STATE_WORDS"), STATE_WORDS);
     assert_eq!(value("STATE_BYTES"), STATE_BYTES);
+    assert_eq!(value("WAY_WORDS"), WAY_WORDS);
     assert_eq!(value("STACK"), STACK);
 }
 
@@ -68,6 +69,7 @@ fn structs() {
         ("reply", size_of::<sys::Reply>()),
         ("node_id", size_of::<FullNodeId>()),
         ("uuid", size_of::<TreeId>()),
+        ("explanation", size_of::<sys::Explanation>()),
         ("found", size_of::<sys::FoundId>()),
         ("listed", size_of::<sys::Listed>()),
         ("flag", size_of::<sys::Flag>()),
@@ -112,6 +114,9 @@ fn fields_in_order() {
     let walk = places!(sys::Walk: node side filter count);
     assert!(walk.1.is_sorted());
     assert_eq!(fields("walk"), walk.0);
+    let why = places!(sys::Explanation: place other tree node by also rule number);
+    assert!(why.1.is_sorted());
+    assert_eq!(fields("explanation"), why.0);
     let counts = places!(sys::PlainCounts: nodes trees host_focused number);
     assert!(counts.1.is_sorted());
     assert_eq!(fields("counts_answer"), counts.0);

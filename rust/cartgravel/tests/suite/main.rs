@@ -8,6 +8,7 @@ mod ids;
 mod links;
 mod misuse;
 mod number;
+mod reasons;
 mod refusals;
 mod speak;
 mod state;

@@ -159,7 +159,7 @@ fn a_start_in_place() {
 }
 
 /// A start and a batch of the most nodes, with full labels.
-fn large() -> [Vec<u8>; 2] {
+pub fn large() -> [Vec<u8>; 2] {
     let large = |id| plain(id).label(&[b'a'; 32]).bounds([1.0; 4]).transform([1.0; 6]);
     let children: Vec<u64> = (2..=64).collect();
     let family = |leaves: &mut dyn Iterator<Item = u64>| {
@@ -171,7 +171,7 @@ fn large() -> [Vec<u8>; 2] {
 }
 
 /// Runs a call on a thread with this stack. With less than the call needs, the process ends here.
-fn on_a_stack<T: Send + 'static>(size: usize, call: impl FnOnce() -> T + Send + 'static) -> T {
+pub fn on_a_stack<T: Send + 'static>(size: usize, call: impl FnOnce() -> T + Send + 'static) -> T {
     thread::Builder::new().stack_size(size).spawn(call).unwrap().join().unwrap()
 }
 
@@ -197,7 +197,7 @@ fn the_stack_that_a_call_needs() {
 }
 
 /// A chain of 256 nodes, each of which clips its child and shifts it by (1, 1).
-fn chain() -> Box<State> {
+pub fn chain() -> Box<State> {
     let below: Vec<[u64; 1]> = (1..=256).map(|id| [id + 1]).collect();
     let node = |id: u64, last| {
         let children = if id < last { &below[id as usize - 1][..] } else { &[] };

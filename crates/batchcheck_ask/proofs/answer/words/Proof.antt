@@ -5,10 +5,10 @@ use Rattle.batchcheck_ask.proofs.answer.words.Statement.{statement}
 use Rattle.batchcheck_ask.proofs.answer.words.Tie as tie
 
 abbrev Inv-loop : tie.InvT-loop
-Inv-loop line c₀ turns₀ t4 t5 t6 c turns = 0 ≤ turns
+Inv-loop out₀ line c₀ turns₀ t5 t6 t7 out c turns = 0 ≤ turns
 
 abbrev μ-loop : tie.MeasureT-loop
-μ-loop line c₀ turns₀ t4 t5 t6 c turns = turns
+μ-loop out₀ line c₀ turns₀ t5 t6 t7 out c turns = turns
 
 pub words-spec : {M : Type 1} → statement M
 words-spec =

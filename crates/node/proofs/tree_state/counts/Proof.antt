@@ -4,7 +4,7 @@ use mathlib.Core.Path.{sym, _∙_}
 use Rattle.base.proofs.Tests.{call-false, call-true}
 use Rattle.base.proofs.Bytes.{length-list-of}
 use Rattle.state_array.specs.View.{nodeIn, entryIn, slotsOf, treesOf, view}
-use Rattle.node.proofs.TreeState.{counts-unsound, counts-sound}
+use Rattle.node_answers.proofs.TreeState.{counts-unsound, counts-sound}
 use borrow.Author.Needs.{needs}
 use Rattle.node.proofs.tree_state.counts.Statement.{statement}
 use Rattle.node.proofs.tree_state.counts.Tie as tie

@@ -1,7 +1,7 @@
 -- `node::tree_state::found_ends` meets its contract: a law for each way out. Assumes nothing.
 use denote.Ref.{now}
 use native.Mathlib.Omega.{arith}
-use Rattle.node.proofs.TreeState.{no-ends, unborn-ends, ends-are}
+use Rattle.node_answers.proofs.TreeState.{no-ends, unborn-ends, ends-are}
 use borrow.Author.Needs.{needs}
 use Rattle.node.proofs.tree_state.found_ends.Statement.{statement}
 use Rattle.node.proofs.tree_state.found_ends.Tie as tie

@@ -1,7 +1,7 @@
 -- `node::tree_state::found_id` meets its contract: a law for each way out. Assumes nothing.
 use denote.Ref.{now}
 use native.Mathlib.Omega.{arith}
-use Rattle.node.proofs.TreeState.{no-id, tree-id-is}
+use Rattle.node_answers.proofs.TreeState.{no-id, tree-id-is}
 use borrow.Author.Needs.{needs}
 use Rattle.node.proofs.tree_state.found_id.Statement.{statement}
 use Rattle.node.proofs.tree_state.found_id.Tie as tie

@@ -1,7 +1,7 @@
 -- `node::tree_state::found_index` meets its contract: a law for each way out. Assumes nothing.
 use denote.Ref.{now}
 use native.Mathlib.Omega.{arith}
-use Rattle.node.proofs.TreeState.{no-index, index-is}
+use Rattle.node_answers.proofs.TreeState.{no-index, index-is}
 use borrow.Author.Needs.{needs}
 use Rattle.node.proofs.tree_state.found_index.Statement.{statement}
 use Rattle.node.proofs.tree_state.found_index.Tie as tie

@@ -2,7 +2,7 @@
 use denote.Ref.{now}
 use Rattle.state_array.specs.View.{view}
 use Rattle.state_focus.specs.Focus.{foundOf}
-use Rattle.node.proofs.TreeState.{root-none, root-at}
+use Rattle.node_answers.proofs.TreeState.{root-none, root-at}
 use borrow.Author.Needs.{needs}
 use Rattle.node.proofs.tree_state.found_root.Statement.{statement}
 use Rattle.node.proofs.tree_state.found_root.Tie as tie

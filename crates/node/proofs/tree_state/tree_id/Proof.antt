@@ -2,7 +2,7 @@
 use denote.Ref.{now}
 use Rattle.base.proofs.Tests.{call-false, call-true}
 use Rattle.state_array.specs.View.{view}
-use Rattle.node.proofs.TreeState.{tree-id-unsound, tree-id-sound}
+use Rattle.node_answers.proofs.TreeState.{tree-id-unsound, tree-id-sound}
 use borrow.Author.Needs.{needs}
 use Rattle.node.proofs.tree_state.tree_id.Statement.{statement}
 use Rattle.node.proofs.tree_state.tree_id.Tie as tie

@@ -6,40 +6,10 @@ use Rattle.program_text.proofs.faults.printable.Statement.{statement}
 use Rattle.program_text.proofs.faults.printable.Tie as tie
 
 abbrev Inv-loop : tie.InvT-loop
-Inv-loop word i₀ t3 i = 0 ≤ i
+Inv-loop out₀ word plain i₀ t5 out i = 0 ≤ i
 
 abbrev μ-loop : tie.MeasureT-loop
-μ-loop word i₀ t3 i = length word - i
-
-loop-holds : tie.Need-loop-holds Inv-loop μ-loop
-loop-holds c = search needs
-
-slice-aggregate-put : tie.Need-slice-aggregate-put Inv-loop μ-loop
-slice-aggregate-put c = search needs
-
-put-requires : tie.Need-put-requires Inv-loop μ-loop
-put-requires c κs = search needs
-
-returns : tie.Need-returns Inv-loop μ-loop
-returns c = search needs
-
-shared-slice-read-letter : tie.Need-shared-slice-read-letter Inv-loop μ-loop
-shared-slice-read-letter c = search needs
-
-letter-requires : tie.Need-letter-requires Inv-loop μ-loop
-letter-requires c κs = search needs
-
-add-i : tie.Need-add-i Inv-loop μ-loop
-add-i c = search needs
-
-loop-less : tie.Need-loop-less Inv-loop μ-loop
-loop-less c = search needs
-
-loop-again : tie.Need-loop-again Inv-loop μ-loop
-loop-again c = search needs
-
-returns-2 : tie.Need-returns-2 Inv-loop μ-loop
-returns-2 c = search needs
+μ-loop out₀ word plain i₀ t5 out i = length word - i
 
 pub printable-spec : {M : Type 1} → statement M
 printable-spec =
@@ -47,13 +17,14 @@ printable-spec =
     (tie.spec
     Inv-loop
     μ-loop
-    loop-holds
-    slice-aggregate-put
-    put-requires
-    returns
-    shared-slice-read-letter
-    letter-requires
-    add-i
-    loop-less
-    loop-again
-    returns-2)
+    (λ c κs. search needs)
+    (λ c. search needs)
+    (λ c. search needs)
+    (λ c κs. search needs)
+    (λ c. search needs)
+    (λ c. search needs)
+    (λ c κs. search needs)
+    (λ c. search needs)
+    (λ c. search needs)
+    (λ c. search needs)
+    (λ c. search needs))

@@ -6,10 +6,10 @@ use Rattle.program_text.proofs.print.tell.Statement.{statement}
 use Rattle.program_text.proofs.print.tell.Tie as tie
 
 abbrev Inv-loop : tie.InvT-loop
-Inv-loop text x y t n from₀ at₀ from at = 0 ≤ at
+Inv-loop out₀ text x y t n from₀ at₀ out from at = 0 ≤ at
 
 abbrev μ-loop : tie.MeasureT-loop
-μ-loop text x y t n from₀ at₀ from at = length text - at
+μ-loop out₀ text x y t n from₀ at₀ out from at = length text - at
 
 pub tell-spec : {M : Type 1} → statement M
 tell-spec =

@@ -1,0 +1,17 @@
+pub mod First
+pub mod Numbers
+pub mod Steps
+pub mod Places
+pub mod Broken
+pub mod Links
+pub mod Unsound
+pub mod Kept
+pub mod Complete
+pub mod Exact
+pub mod Events
+pub mod Pass
+pub mod Dropped
+pub mod Focus
+pub mod Clash
+pub mod Truth
+pub mod Cases

@@ -1,0 +1,7 @@
+pub mod Reasons
+pub mod Shape
+pub mod Pass
+pub mod Outcome
+pub mod Explain
+pub mod Holds
+pub mod Cases

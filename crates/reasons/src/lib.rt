@@ -1,0 +1,1 @@
+// Why a call answers its number: the definitions stand in specs/.

@@ -1,0 +1,4 @@
+pub mod Below
+pub mod Gathering
+pub mod Meeting
+pub mod Marks

@@ -1,0 +1,19 @@
+-- `reasons_rows::listed_again` meets its contract. Assumes nothing.
+use borrow.Author.Needs.{needs}
+use Rattle.reasons_why.specs.Why.{found}
+use Rattle.reasons_rows.proofs.Again.{again-none, again-some}
+use Rattle.reasons_rows.proofs.listed_again.Statement.{statement}
+use Rattle.reasons_rows.proofs.listed_again.Tie as tie
+
+returns-2 : tie.Need-returns-2
+unfolding found
+returns-2 c = search again-some
+
+pub listed-again-spec : {M : Type 1} → statement M
+listed-again-spec =
+    tie.close
+    (tie.spec
+    (λ c κs. search needs) (λ c κs. search needs) (λ c κs. search needs)
+    (λ c. search again-none)
+    (λ c κs. search needs)
+    returns-2)

@@ -1,0 +1,5 @@
+pub mod Chain
+pub mod Slots
+pub mod Least
+pub mod LinkRules
+pub mod TreeRules

@@ -1,0 +1,25 @@
+-- `record_layout::transform_finite` meets its contract. Assumes nothing.
+use Rattle.base.specs.Tests.{_&&_}
+use Rattle.geometry.specs.Geometry.{affineTest}
+use borrow.Author.Needs.{needs}
+use Rattle.record_layout.proofs.transform_finite.Statement.{statement}
+use Rattle.record_layout.proofs.transform_finite.Tie as tie
+
+pub transform-finite-spec : {M : Type 1} → statement M
+unfolding _&&_ affineTest
+transform-finite-spec =
+    tie.close
+    (tie.spec
+    (λ c. search needs)
+    (λ c κs. search needs)
+    (λ c. search needs)
+    (λ c κs. search needs)
+    (λ c. search needs)
+    (λ c κs. search needs)
+    (λ c. search needs)
+    (λ c κs. search needs)
+    (λ c. search needs)
+    (λ c κs. search needs)
+    (λ c. search needs)
+    (λ c κs. search needs)
+    (λ c. cc))

@@ -1,0 +1,13 @@
+-- `replies::host_flag` meets its contract. Assumes nothing.
+use borrow.Author.Tests.{eq-eqb, ne-eqb}
+use Rattle.replies.proofs.host_flag.Statement.{statement}
+use Rattle.replies.proofs.host_flag.Tie as tie
+
+returns : tie.Need-returns
+returns c = rw (eq-eqb _ 0 (c .if1 .taken))
+
+returns-2 : tie.Need-returns-2
+returns-2 c = rw (ne-eqb _ 0 (c .if1 .left))
+
+pub host-flag-spec : {M : Type 1} → statement M
+host-flag-spec = tie.close (tie.spec returns returns-2)
