@@ -1,7 +1,8 @@
 #!/usr/bin/env python3
 """round_trip.py [COUNT]: records at random, each decoded by batchcheck and read again; every byte must come back.
 
-It runs target/bin/batchcheck, in a folder of its own, and says how many records came back.
+It runs target/bin/batchcheck, in a folder of its own, and says how many records came back. All are read in one run, with a file of bytes that
+are no record before each, so that nothing of one call may stay in the next.
 """
 import os
 import random
@@ -59,21 +60,30 @@ def record(r):
     return head + nodes + entries + labels
 
 
+def run(*arguments):
+    return subprocess.run([PROGRAM, *arguments], capture_output=True, check=True).stdout
+
+
 def main():
     r = random.Random(1)
-    count = int(sys.argv[1]) if len(sys.argv) > 1 else 200
+    records = [record(r) for _ in range(int(sys.argv[1]) if len(sys.argv) > 1 else 200)]
     with tempfile.TemporaryDirectory() as folder:
         path = lambda name: os.path.join(folder, name)
-        for i in range(count):
-            first = record(r)
+        with open(path("none"), "wb") as f:
+            f.write(b"\xff" * 20000)
+        text = b""
+        for first in records:
             with open(path("first"), "wb") as f:
                 f.write(first)
-            text = subprocess.run([PROGRAM, "--decode", path("first")], capture_output=True, check=True).stdout
-            subprocess.run([PROGRAM, "--quiet", "--record", path("again")], input=text, capture_output=True, check=True)
-            with open(path("again"), "rb") as f:
+            text += b"batch raw none\n" + run("--decode", path("first"))
+        with open(path("text"), "wb") as f:
+            f.write(text)
+        run("--quiet", "--record", path("again-#"), path("text"))
+        for i, first in enumerate(records):
+            with open(path(f"again-{2 * i + 2}"), "rb") as f:
                 if f.read() != first:
-                    sys.exit(f"record {i} does not come back:\n{text.decode(errors='replace')}")
-    print(count, "records came back")
+                    sys.exit(f"record {i} does not come back")
+    print(len(records), "records came back")
 
 
 main()

@@ -79,7 +79,7 @@ fn show_state<'a>(out: &mut Out, state: &'a State, show: Show, roles: &'a [u8; 4
     }
 }
 
-// A call with its record put into `bytes`: what its draft has, or a file that its line names. `name` is the text's own. It is bad where the file
+// A call with its record put into `bytes`, which are zeros: what its draft has, or a file that its line names. `name` is the text's own. It is bad where the file
 // cannot be read.
 pub(crate) fn loaded<'a>(
     call: Call,

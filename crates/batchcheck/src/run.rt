@@ -24,7 +24,6 @@ pub(crate) fn run(out: &mut Out, fd: i32, numbers: i32, name: &[u8], show: Show)
     let mut text = [0u8; 8192];
     let mut list = io::large_buffer();
     let mut entry = [0u8; 8192];
-    let mut bytes = [0u8; 12489];
     let mut roles = roles::known();
     let mut input = lines::of(fd);
     let mut wanted = wanted::of(numbers);
@@ -45,6 +44,7 @@ pub(crate) fn run(out: &mut Out, fd: i32, numbers: i32, name: &[u8], show: Show)
         call = with_line(out, call, &mut draft, line, input, &mut roles);
         if call.stage == script::DUE {
             wanted = wanted::up_to(out, wanted, call.number, &mut list, &mut entry);
+            let mut bytes = [0u8; 12489];
             let due = perform::loaded(call, &draft, line, name, &mut bytes);
             let told = with_number(due, wanted, show.expect);
             let answered = perform::perform(out, &mut state, told, &bytes, line, show, &roles);

@@ -5,10 +5,10 @@ use Rattle.batchcheck.proofs.run.run.Statement.{statement}
 use Rattle.batchcheck.proofs.run.run.Tie as tie
 
 abbrev Inv-loop : tie.InvT-loop
-Inv-loop out₀ fd numbers name show chunk₀ text₀ list₀ entry₀ bytes₀ roles₀ input₀ wanted₀ call₀ draft₀ state₀ status₀ turns₀ out chunk text list entry bytes roles input wanted call draft state status turns = 0 ≤ turns
+Inv-loop out₀ fd numbers name show chunk₀ text₀ list₀ entry₀ roles₀ input₀ wanted₀ call₀ draft₀ state₀ status₀ turns₀ out chunk text list entry roles input wanted call draft state status turns = 0 ≤ turns
 
 abbrev μ-loop : tie.MeasureT-loop
-μ-loop out₀ fd numbers name show chunk₀ text₀ list₀ entry₀ bytes₀ roles₀ input₀ wanted₀ call₀ draft₀ state₀ status₀ turns₀ out chunk text list entry bytes roles input wanted call draft state status turns = turns
+μ-loop out₀ fd numbers name show chunk₀ text₀ list₀ entry₀ roles₀ input₀ wanted₀ call₀ draft₀ state₀ status₀ turns₀ out chunk text list entry roles input wanted call draft state status turns = turns
 
 pub run-spec : {M : Type 1} → statement M
 run-spec =
