@@ -166,7 +166,7 @@ module _ (s : Forest) (b : Batch) where
   placeless-some i (l ∷ ls) = by-test (placeless s b l) (λ t. rw t) (λ t. rw t (placeless-some (suc i) ls))
 
   -- row 14
-  nowhere-some : (ls : List Listed) → isSome (firstGiven (nowhereUnder s b) ls) ≡ any (nowhere s b) (namedIds ls)
+  pub nowhere-some : (ls : List Listed) → isSome (firstGiven (nowhereUnder s b) ls) ≡ any (nowhere s b) (namedIds ls)
   unfolding nowhereUnder namedIds
   nowhere-some [] = refl
   nowhere-some (l ∷ ls) =
@@ -301,7 +301,7 @@ record-told bytes small parsed e rest =
     told-row (recordReason (recordFault bytes)) 2 (omega arith) (record-some (recordFault bytes) ∙ fault-parse bytes small ∙ ap isNone e) (record-number (recordFault bytes)) rest
 
 -- the number of a reason that tells one
-tells-number : (o : Option Reason) (n : ℕ) → Tells o n → numberOf (orAccepted o) ≡ n
+pub tells-number : (o : Option Reason) (n : ℕ) → Tells o n → numberOf (orAccepted o) ≡ n
 unfolding orAccepted numberOf
 tells-number none n e = sym e
 tells-number (some r) n e = e .0

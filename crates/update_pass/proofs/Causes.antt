@@ -14,7 +14,6 @@ use borrow.Author.Tests.{lt-ltb, le-ltb, ltb-false, ltb-true}
 use Rattle.base.specs.Tests.{if_then_else_, keep, firstGiven}
 use Rattle.base.specs.Search.{First}
 use Rattle.base.proofs.Cases.{by-test, by-option, by-order}
-use Rattle.base.proofs.Tables.{first-none}
 use Rattle.base.proofs.Search.{first-later, ltb-suc}
 use Rattle.ids.specs.Ids.{sameNode}
 use Rattle.ids.specs.declared.NodeId.{NodeId}
@@ -28,7 +27,7 @@ use Rattle.update.specs.Numbers.{placeless, nowhere}
 use Rattle.reasons.specs.Reasons.{Reason, withoutPlace, childNowhere, numberOf}
 use Rattle.reasons.specs.Pass.{namersAmong, namersOf, passFault, placelessFrom, nowhereUnder, nowhereFault}
 use Rattle.reasons.specs.Explain.{orAccepted}
-use Rattle.reasons.proofs.Steps.{pass-says, says-found, held-first, placeless-held, nowhere-held}
+use Rattle.reasons.proofs.Numbers.{told-none, told-row, told-found, tells-number, pass-tells, placeless-some, placeless-number, nowhere-some, nowhere-number}
 use Rattle.reasons_why.specs.Why.{firstId, secondId}
 use Rattle.update_notes.proofs.Positions.{first-cong, first-given-at}
 use Rattle.update_pass.specs.declared.Cause.{Cause}
@@ -54,10 +53,12 @@ module _ (s : Forest) (b : Batch) where
 
   -- of the rows
   rows-number : numberOf (orAccepted (rowReason s b)) ≡ passNumber s b
-  unfolding passNumber passFault pass nowhereFault orAccepted numberOf
+  unfolding passNumber passFault pass nowhereFault
   rows-number =
-      held-first (placelessFrom s b 0 (b .nodes) ∷ nowhereFault s b ∷ []) _ (says-found (pass-says s b [] [] (events s b [] (b .nodes))))
-      (held-first (nowhereFault s b ∷ []) _ (placeless-held s b 0 (b .nodes)) (held-first [] [] (nowhere-held s b (b .nodes)) (sym first-none)))
+      tells-number (rowReason s b) (passNumber s b)
+      (told-found (passFault s b) (pass s b) (pass-tells s b [] [] (events s b [] (b .nodes)))
+      (told-row (placelessFrom s b 0 (b .nodes)) 13 (omega arith) (placeless-some s b 0 (b .nodes)) (placeless-number s b 0 (b .nodes))
+      (told-row (nowhereFault s b) 14 (omega arith) (nowhere-some s b (b .nodes)) (nowhere-number s b) told-none)) .tells)
 
 -- a cause that explains the rows has their number
 pub explains-number : {s : Forest} {b : Batch} {r : Cause} → Explains s b (rowReason s b) r → causeNumber r ≡ passNumber s b
