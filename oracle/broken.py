@@ -69,7 +69,7 @@ CHANGES = [
     ('bytes of a label that is cut are left', 'state_array', 'low_bytes(word_at(state, LABEL + k, i), length - from)', 'word_at(state, LABEL + k, i)'),
     ('the added ids are written before 21', 'update_reports', '    if !fit {\n', '    if !fit {\n        if 1 < changes.len() {\n            changes[0] = 0;\n        }\n'),
     ('21 hands back the blank state', 'calls', '        return replies::refused(21);', '        clear(state);\n        return replies::refused(21);'),
-    ('a refused start leaves what it made', 'calls', '        clear(state);\n        return replies::refused(refusal.number);', '        return replies::refused(refusal.number);'),
+    ('a refused start leaves what it made', 'calls', '        state_array::clear(state);\n        return replies::refused(refusal.number);', '        return replies::refused(refusal.number);'),
 ]
 
 # The same in the code of modules 6 to 8: questions about made screens must notice these.
@@ -113,13 +113,13 @@ REASONS = [
     ('2: another offset', 'record_layout', '.then(15, at + 38,', '.then(15, at + 36,'),
     ('5: the places the other way round', 'reasons_rows', 'place: again.second,\n        other: again.first,', 'place: again.first,\n        other: again.second,'),
     ('6: told of ROOT', 'reasons_rows', 'return of_tree(6, id);', 'return of_tree(6, TreeId { high: 0, low: 0 });'),
-    ('9: the namers the other way round', 'update_pass/why', 'of_nodes(9, child, by, also)', 'of_nodes(9, child, also, by)'),
-    ('10: the first listed node', 'update_pass/why', 'of_nodes(10, x, ', 'of_nodes(10, listed_id(state, batch, scope, notes, i / 64), '),
-    ('11: the first listed node', 'update_pass/why', 'of_nodes(11, x, ', 'of_nodes(11, listed_id(state, batch, scope, notes, i / 64), '),
-    ('12: the claims the other way round', 'update_pass/why', 'claimed_twice(state, batch, scope, notes, i, m),', 'claimed_twice(state, batch, scope, notes, m, i),'),
+    ('9: the namers the other way round', 'reasons_pass', 'of_nodes(9, child, by, also)', 'of_nodes(9, child, also, by)'),
+    ('10: the first listed node', 'reasons_pass', 'of_nodes(10, x, ', 'of_nodes(10, listed_id(state, batch, scope, notes, i / 64), '),
+    ('11: the first listed node', 'reasons_pass', 'of_nodes(11, x, ', 'of_nodes(11, listed_id(state, batch, scope, notes, i / 64), '),
+    ('12: the claims the other way round', 'reasons_pass', 'claimed_twice(state, batch, scope, notes, i, m),', 'claimed_twice(state, batch, scope, notes, m, i),'),
     ('12: the holder told as the claimer', 'reasons_outcome', 'return claimed_why(tree, y, x);', 'return claimed_why(tree, x, y);'),
-    ('13: another place', 'update_pass/why', 'place: i,', 'place: i / 64,'),
-    ('14: the first listed node names the child', 'update_pass/why', 'let by = namer(state, batch, scope, notes, j);', 'let by = namer(state, batch, scope, notes, j / 256);'),
+    ('13: another place', 'reasons_pass', 'place: i,', 'place: i / 64,'),
+    ('14: the first listed node names the child', 'reasons_pass', 'let by = namer(state, batch, scope, notes, j);', 'let by = namer(state, batch, scope, notes, j / 256);'),
     ('15: told of ROOT', 'reasons_focus', 'way::last_graft(next));', 'TreeId { high: 0, low: 0 });'),
     ('15 and 17: the way backwards', 'reasons_focus', 'way[j] = word;', 'way[most - 1 - j] = word;'),
     ('17: the way is not written', 'explain', '(why.number == 15) | (why.number == 17)', 'why.number == 15'),
@@ -135,7 +135,7 @@ REASONS = [
     ('20: the limit told as the count', 'reasons_focus', 'place: n,', 'place: 256,'),
     ('21: the room told as the need', 'reasons_rows', 'place: most,', 'place: room,'),
     ('the words of the way keep what they held', 'explain', 'clear(way);\n    let refusal = update_rows::first_rows', 'let refusal = update_rows::first_rows'),
-    ('a start\'s memory keeps what was worked in it', 'explain', 'let why = start_why(memory, batch, way);\n    calls::clear(memory);', 'let why = start_why(memory, batch, way);'),
+    ('a start\'s memory keeps what was worked in it', 'explain', 'let why = start_why(memory, batch, way);\n    state_array::clear(memory);', 'let why = start_why(memory, batch, way);'),
 ]
 
 # The library's functions after `cartgravel_`: what C's answer is called, and the arguments.
@@ -254,22 +254,12 @@ def copy_sources(folder, change):
 def build(folder, change):
     """Writes folder/unproved.so."""
     kit = os.path.dirname(os.path.dirname(subprocess.run(['rt', 'doc'], capture_output=True, text=True, check=True).stdout.strip()))
-    on = f'{kit}/on/x86_64'
-    for sub in ('program', 'tools/bin', 'saved'):
-        os.makedirs(f'{folder}/{sub}')
     words = [w for n in ('std', 'io', 'libc') for w in ('--lib', f'{n}={kit}/libs/{n}/src/lib.rt')] + copy_sources(folder, change)
+    os.makedirs(f'{folder}/program')
     write(f'{folder}/program/main.rt', program())
-    os.symlink(f'{on}/toolchain/lib', f'{folder}/tools/lib')
-    os.symlink(f'{on}/toolchain/bin/llvm-ar', f'{folder}/tools/bin/llvm-ar')
-    keep = f'for a in "$@"; do case $a in *.bc) [ -s "$a" ] && cp -n "$a" {folder}/saved/ && exit 1;; esac; done\n'
-    for name, before in (('clang', keep), ('ld.lld', '')):
-        write(f'{folder}/tools/bin/{name}', f'#!/bin/sh\n{before}exec {on}/toolchain/bin/{name} "$@"\n')
-        os.chmod(f'{folder}/tools/bin/{name}', 0o755)
-    said = subprocess.run([f'{on}/bin/rattle-cases', '--toolchain', f'{folder}/tools', '--stdout', '/dev/null', f'{folder}/program/main.rt', '--crate-name', 'program'] + words, capture_output=True, text=True)
-    if not os.listdir(f'{folder}/saved'):
-        sys.exit(said.stdout + said.stderr)
-    clang = f'{on}/toolchain/bin/clang'
-    subprocess.run([clang, '-S', '-emit-llvm', '-x', 'ir', f'{folder}/saved/module.bc', '-o', f'{folder}/library.ll', '-O0', '-Xclang', '-disable-llvm-passes'], check=True, stderr=subprocess.DEVNULL)
+    subprocess.run([f'{REPOSITORY}/tools/bitcode', f'{folder}/library.bc', 'program', f'{folder}/program/main.rt'] + words, check=True)
+    clang = f'{kit}/on/x86_64/toolchain/bin/clang'
+    subprocess.run([clang, '-S', '-emit-llvm', '-x', 'ir', f'{folder}/library.bc', '-o', f'{folder}/library.ll', '-O0', '-Xclang', '-disable-llvm-passes'], check=True, stderr=subprocess.DEVNULL)
     text = re.sub(r'define internal ([^\n]*@"cartgravel::(?:\w+::)?cartgravel_\w+")', r'define \1', read(f'{folder}/library.ll'))
     text = re.sub(r'define ([^\n]*@main\()', r'define internal \1', text)
     write(f'{folder}/library.ll', re.sub(r'@"cartgravel::(?:\w+::)?cartgravel_(\w+)"', r'@unproved_\1', text))

@@ -28,6 +28,12 @@ def edits(name):
     return len(list((ROOT / "crates" / name / "must-fail").glob("*.edit")))
 
 
+def edit_seconds(name):
+    """What the edits took; one that fails early takes less than its crate's proof."""
+    logs = (ROOT / "target" / "must-fail" / name).glob("*.out")
+    return sum(int(took) for log in logs for took in re.findall(r"(\d+) s\)$", log.read_text(), re.M))
+
+
 def levels(deps, wanted):
     """The crates that are wanted and what they need, by level: a crate's is one more than the highest of its dependencies'."""
     level = {}
@@ -53,7 +59,7 @@ def main():
     for k in range(half):
         print(f"| {cells[k]} | {cells[half + k]} |")
     pairs = [row[k:k + 2] for row in rows for k in range(0, len(row), 2)]
-    print(f"\n{len(names)} crates, {sum(map(seconds, names))} s; {sum(map(edits, names))} edits; with the edits {sum(seconds(n) * (1 + edits(n)) for n in names)} s")
+    print(f"\n{len(names)} crates, {sum(map(seconds, names))} s; {sum(map(edits, names))} edits, {sum(map(edit_seconds, names))} s; s × (1 + edits) {sum(seconds(n) * (1 + edits(n)) for n in names)}")
     print(f"two at a time, level by level: {sum(max(map(seconds, pair)) for pair in pairs)} s")
     for pair in pairs:
         print("  " + ", ".join(f"{n} {seconds(n)}" for n in pair))

@@ -275,7 +275,7 @@ fn parent(out: &mut Out, x: OptionalId, one: &[u8], none: &[u8]) {
 
 // How to mend the call, where one mend is known: a line of its own.
 pub fn mend(out: &mut Out, e: Explanation) {
-    if (e.number == STATE) | (e.number == RECORD) | (e.number == 20) {
+    if e.number == RECORD {
         return;
     }
     put(out, b"\n  mend:    ");
@@ -285,7 +285,9 @@ pub fn mend(out: &mut Out, e: Explanation) {
     }
     tell_line(
         out,
-        b"\n\n\n\
+        b"\n\
+        first a start that is accepted\n\
+        \n\
         say what the root is\n\
         start ROOT; the pane comes in a batch, once a node grafts it\n\
         list the node once, as it is in the end\n\
@@ -303,7 +305,7 @@ pub fn mend(out: &mut Out, e: Explanation) {
         set the focus to a node that stays\n\
         do not list what goes, or let a node name it\n\
         \n\
-        \n\
+        send the part that is on the screen\n\
         lend # elements\n",
         e.number as u64,
         id_of(e.node),

@@ -1,10 +1,10 @@
 // The three calls: a start, a batch, a host focus change, over the state's words. The crate `cartgravel` exports them.
 ghost use mathlib.Core.Path.{_≡_};
 ghost use Rattle.state_array.specs.View.{view};
-ghost use Rattle.update_apply.specs.Applied.{blankWords};
+ghost use Rattle.state_array.specs.Layout.{blankWords};
 ghost use Rattle.update_rows.specs.Rows.{firstNumber, startRows};
 ghost use Rattle.replies.specs.Replies.{Starts, Updates, HostFocuses};
-ghost use Rattle.replies.specs.Plain.{HostPut, seeded};
+ghost use Rattle.replies.specs.Plain.{HostPut};
 use replies::Reply;
 use state_array::State;
 
@@ -12,7 +12,7 @@ use state_array::State;
 pub fn start<'a, 'b>(state: &'a mut State, batch: &'b [u8], host_focused: u32) -> Reply
     ensures { λ r. ⌜ Starts (now (batch .entry)) «host_focused» (now (state .exit)) r ⌝ }
 {
-    clear(state);
+    state_array::clear(state);
     let refusal = update_rows::start_rows(batch);
     if refusal.number != 0 {
         return replies::refused(refusal.number);
@@ -61,13 +61,13 @@ fn started<'a, 'b>(state: &'a mut State, batch: &'b [u8], host_focused: u32) -> 
     requires { ⌜ now state ≡ blankWords ⌝ }
     ensures { λ r. ⌜ Starts (now (batch .entry)) «host_focused» (now (state .exit)) r ⌝ }
 {
-    seed(state, batch, host_focused);
+    replies::seed(state, batch, host_focused);
     let scope = update_rows::start_scope(batch);
     let mut notes = [0u64; update_notes::WORDS];
     let mut first = [0u64; state_array::WORDS];
     let refusal = update_apply::apply(state, batch, scope, &mut notes, &mut first);
     if refusal.number != 0 {
-        clear(state);
+        state_array::clear(state);
         return replies::refused(refusal.number);
     }
     *state = first;
@@ -75,29 +75,6 @@ fn started<'a, 'b>(state: &'a mut State, batch: &'b [u8], host_focused: u32) -> 
         replies::no_lengths(),
         update_reports::report_start(state_focus::focus(state)),
     )
-}
-
-// ROOT alone, with the root and the focus of the record, in the blank state.
-pub fn seed(state: &mut State, batch: &[u8], host_focused: u32)
-    requires { ⌜ startRows (now batch) ≡ 0 ⌝ }
-    requires { ⌜ now state ≡ blankWords ⌝ }
-    ensures { λ _. ⌜ view (now (state .exit)) ≡ seeded (now (batch .entry)) «host_focused» ⌝ }
-{
-    let root = record_reader::tree_root(batch);
-    let focus = record_reader::tree_focus(batch);
-    state[state_array::TREE_COUNT] = 1;
-    state[state_array::HOST] = replies::host_flag(host_focused);
-    state[state_array::TABLE + state_array::TREES * state_array::TREE_ROOT] = root.0;
-    state[state_array::TABLE + state_array::TREES * state_array::TREE_FOCUS] = focus.0;
-    state[state_array::TABLE + state_array::TREES * state_array::TREE_EXISTS] = 1;
-}
-
-// The blank state.
-pub fn clear(state: &mut State)
-    ensures { λ _. ⌜ now (state .exit) ≡ blankWords ⌝ }
-{
-    let blank = [0u64; state_array::WORDS];
-    *state = blank;
 }
 
 // A batch that passed rows 1, 2 and 5 to 8.

@@ -25,7 +25,7 @@ use Rattle.update_rows.specs.Parts.{ungrafted, missing, full}
 use Rattle.update.specs.Numbers.{rowsBeforePass}
 use Rattle.update.specs.Reports.{changesOf, changeWords}
 use Rattle.update.specs.Outcome.{outcome}
-use Rattle.update_rows.proofs.Numbers.{laterRows}
+use Rattle.update_rows.specs.Rows.{laterRows}
 use lib.Dec.{ltb}
 use Rattle.reasons.specs.Reasons.{Reason, numberOf, graftOverChildren, graftOfRoot, unsoundState, noTreeData, notRoot, notGrafted, notExisting, noNumberLeft, sliceTooShort}
 use Rattle.reasons.specs.Shape.{brokenState}
@@ -42,7 +42,7 @@ use Rattle.reasons_why.specs.declared.Why.{Why}
 use Rattle.reasons_why.specs.Why.{whyOf, whyFor, wayOf, wayWords}
 use Rattle.reasons_why.proofs.Numbers.{Proper, proper, why-none}
 use Rattle.explain.specs.Explained.{Explains, ExplainsFor, noWay, wayFor, recordReason, firstReasons, startReasons, passReasons, lastReasons, laterReasons}
-use Rattle.explain.proofs.Explained.{no-way, Wayless, wayless-of, wayless-if, wayless-first, proper-tells, explains-plain, explains-whole, explains-alone, told-number}
+use Rattle.explain.proofs.Explained.{no-way, Wayless, wayless-of, wayless-if, proper-tells, alone, explains-plain, explains-whole, explains-alone, told-number}
 
 -- ## Reasons in a row
 
@@ -62,11 +62,6 @@ module _ (xs ys : List (Option Reason)) where
   -- none of it, and the second part
   pub row-passed : {r : Why} {way : List ℕ} → firstReason xs ≡ none → ExplainsFor (firstReason ys) r way → ExplainsFor (firstReason (xs ++ ys)) r way
   row-passed e h = rw (append-passed e) h
-
--- one alone
-pub alone : (o : Option Reason) → firstReason (o ∷ []) ≡ o
-alone none = refl
-alone (some r) = refl
 
 -- no number, no reason
 pub none-told : (o : Option Reason) (n : ℕ) → Tells o n → n ≡ 0 → o ≡ none
@@ -102,11 +97,11 @@ module _ (s : Forest) (b : Batch) where
   passes-wayless : Wayless (firstReason (passReasons s b))
   unfolding passFault
   passes-wayless =
-      wayless-first (passReasons s b) (
+      says-each (λ r. wayOf r ≡ []) (passReasons s b) (
         pass-wayless s b [] [] (events s b [] (b .nodes)),
-        (
+        λ _. (
           wayless-of (placelessFrom s b 0 (b .nodes)) 13 (λ e. omega arith) (λ e. omega arith) (placeless-number s b 0 (b .nodes)),
-          (wayless-of (nowhereFault s b) 14 (λ e. omega arith) (λ e. omega arith) (nowhere-number s b), tt),
+          λ _. (wayless-of (nowhereFault s b) 14 (λ e. omega arith) (λ e. omega arith) (nowhere-number s b), λ _. tt),
         ),
       )
 
@@ -181,15 +176,15 @@ module _ (bytes : List ℕ) (small : (i : ℕ) → getD bytes i 0 < 256) where
   unfolding firstReasons reasonsBeforePass ungrafted missing full wayOf
   first-wayless s =
       let b = batchOf bytes in
-      wayless-first (firstReasons s bytes) (
+      says-each (λ r. wayOf r ≡ []) (firstReasons s bytes) (
         wayless-if (not (sound s)) (unsoundState (brokenState s)) refl,
-        (
+        λ _. (
           record-wayless,
-          (
+          λ _. (
             repeated-wayless s b,
-            (
+            λ _. (
               wayless-if (ungrafted s b) (notGrafted (b .tree)) refl,
-              (wayless-if (missing s b) (notExisting (b .tree)) refl, (wayless-if (full s b) (noNumberLeft (b .tree)) refl, tt)),
+              λ _. (wayless-if (missing s b) (notExisting (b .tree)) refl, λ _. (wayless-if (full s b) (noNumberLeft (b .tree)) refl, λ _. tt)),
             ),
           ),
         ),
@@ -270,11 +265,11 @@ module _ (bytes : List ℕ) (small : (i : ℕ) → getD bytes i 0 < 256) where
   start-wayless : Wayless (firstReason (startReasons bytes))
   unfolding startReasons wayOf withoutTreeData
   start-wayless =
-      wayless-first (startReasons bytes) (
+      says-each (λ r. wayOf r ≡ []) (startReasons bytes) (
         record-wayless,
-        (
+        λ _. (
           wayless-if (isNone (given .root)) noTreeData refl,
-          (wayless-if (not (sameTree (given .tree) ROOT)) (notRoot (given .tree)) refl, (repeated-wayless (seed given) (withoutTreeData given), tt)),
+          λ _. (wayless-if (not (sameTree (given .tree) ROOT)) (notRoot (given .tree)) refl, λ _. (repeated-wayless (seed given) (withoutTreeData given), λ _. tt)),
         ),
       )
 

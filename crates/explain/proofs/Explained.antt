@@ -102,20 +102,13 @@ pub wayless-if : (t : Bool) (r : Reason) → wayOf r ≡ [] → Wayless (reasonI
 wayless-if true r h = h
 wayless-if false r h = tt
 
--- the first reason of some
-abbrev pub AllWayless : List (Option Reason) → Type 0
-AllWayless [] = Unit {0}
-AllWayless (o ∷ os) = (Wayless o) × (AllWayless os)
-
-pub wayless-first : (os : List (Option Reason)) → AllWayless os → Wayless (firstReason os)
-wayless-first [] h = tt
-wayless-first (none ∷ os) h = wayless-first os (h .1)
-wayless-first (some r ∷ os) h = h .0
-
 -- the only reason
+pub alone : (o : Option Reason) → firstReason (o ∷ []) ≡ o
+alone none = refl
+alone (some r) = refl
+
 pub explains-alone : (o : Option Reason) {r : Why} {way : List ℕ} → ExplainsFor o r way → ExplainsFor (firstReason (o ∷ [])) r way
-explains-alone none h = h
-explains-alone (some q) h = h
+explains-alone o h = rw (alone o) h
 
 -- a reason that tells a number has it
 pub told-number : (o : Option Reason) {n : ℕ} {r : Why} → Tells o n → r ≡ whyFor o → r .number ≡ n

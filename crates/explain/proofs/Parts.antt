@@ -26,7 +26,7 @@ use Rattle.state.specs.Sound.{sound, soundShape}
 use Rattle.state_focus.specs.Focus.{foundOf}
 use Rattle.update.specs.Calls.{seed, withoutTreeData}
 use Rattle.update.specs.Numbers.{absent}
-use Rattle.update_apply.specs.Applied.{blankWords}
+use Rattle.state_array.specs.Layout.{blankWords}
 use Rattle.replies.specs.Replies.{plainId}
 use Rattle.replies.specs.declared.OptionalId.{OptionalId}
 use Rattle.reasons.specs.Reasons.{Reason, numberOf, unsoundOutcome, noTreeData, notRoot, tooMany}
@@ -39,8 +39,8 @@ use Rattle.reasons_why.specs.declared.Why.{Why}
 use Rattle.reasons_why.specs.Why.{ofTree, whyBroken, whyOf, whyFor, wayOf, wayWords}
 use Rattle.explain.specs.declared.Explanation.{Explanation}
 use Rattle.explain.specs.Explained.{plainWhy, Explained, ExplainedStart, Explains, ExplainsFor, noWay, wayFor, offenceWhy, recordReason, firstReasons, startReasons, lastReasons}
-use Rattle.explain.proofs.Explained.{Wayless, wayless-of, wayless-if, explains-plain, explains-found, explains-passed, explains-alone}
-use Rattle.explain.proofs.Calls.{alone, none-way}
+use Rattle.explain.proofs.Explained.{Wayless, wayless-of, wayless-if, alone, explains-plain, explains-found, explains-passed, explains-alone}
+use Rattle.explain.proofs.Calls.{none-way}
 use Rattle.reasons.proofs.Numbers.{clash-number, removed-number}
 use Rattle.reasons_why.proofs.Numbers.{Proper, proper}
 use Rattle.update.specs.Words.{treeNumber}

@@ -26,7 +26,8 @@ use Rattle.state.specs.State.{Forest}
 use Rattle.state.specs.Sound.{sound}
 use Rattle.update.specs.Outcome.{outcome}
 use Rattle.update.specs.Calls.{seed, withoutTreeData}
-use Rattle.update_apply.specs.Applied.{Written, blankWords}
+use Rattle.state_array.specs.Layout.{blankWords}
+use Rattle.update_notes.specs.Says.{Written}
 use Rattle.update_notes.specs.declared.Scope.{Scope}
 use Rattle.update_notes.specs.Setting.{asked, forest}
 use Rattle.explain.specs.declared.Explanation.{Explanation}

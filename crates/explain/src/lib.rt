@@ -5,7 +5,8 @@ ghost use Rattle.reasons.specs.Outcome.{focusReason};
 ghost use Rattle.reasons_why.specs.Why.{whyFor};
 ghost use Rattle.explain.specs.Explained.{Explained, ExplainedStart, plainWhy, Explains, ExplainsFor, Judged, noWay, offenceWhy, firstReasons, startReasons, lastReasons};
 ghost use Rattle.state_array.specs.View.{view};
-ghost use Rattle.update_apply.specs.Applied.{Written, blankWords};
+ghost use Rattle.state_array.specs.Layout.{blankWords};
+ghost use Rattle.update_notes.specs.Says.{Written};
 ghost use Rattle.update_notes.specs.Says.{Told};
 ghost use Rattle.update_notes.specs.Setting.{asked, forest};
 ghost use Rattle.update_rows.specs.Rows.{firstNumber, startRows};
@@ -55,9 +56,9 @@ pub fn explain_start<'a, 'b, 'c>(
 ) -> Explanation
     ensures { λ r. ⌜ ExplainedStart (whyStart (now (batch .entry))) r (now (way .exit)) (now (memory .exit)) ⌝ }
 {
-    calls::clear(memory);
+    state_array::clear(memory);
     let why = start_why(memory, batch, way);
-    calls::clear(memory);
+    state_array::clear(memory);
     plain(why)
 }
 
@@ -186,7 +187,7 @@ fn later_start_why<'a, 'b, 'c>(memory: &'a mut State, batch: &'b [u8], way: &'c 
     requires { ⌜ now way ≡ noWay ⌝ }
     ensures { λ r. ⌜ Explains (whyStart (now (batch .entry))) r (now (way .exit)) ⌝ }
 {
-    calls::seed(memory, batch, 0);
+    replies::seed(memory, batch, 0);
     let scope = update_rows::start_scope(batch);
     let mut notes = [0u64; 4096];
     let mut next = [0u64; state_array::WORDS];
@@ -208,7 +209,7 @@ fn batch_why<'a, 'b, 'c, 'd>(
     ensures { λ r. ⌜ Judged (now (state .entry)) (now (batch .entry)) scope (now (notes .exit)) (now (next .exit)) r (now (way .exit)) ⌝ }
 {
     update_reading::write_words(state, batch, scope, notes);
-    let early = update_pass::pass_why(state, batch, scope, notes);
+    let early = reasons_pass::pass_why(state, batch, scope, notes);
     if early.number != 0 {
         return early;
     }

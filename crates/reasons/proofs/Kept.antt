@@ -13,14 +13,14 @@ use Rattle.base.proofs.Cases.{by-test, by-option}
 use Rattle.base.proofs.Tests.{joined, clash, refuted, not-false, or-false}
 use Rattle.base.proofs.Lists.{all-of, any-of, any-found}
 use Rattle.ids.specs.Ids.{sameTree, sameId, before}
-use Rattle.ids.proofs.Ids.{same-id-refl}
+use Rattle.ids.proofs.Ids.{same-tree-sym, same-id-refl}
 use Rattle.ids.specs.declared.TreeId.{TreeId}
 use Rattle.ids.specs.declared.FullNodeId.{FullNodeId}
 use Rattle.state.specs.State.{sameLink, NodeState, TreeEntry, Forest, present}
 use Rattle.state.specs.Sound.{graftIsBare, graftsDiffer, grafted, allGrafted, rootFirst, oneIdEach, ascending}
 use Rattle.reasons.specs.Reasons.{tooManyChildren, absentBelow, metTwice, neverMet, graftWithChildren, graftedTwice, rootNotFirst}
 use Rattle.reasons.specs.Shape.{spotFrom, spot, at, smallest, idsBelow, reached, metLinks, crowded, absentIds, absence, isMetTwice, isNeverMet, topmostWithin, unmet, metLink, disagrees, wrongLinkFrom, brokenLinks, graftTwiceFrom, treeTwiceFrom, unrootedFrom, brokenTrees, disorderFrom, brokenShape}
-use Rattle.reasons.proofs.Numbers.{same-tree-sym, grafts-some}
+use Rattle.reasons.proofs.Numbers.{grafts-some}
 use Rattle.reasons.proofs.Broken.{Smallest, smallest-least, ids-absent}
 use Rattle.reasons.proofs.Links.{map-member, keep-member}
 

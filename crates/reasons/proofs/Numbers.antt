@@ -9,11 +9,11 @@ use lib.ListN.{length, getD}
 use Rattle.base.specs.Tests.{_&&_, isSome, isNone, isNil, any, all, sameOption, has, distinct, given, firstGiven}
 use Rattle.base.specs.Tables.{Row, row, found, first}
 use Rattle.base.proofs.Cases.{by-test, by-option}
-use Rattle.base.proofs.Tests.{iff, not-not, and-assoc, and-false, is-some-if}
+use Rattle.base.proofs.Tests.{not-not, and-assoc, and-false, is-some-if}
 use Rattle.base.proofs.Lists.{first-given-some, any-append}
 use Rattle.base.proofs.Tables.{first-passes, first-holds, found-passes, found-counts, found-alone, first-none}
 use Rattle.ids.specs.Ids.{ROOT, sameTree, sameNode}
-use Rattle.ids.proofs.Ids.{same-tree→≡, same-tree-refl, same-node→≡, same-node-refl}
+use Rattle.ids.proofs.Ids.{same-tree-sym, same-node-sym}
 use Rattle.ids.specs.declared.TreeId.{TreeId}
 use Rattle.ids.specs.declared.NodeId.{NodeId}
 use Rattle.record.specs.Batch.{graft?, Listed, Batch, listedIds, namedIds}
@@ -73,13 +73,6 @@ told-found none n {rs} e rest = record { tells = rw (found-passes n rs e) (rest 
 told-found (some r) n {rs} e rest = record { tells = rw (found-counts n rs (λ z. omega (arith, e .1))) e }
 
 -- ## Where a reason is there
-
--- the sides of same may be turned
-pub same-tree-sym : (t u : TreeId) → sameTree t u ≡ sameTree u t
-same-tree-sym t u = iff (λ e. rw (same-tree→≡ t u e) (same-tree-refl u)) (λ e. rw (same-tree→≡ u t e) (same-tree-refl t))
-
-same-node-sym : (m n : NodeId) → sameNode m n ≡ sameNode n m
-same-node-sym m n = iff (λ e. rw (same-node→≡ m n e) (same-node-refl n)) (λ e. rw (same-node→≡ n m e) (same-node-refl m))
 
 -- t is among the trees that some give where one of them gives it
 has-tree : {A : Type 0} (f : A → Option TreeId) (xs : List A) (t : TreeId) → any (λ x. sameOption sameTree (f x) (some t)) xs ≡ has sameTree (given f xs) t

@@ -4,10 +4,9 @@ use mathlib.Core.List.{List, [], _∷_}
 use mathlib.Core.Option.{Option, none, some}
 use mathlib.Core.Path.{_≡_, refl, sym, _∙_}
 use Rattle.base.specs.Tests.{_&&_, isSome, isNil, any, has, sameOption, given, firstGiven}
-use Rattle.base.proofs.Tests.{iff}
 use Rattle.base.proofs.Lists.{any-given, first-given-some}
 use Rattle.ids.specs.Ids.{ROOT, sameTree, sameNode}
-use Rattle.ids.proofs.Ids.{same-tree→≡, same-tree-refl}
+use Rattle.ids.proofs.Ids.{same-tree-sym}
 use Rattle.ids.specs.declared.TreeId.{TreeId}
 use Rattle.ids.specs.declared.NodeId.{NodeId}
 use Rattle.record.specs.Batch.{graft?, NodeData, Listed, Batch}
@@ -20,10 +19,6 @@ use Rattle.reasons.specs.Pass.{namersOf, claimerAmong, secondClaim, plac
 -- a graft node with children
 abbrev pub crowded : NodeData → Bool
 crowded d = isSome (graft? d) && not (isNil (d .children))
-
--- the sides of same may be turned
-same-tree-sym : (a c : TreeId) → sameTree a c ≡ sameTree c a
-same-tree-sym a c = iff (λ e. rw (same-tree→≡ a c e) (same-tree-refl c)) (λ e. rw (same-tree→≡ c a e) (same-tree-refl a))
 
 module _ (s : Forest) (b : Batch) where
   -- ## The node that claims a tree

@@ -1,4 +1,3 @@
 pub mod Below
-pub mod Gathering
 pub mod Meeting
 pub mod Marks

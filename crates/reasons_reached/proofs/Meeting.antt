@@ -28,7 +28,7 @@ use Rattle.state_sound.specs.declared.walk.Kid.the-variants as kid
 use Rattle.reasons_reached.specs.declared.Links.{Links}
 use Rattle.reasons_reached.specs.Reached.{Few, reachedIn, Marked, firstLink, Tells}
 use Rattle.reasons_reached.proofs.Below.{below-end}
-use Rattle.reasons_reached.proofs.Gathering.{Gathered, gathered-start, gathered-more, gathered-end}
+use Rattle.base.proofs.Gathering.{Gathered, gathered-start, gathered-more, gathered-end}
 
 -- ## One link more
 

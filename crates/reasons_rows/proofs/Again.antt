@@ -13,10 +13,9 @@ use Rattle.base.proofs.Bytes.{list-of-more, length-list-of}
 use Rattle.base.proofs.Cases.{by-order}
 use Rattle.base.proofs.Indexed.{list-of-cong}
 use Rattle.base.proofs.Search.{first-any, first-position}
-use Rattle.base.proofs.Tests.{iff}
 use Rattle.ids.specs.Ids.{ROOT, sameNode}
 use Rattle.ids.specs.declared.NodeId.{NodeId}
-use Rattle.ids.proofs.Ids.{same-node→≡, same-node-refl}
+use Rattle.ids.proofs.Ids.{same-node-sym}
 use borrow.Author.Tests.{lt-ltb, le-ltb}
 use Rattle.record.specs.Batch.{Batch, listedIds}
 use Rattle.record_reader.specs.Reader.{listedAt}
@@ -32,10 +31,6 @@ use Rattle.reasons_why.specs.declared.Why.{Why}
 use Rattle.reasons_why.specs.Why.{why, whyOf, whyFor}
 use Rattle.ids.specs.declared.TreeIndex.{TreeIndex}
 use Rattle.reasons_rows.specs.Rows.{AgainIs}
-
--- the sides of same may be turned
-same-node-sym : (m n : NodeId) → sameNode m n ≡ sameNode n m
-same-node-sym m n = iff (λ e. rw (same-node→≡ m n e) (same-node-refl n)) (λ e. rw (same-node→≡ n m e) (same-node-refl m))
 
 module _ (s : Forest) (b : Batch) (r : Again) (g : ListedAgain b r) where
   -- row 5's reason, of the listed ids from place i on; there are m of them

@@ -19,7 +19,7 @@ use Rattle.ids.specs.declared.FullNodeId.{FullNodeId}
 use Rattle.reasons.specs.Shape.{smallest, idsBelow, absentIds, absence}
 use Rattle.reasons_reached.specs.Reached.{Few, belowAt}
 use Rattle.reasons_reached.proofs.Below.{below-end}
-use Rattle.reasons_reached.proofs.Gathering.{Gathered, gathered-start, gathered-more, gathered-end}
+use Rattle.base.proofs.Gathering.{Gathered, gathered-start, gathered-more, gathered-end}
 use Rattle.reasons_why.specs.Why.{whyBroken, found}
 use Rattle.reasons_why.specs.declared.Why.{Why}
 use Rattle.state.specs.State.{NodeState, Forest, present}

@@ -36,7 +36,8 @@ use Rattle.state_sound.proofs.Grafts.{bare-at}
 use Rattle.reasons_shape.specs.Rules.{ruleWhy, nodeWhy, ClimbSays}
 use Rattle.reasons_shape.specs.declared.links.Climb.{Climb}
 use Rattle.reasons_shape.proofs.Chain.{kept, found-of}
-use Rattle.reasons_shape.proofs.Slots.{Rest, rest-start, rest-more, nodes, nodes-at, nodes-past, nodes-many, Seeking, seeking-here, none-passes}
+use Rattle.base.proofs.Rest.{Rest, rest-start, rest-more}
+use Rattle.reasons_shape.proofs.Slots.{nodes, nodes-at, nodes-past, nodes-many, Seeking, seeking-here, none-passes}
 
 -- ## What a rule says of a slot
 

@@ -5,17 +5,16 @@ use mathlib.Core.Option.{none, some}
 use mathlib.Core.Path.{_≡_, refl, sym, ap, _∙_}
 use Prim.Native.Nat.{ℕ, zero, suc, _+_, _≤_, _<_}
 use native.Mathlib.Nat.{add-zero, zero-add}
-use native.Mathlib.Numerals.{add-one}
 use native.Mathlib.Omega.{arith}
 use lib.Dec.{ltb, leb}
-use lib.ListN.{length, drop, drop-of-length-le}
-use lib.Seq.{drop-cons}
+use lib.ListN.{length, drop}
 use borrow.Author.Tests.{lt-ltb, le-ltb, lt-leb, le-leb}
 use Rattle.base.specs.Tests.{_&&_, if_then_else_, isSome, all}
 use Rattle.base.specs.Bytes.{listOf}
 use Rattle.base.specs.Search.{First}
-use Rattle.base.proofs.Bytes.{length-list-of, list-of-at}
+use Rattle.base.proofs.Bytes.{length-list-of}
 use Rattle.base.proofs.Cases.{by-test}
+use Rattle.base.proofs.Rest.{list-from, list-past, Rest, rest-start, rest-more}
 use Rattle.base.proofs.Search.{first-later, ltb-suc}
 use Rattle.base.proofs.Tests.{call-true, call-false}
 use Rattle.ids.specs.Ids.{before}
@@ -30,27 +29,6 @@ use Rattle.state_array.specs.View.{idIn, bodyIn, nodeIn, entryIn, slotsOf, tree
 use Rattle.state_focus.specs.declared.FoundNode.{FoundNode}
 use Rattle.state_focus.specs.declared.FoundNode.the-variants as node
 use Rattle.reasons_shape.specs.Rules.{ruleWhy, nodeWhy}
-
--- ## Lists by index
-
-module _ {A : Type 0} (n : ℕ) (f : ℕ → A) where
-  pub list-from : (i : ℕ) → i < n → drop i (listOf n f) ≡ f i ∷ drop (i + 1) (listOf n f)
-  list-from i h = rw (add-one i, drop-cons (listOf n f) i (f 0) (rw (length-list-of n f) h), list-of-at n i f (f 0) h)
-
-  pub list-past : (i : ℕ) → n ≤ i → drop i (listOf n f) ≡ []
-  list-past i h = drop-of-length-le (listOf n f) {i = i} (rw (length-list-of n f) h)
-
--- a search of a list from its i-th element on, k being the first number, answers as the whole search does
-pub record Rest {X A : Type 0} (f : ℕ → List X → A) (xs : List X) (i : ℕ) : Type 0 where
-  pub same : f i (drop i xs) ≡ f 0 xs
-
-pub rest-start : {X A : Type 0} {f : ℕ → List X → A} {xs : List X} → Rest f xs 0
-rest-start = record { same = refl }
-
--- one more
-pub rest-more : {X A : Type 0} {f : ℕ → List X → A} {xs : List X} {i : ℕ} → Rest f xs i → {x : X} → drop i xs ≡ x ∷ drop (i + 1) xs
-    → f i (x ∷ drop (i + 1) xs) ≡ f (suc i) (drop (i + 1) xs) → Rest f xs (i + 1)
-rest-more {f = f} {xs} {i} g e step = record { same = ap (λ k. f k (drop (i + 1) xs)) (add-one i) ∙ sym step ∙ ap (f i) (sym e) ∙ g .same }
 
 module _ (s : List ℕ) where
   -- the nodes of a state

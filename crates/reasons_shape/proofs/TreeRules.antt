@@ -31,7 +31,8 @@ use Rattle.state_sound.specs.Parts.{graftsTree, rootedIn}
 use Rattle.state_sound.proofs.Grafts.{graft-none, graft-some, grafts-at}
 use Rattle.state_sound.proofs.Trees.{oldId, old-found, new-found, rooted-row}
 use Rattle.reasons_shape.specs.Rules.{ruleWhy, treeWhy}
-use Rattle.reasons_shape.proofs.Slots.{list-from, list-past, Rest, rest-start, rest-more, nodes, nodes-at, nodes-past}
+use Rattle.base.proofs.Rest.{list-from, list-past, Rest, rest-start, rest-more}
+use Rattle.reasons_shape.proofs.Slots.{nodes, nodes-at, nodes-past}
 
 -- ## Rule 9
 

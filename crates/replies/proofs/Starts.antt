@@ -23,12 +23,14 @@ use Rattle.update_notes.specs.declared.Refusal.{Refusal}
 use Rattle.update_notes.specs.declared.Scope.{Scope}
 use Rattle.update_notes.specs.Setting.{Scoped, asked, forest, refusal}
 use Rattle.update_notes.specs.Says.{outcomeState}
-use Rattle.update_apply.specs.Applied.{blankWords, Written}
+use Rattle.state_array.specs.Layout.{blankWords}
+use Rattle.update_notes.specs.Says.{Written}
 use Rattle.update_reports.specs.declared.Report as reports
 use Rattle.update_reports.specs.Reported.{OnlyAfter}
 use Rattle.update_rows.specs.Rows.{startRows}
 use Rattle.update_rows.proofs.Given.{asked-start}
-use Rattle.update_rows.proofs.Numbers.{laterRows, start-begun}
+use Rattle.update_rows.specs.Rows.{laterRows}
+use Rattle.update_rows.proofs.Numbers.{start-begun}
 use Rattle.update_rows.proofs.Calls.{startState, start-first, start-later, start-done}
 use Rattle.replies.specs.declared.Reply.{Reply}
 use Rattle.replies.specs.Replies.{isSet, Starts}

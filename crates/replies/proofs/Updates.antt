@@ -18,15 +18,16 @@ use Rattle.update_notes.specs.declared.Refusal.{Refusal}
 use Rattle.update_notes.specs.declared.Scope.{Scope}
 use Rattle.update_notes.specs.Setting.{Scoped, asked, forest, refusal}
 use Rattle.update_notes.specs.Says.{outcomeState}
-use Rattle.update_apply.specs.Applied.{Written}
+use Rattle.update_notes.specs.Says.{Written}
 use Rattle.update_reports.specs.declared.Lists.{Lists}
 use Rattle.update_reports.specs.declared.Report as reports
 use Rattle.update_reports.specs.Outcomes.{changesIn}
 use Rattle.update_reports.specs.Slice.{ListsWritten}
 use Rattle.update_reports.specs.Reported.{UpdateReported}
-use Rattle.update_rows.specs.Rows.{firstNumber}
+use Rattle.update_rows.specs.Rows.{firstNumber, laterRows}
 use Rattle.update_rows.proofs.Given.{asked-update}
-use Rattle.update_rows.proofs.Numbers.{passRows, laterRows, later-early}
+use Rattle.update_pass.specs.Rows.{passNumber}
+use Rattle.update_rows.proofs.Numbers.{later-early}
 use Rattle.update_rows.proofs.Calls.{updateState, tooShort, update-first, update-later, update-full, update-done}
 use Rattle.replies.specs.declared.Reply.{Reply}
 use Rattle.replies.specs.Replies.{Updates}
@@ -34,7 +35,7 @@ use Rattle.replies.specs.Plain.{lengthsAre, acceptedReply, refusedReply}
 use Rattle.replies.proofs.Answers.{refused-answers, accepted-answers}
 
 -- a batch that rows 9 to 20 let pass, rows 9 to 14 let pass
-pub later-pass : (k : ℕ) (state bytes : List ℕ) (c : Scope) → passRows (forest state) (asked bytes c) ≡ k → laterRows (forest state) (asked bytes c) ≡ 0 → passRows (forest state) (asked bytes c) ≡ 0
+pub later-pass : (k : ℕ) (state bytes : List ℕ) (c : Scope) → passNumber (forest state) (asked bytes c) ≡ k → laterRows (forest state) (asked bytes c) ≡ 0 → passNumber (forest state) (asked bytes c) ≡ 0
 later-pass zero state bytes c e z = e
 later-pass (suc k) state bytes c e z =
     absurd (omega (arith, e, later-early (forest state) (asked bytes c) (λ q. omega (arith, sym e ∙ q)), z))

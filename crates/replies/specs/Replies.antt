@@ -12,7 +12,7 @@ use Rattle.state_array.specs.Layout.{HOST}
 use Rattle.state_array.specs.Stored.{stored}
 use Rattle.state_array.specs.View.{view}
 use Rattle.update.specs.Calls as definition
-use Rattle.update_apply.specs.Applied.{blankWords}
+use Rattle.state_array.specs.Layout.{blankWords}
 use Rattle.replies.specs.declared.OptionalId.{OptionalId}
 use Rattle.replies.specs.declared.Reply.{Reply}
 

@@ -1,10 +1,14 @@
-// What the three calls answer, as plain numbers and structs, and the host flag as they take it.
+// What the three calls answer, as plain numbers and structs, the host flag as they take it, and the state that a start begins with.
 ghost use mathlib.Core.Option.{none};
 ghost use mathlib.Core.Path.{_≡_};
 ghost use Rattle.base.specs.Tests.{if_then_else_};
+ghost use Rattle.state_array.specs.Layout.{blankWords};
+ghost use Rattle.state_array.specs.View.{view};
 ghost use Rattle.state_focus.specs.Focus.{foundOf};
+ghost use Rattle.update_rows.specs.Rows.{startRows};
 ghost use Rattle.replies.specs.Replies.{plainId, isSet};
-ghost use Rattle.replies.specs.Plain.{lengthsAre, plainReport, acceptedReply, refusedReply};
+ghost use Rattle.replies.specs.Plain.{lengthsAre, plainReport, acceptedReply, refusedReply, seeded};
+use state_array::State;
 use state_focus::FoundNode;
 use update_reports::Lists;
 
@@ -139,4 +143,19 @@ pub fn host_flag(host_focused: u32) -> u64
     ensures { λ r. ⌜ r ≡ (if isSet «host_focused» then 1 else 0) ⌝ }
 {
     if host_focused == 0 { 0 } else { 1 }
+}
+
+// ROOT alone, with the root and the focus of the record, in the blank state.
+pub fn seed(state: &mut State, batch: &[u8], host_focused: u32)
+    requires { ⌜ startRows (now batch) ≡ 0 ⌝ }
+    requires { ⌜ now state ≡ blankWords ⌝ }
+    ensures { λ _. ⌜ view (now (state .exit)) ≡ seeded (now (batch .entry)) «host_focused» ⌝ }
+{
+    let root = record_reader::tree_root(batch);
+    let focus = record_reader::tree_focus(batch);
+    state[state_array::TREE_COUNT] = 1;
+    state[state_array::HOST] = host_flag(host_focused);
+    state[state_array::TABLE + state_array::TREES * state_array::TREE_ROOT] = root.0;
+    state[state_array::TABLE + state_array::TREES * state_array::TREE_FOCUS] = focus.0;
+    state[state_array::TABLE + state_array::TREES * state_array::TREE_EXISTS] = 1;
 }

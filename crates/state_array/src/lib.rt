@@ -9,7 +9,7 @@ ghost use Rattle.base.specs.Bytes.{bit, listOf};
 ghost use Rattle.base.specs.Floats.{isFinite};
 ghost use Rattle.state.specs.State.{blank};
 ghost use Rattle.state_array.specs.Layout as at;
-ghost use Rattle.state_array.specs.Layout.{hostOf, entry, word, child};
+ghost use Rattle.state_array.specs.Layout.{blankWords, hostOf, entry, word, child};
 ghost use Rattle.state_array.specs.View.{view, slotsOf, treesOf, idIn, linkIn, shapeIn, labelByte, labelIn, floatIn, boundsIn, transformIn, treeIn};
 ghost use Rattle.state_array.specs.Stored.{labelWord, BodyAt, FloatsAt};
 use geometry::Affine;
@@ -133,6 +133,14 @@ pub fn blank() -> State
     ensures { λ r. ⌜ view r ≡ blank ⌝ }
 {
     [0u64; WORDS]
+}
+
+// Makes a state blank.
+pub fn clear(state: &mut State)
+    ensures { λ _. ⌜ now (state .exit) ≡ blankWords ⌝ }
+{
+    let blank = [0u64; WORDS];
+    *state = blank;
 }
 
 // How many slots hold nodes.

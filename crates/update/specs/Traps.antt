@@ -8,7 +8,7 @@ use Rattle.record.specs.ExampleNodes.{T, parent, leaf, labelled, boxed, lists, 
 use Rattle.state.specs.ExampleStates.{id, root, under, tree, state}
 use Rattle.state.specs.State.{State}
 use Rattle.update.specs.ExampleCalls.{then, refuses, accepts, Case, _gives_}
-use Rattle.update.specs.Cases.{one, two, three, main, S, withGraft, threeGrafts, withT, afterS}
+use Rattle.update.specs.Cases.{one, two, main, S, withGraft, threeGrafts, withT, afterS}
 
 -- T's tree 1 → 2, and 1 → 2 → 3, under 3
 abbrev pub twoInT : State

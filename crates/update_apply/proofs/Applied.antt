@@ -13,9 +13,11 @@ use Rattle.update_notes.specs.Setting.{asked, forest, refusal}
 use Rattle.update_notes.specs.Says.{Told, PLANNED}
 use Rattle.update_outcome.proofs.Fits.{outcome-fits, asked-labels}
 use Rattle.update_rows.specs.Rows.{lastNumber, clashes}
-use Rattle.update_rows.proofs.Numbers.{passRows, later-early, later-last}
+use Rattle.update_pass.specs.Rows.{passNumber}
+use Rattle.update_rows.proofs.Numbers.{later-early, later-last}
 use Rattle.update_notes.specs.Says.{outcomeState}
-use Rattle.update_apply.specs.Applied.{Written, Applied}
+use Rattle.update_notes.specs.Says.{Written}
+use Rattle.update_apply.specs.Applied.{Applied}
 
 module _ (state bytes : List ℕ) (c : Scope) (notes next : List ℕ) where
   -- an outcome that was written
@@ -27,13 +29,13 @@ module _ (state bytes : List ℕ) (c : Scope) (notes next : List ℕ) where
   }
 
   -- a batch that rows 9 to 14 refuse
-  pub applied-early : (r : Refusal) → r ≡ refusal (passRows (forest state) (asked bytes c)) → (r .number ≡ 0 → ⊥) → Applied state bytes c notes next r
+  pub applied-early : (r : Refusal) → r ≡ refusal (passNumber (forest state) (asked bytes c)) → (r .number ≡ 0 → ⊥) → Applied state bytes c notes next r
   applied-early r e some =
-      let wrong : passRows (forest state) (asked bytes c) ≡ 0 → ⊥ = λ z. some (ap (λ (q : Refusal). q .number) e ∙ z) in
+      let wrong : passNumber (forest state) (asked bytes c) ≡ 0 → ⊥ = λ z. some (ap (λ (q : Refusal). q .number) e ∙ z) in
       record { number = e ∙ ap refusal (sym (later-early (forest state) (asked bytes c) wrong)); written = λ z. absurd (wrong z) }
 
   -- one that they let pass
-  pub applied-last : (early r : Refusal) → early ≡ refusal (passRows (forest state) (asked bytes c)) → early .number ≡ 0 → Written state bytes c notes next
+  pub applied-last : (early r : Refusal) → early ≡ refusal (passNumber (forest state) (asked bytes c)) → early .number ≡ 0 → Written state bytes c notes next
       → r ≡ refusal (lastNumber (view next .forest) (clashes state bytes c)) → Applied state bytes c notes next r
   applied-last early r e none w q =
       let zero = sym (ap (λ (x : Refusal). x .number) e) ∙ none in

@@ -1,7 +1,9 @@
 // A batch applied to a state: rows 9 to 20, and the outcome in a second array.
 ghost use mathlib.Core.Path.{_≡_};
 ghost use Rattle.update_notes.specs.Says.{Told, READ};
-ghost use Rattle.update_apply.specs.Applied.{Applied, Written, blankWords};
+ghost use Rattle.state_array.specs.Layout.{blankWords};
+ghost use Rattle.update_notes.specs.Says.{Written};
+ghost use Rattle.update_apply.specs.Applied.{Applied};
 use state_array::State;
 use update_notes::Notes;
 use update_notes::Refusal;

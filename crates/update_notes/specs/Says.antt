@@ -14,6 +14,7 @@ use Rattle.record.specs.Batch.{Batch, namedIds}
 use Rattle.record_reader.specs.Reader.{noNode, listedAt}
 use Rattle.state.specs.State.{ParentAndIndex, Forest, State}
 use Rattle.state_array.specs.Layout.{SLOTS}
+use Rattle.state_array.specs.Stored.{stored}
 use Rattle.state_array.specs.View.{graftIn, slotsOf, view}
 use Rattle.update.specs.Words.{here, mine, listed, turn, claim}
 use Rattle.update.specs.Gone.{gone}
@@ -166,3 +167,9 @@ pub record Told (k : ℕ) (state bytes : List ℕ) (c : Scope) (notes : List ℕ
   pub given : Given state bytes c
   pub long : length notes ≡ WORDS
   pub written : (j : ℕ) → j < k → Column (columns state bytes c) notes j
+
+-- the outcome stands in `next`, and the notes have the plan
+pub record Written (state bytes : List ℕ) (c : Scope) (notes next : List ℕ) : Type 0 where
+  pub told : Told PLANNED state bytes c notes
+  pub words : next ≡ stored (outcomeState state bytes c)
+  pub shows : view next ≡ outcomeState state bytes c

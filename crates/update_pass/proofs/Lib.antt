@@ -4,4 +4,3 @@ pub mod Steps
 pub mod Going
 pub mod Rows
 pub mod Causes
-pub mod Words

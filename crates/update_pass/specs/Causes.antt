@@ -3,21 +3,15 @@ use mathlib.Core.List.{List, [], _∷_, _++_, map}
 use mathlib.Core.Option.{Option, none, some}
 use mathlib.Core.Path.{_≡_}
 use Prim.Native.Nat.{ℕ, _<_}
-use lib.Dec.{ltb}
 use lib.ListN.{length, getD}
-use Rattle.base.specs.Tests.{if_then_else_}
-use Rattle.ids.specs.Ids.{ROOT}
 use Rattle.ids.specs.declared.NodeId.{NodeId}
 use Rattle.ids.specs.declared.FullNodeId.{FullNodeId}
 use Rattle.record.specs.Batch.{Listed, Batch, namedIds}
 use Rattle.record_reader.specs.Reader.{noNode, listedAt}
 use Rattle.state.specs.State.{Forest}
-use Rattle.state_focus.specs.declared.FoundNode.{FoundNode}
-use Rattle.state_focus.specs.declared.FoundNode.the-variants as node
 use Rattle.update.specs.Words.{here}
 use Rattle.reasons.specs.Reasons.{Reason, namedTwice, graftOverChildren, graftOfRoot, claimedTwice, withoutPlace, childNowhere}
 use Rattle.reasons.specs.Pass.{namersOf}
-use Rattle.reasons_why.specs.declared.Why.{Why}
 use Rattle.update_pass.specs.declared.Cause.{Cause}
 use Rattle.update_pass.specs.declared.Cause.the-variants.{Nothing, NamedTwice, GraftOverChildren, GraftOfRoot, ClaimedTwice, WithoutPlace, ChildNowhere}
 
@@ -36,10 +30,6 @@ entries (l ∷ ls) = map (λ c. record { by = l .id; child = c }) (l .body .chil
 -- no entry
 abbrev pub noEntry : Entry
 noEntry = record { by = noNode; child = noNode }
-
--- the node whose entry j is, none past the last
-unfoldable pub namerAt : Forest → Batch → ℕ → Option FullNodeId
-namerAt s b j = if ltb j (length (entries (b .nodes))) then some (here s b (getD (entries (b .nodes)) j noEntry .by)) else none
 
 -- ## Causes
 
@@ -84,17 +74,3 @@ Within b (ChildNowhere j) = j < length (namedIds (b .nodes))
 pub record Explains (s : Forest) (b : Batch) (o : Option Reason) (r : Cause) : Type 0 where
   pub within : Within b r
   pub is : o ≡ causeReason s b r
-
--- ## A reason of nodes alone
-
-unfoldable pub plainNodes : ℕ → FullNodeId → FoundNode → FoundNode → Why
-plainNodes number x by also = record {
-  number = number;
-  rule = 0;
-  place = 0;
-  other = 0;
-  tree = ROOT;
-  node = node.At x;
-  by = by;
-  also = also;
-}

@@ -1,20 +1,16 @@
-// The crate's pass over the nodes, 9 to 12 as it meets them, and rows 13 and 14: the first that holds, and why.
-mod why;
-
+// The crate's pass over the nodes, 9 to 12 as it meets them, and rows 13 and 14: the first that holds, and what makes it hold.
 ghost use mathlib.Core.Path.{_≡_};
 ghost use Prim.Native.Nat.{_+_, _<_};
 ghost use Rattle.base.specs.Search.{First};
 ghost use Rattle.record.specs.Parse.{batchOf};
-ghost use Rattle.reasons_why.specs.Why.{whyFor};
 ghost use Rattle.update_notes.specs.Setting.{forest, asked, refusal};
 ghost use Rattle.update_notes.specs.Says.{Told, READ};
 ghost use Rattle.update_pass.specs.Causes.{causeNumber};
 ghost use Rattle.update_pass.specs.Steps.{dueOf, Due, DueRoom, Firsts, Prepared, entriesBefore, Standing, Moves, Names, isTaken, PlacedIs};
-ghost use Rattle.update_pass.specs.Rows.{passNumber, rowReason, PassExplained, RowsExplained, FirstPlaceless, NowhereAt, FirstNowhere};
+ghost use Rattle.update_pass.specs.Rows.{passNumber, PassExplained, RowsExplained, FirstPlaceless, NowhereAt, FirstNowhere};
 use ids::FullNodeId;
 use ids::NodeId;
 use ids::TreeId;
-use reasons_why::Why;
 use state_array::State;
 use update_notes::Notes;
 use update_notes::Refusal;
@@ -39,7 +35,7 @@ struct Naming {
 }
 
 // What makes the first of rows 9 to 14 hold, listed nodes and child entries by their places.
-enum Cause {
+pub enum Cause {
     // None of them holds.
     Nothing,
     // 9: the entry names a child that an earlier one names.
@@ -63,15 +59,6 @@ pub fn pass_rows<'a>(state: &'a State, batch: &'a [u8], scope: Scope, notes: &'a
     update_notes::refuse(number_of(cause_of(state, batch, scope, notes)))
 }
 
-// Why rows 9 to 14 refuse the batch.
-pub fn pass_why<'a>(state: &'a State, batch: &'a [u8], scope: Scope, notes: &'a Notes) -> Why
-    requires { ⌜ Told READ (now state) (now batch) scope (now notes) ⌝ }
-    ensures { λ r. ⌜ r ≡ whyFor (rowReason (forest (now (state .entry))) (asked (now (batch .entry)) scope)) ⌝ }
-{
-    let cause = cause_of(state, batch, scope, notes);
-    why::of_cause(state, batch, scope, notes, cause)
-}
-
 // The number of a cause.
 fn number_of(cause: Cause) -> u8
     ensures { λ r. ⌜ r ≡ causeNumber cause ⌝ }
@@ -87,8 +74,8 @@ fn number_of(cause: Cause) -> u8
     }
 }
 
-// The first of rows 9 to 14 that holds.
-fn cause_of<'a>(state: &'a State, batch: &'a [u8], scope: Scope, notes: &'a Notes) -> Cause
+// What makes the first of rows 9 to 14 hold.
+pub fn cause_of<'a>(state: &'a State, batch: &'a [u8], scope: Scope, notes: &'a Notes) -> Cause
     requires { ⌜ Told READ (now state) (now batch) scope (now notes) ⌝ }
     ensures { λ r. ⌜ RowsExplained (forest (now (state .entry))) (asked (now (batch .entry)) scope) r ⌝ }
 {

@@ -21,7 +21,8 @@ use Rattle.update.specs.Numbers.{rowsBeforePass, batchNumber}
 use Rattle.update.specs.Calls.{Answer, refused, accepted, judged, batchRows, updateNumber, updateBatch, update, seed, withoutTreeData, startNumber, started, startBatch, start}
 use Rattle.update.proofs.Calls.{update-is}
 use Rattle.update_rows.specs.Rows.{firstNumber, startRows}
-use Rattle.update_rows.proofs.Numbers.{laterRows, batch-first, batch-later, first-passed, seed-before, start-begun, start-before}
+use Rattle.update_rows.specs.Rows.{laterRows}
+use Rattle.update_rows.proofs.Numbers.{batch-first, batch-later, first-passed, seed-before, start-begun, start-before}
 
 -- any number but 0 refuses
 judged-refused : (k : ℕ) (s : State) (slice : List ℕ) (a : Answer) → (k ≡ 0 → ⊥) → judged k s slice a ≡ refused k s slice

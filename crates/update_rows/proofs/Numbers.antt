@@ -8,36 +8,23 @@ use Prim.Native.Nat.{ℕ}
 use lib.Dec.{ltb, leb}
 use lib.ListN.{length}
 use borrow.Author.Tests.{lt-ltb, leb-false}
-use Rattle.base.specs.Tests.{_&&_, isSome, isNone, any, distinct}
+use Rattle.base.specs.Tests.{_&&_, isSome, isNone, distinct}
 use Rattle.base.specs.Tables.{row, found, first}
 use Rattle.base.proofs.Tables.{first-append, first-append-none}
 use Rattle.base.proofs.Tests.{not-false, call-true}
 use Rattle.ids.specs.Ids.{ROOT, sameTree, sameNode}
 use Rattle.ids.specs.declared.TreeId.{TreeId}
-use Rattle.record.specs.Batch.{Batch, listedIds, namedIds}
+use Rattle.record.specs.Batch.{Batch, listedIds}
 use Rattle.record.specs.Parse.{wellFormed, batchOf}
 use Rattle.state.specs.State.{Forest, holder, subtreeOf}
 use Rattle.state.specs.Sound.{sound}
 use Rattle.update.specs.Words.{known, withTreeData}
-use Rattle.update.specs.Pass.{pass}
-use Rattle.update.specs.Outcome.{outcome}
-use Rattle.update.specs.Numbers.{placeless, nowhere, updatedAndRemoved, rowsBeforePass, rowsAfterPass, batchNumber}
+use Rattle.update.specs.Numbers.{rowsBeforePass, rowsAfterPass, batchNumber}
 use Rattle.update.specs.Calls.{seed, withoutTreeData}
-use Rattle.update_rows.specs.Rows.{firstNumber, startRows, lastNumber}
+use Rattle.update_pass.specs.Rows.{passNumber}
+use Rattle.update_rows.specs.Rows.{firstNumber, startRows, lastNumber, lastRows, laterRows}
 
 -- ## Rows 9 to 20
-
--- rows 9 to 14
-abbrev pub passRows : Forest → Batch → ℕ
-passRows s b = first (found (pass s b) ∷ row 13 (any (placeless s b) (b .nodes)) ∷ row 14 (any (nowhere s b) (namedIds (b .nodes))) ∷ [])
-
--- 12's second part and rows 15 to 20
-abbrev pub lastRows : Forest → Batch → ℕ
-lastRows s b = lastNumber (outcome s b) (any (updatedAndRemoved s b) (b .nodes))
-
--- both
-abbrev pub laterRows : Forest → Batch → ℕ
-laterRows s b = first (found (pass s b) ∷ rowsAfterPass s b (outcome s b))
 
 module _ (s : Forest) (b : Batch) where
   -- 5 to 8
@@ -51,13 +38,13 @@ module _ (s : Forest) (b : Batch) where
   batch-later e = first-append-none (rowsBeforePass s b) _ refl e
 
   -- a batch that rows 9 to 14 refuse
-  pub later-early : (passRows s b ≡ 0 → ⊥) → laterRows s b ≡ passRows s b
-  unfolding rowsAfterPass
+  pub later-early : (passNumber s b ≡ 0 → ⊥) → laterRows s b ≡ passNumber s b
+  unfolding passNumber rowsAfterPass
   later-early h = first-append (found _ ∷ row 13 _ ∷ row 14 _ ∷ []) _ h
 
   -- a batch that they let pass
-  pub later-last : passRows s b ≡ 0 → laterRows s b ≡ lastRows s b
-  unfolding lastNumber rowsAfterPass first
+  pub later-last : passNumber s b ≡ 0 → laterRows s b ≡ lastRows s b
+  unfolding passNumber lastNumber rowsAfterPass first
   later-last e = let z = simp (first-row, first-found) at e in rw (z .0, z .1 .0, z .1 .1 .0)
 
   -- ## What holds after rows 5 to 8

@@ -5,15 +5,17 @@ use Prim.Native.Nat.{ℕ}
 use lib.Dec.{ltb}
 use lib.ListN.{length}
 use Rattle.base.specs.Tests.{isNone, any, distinct}
-use Rattle.base.specs.Tables.{row, first}
+use Rattle.base.specs.Tables.{row, found, first}
 use Rattle.ids.specs.Ids.{ROOT, sameTree, sameNode}
-use Rattle.record.specs.Batch.{listedIds}
+use Rattle.record.specs.Batch.{Batch, listedIds}
 use Rattle.record.specs.Parse.{wellFormed, batchOf}
 use Rattle.state.specs.State.{Forest}
 use Rattle.state.specs.Down.{rootOf}
 use Rattle.state.specs.Focus.{effectiveFocus}
 use Rattle.state.specs.Sound.{graftsDiffer, soundShape, sound}
-use Rattle.update.specs.Numbers.{absent, updatedAndRemoved, rowsBeforePass}
+use Rattle.update.specs.Pass.{pass}
+use Rattle.update.specs.Outcome.{outcome}
+use Rattle.update.specs.Numbers.{absent, updatedAndRemoved, rowsBeforePass, rowsAfterPass}
 use Rattle.update_notes.specs.declared.Scope.{Scope}
 use Rattle.update_notes.specs.Setting.{asked, forest}
 
@@ -47,3 +49,11 @@ lastNumber o clash =
 -- row 18 of the batch that a record and a scope say
 abbrev pub clashes : List ℕ → List ℕ → Scope → Bool
 clashes state bytes c = any (updatedAndRemoved (forest state) (asked bytes c)) (asked bytes c .nodes)
+
+-- rows 12 and 15 to 20 of a batch
+abbrev pub lastRows : Forest → Batch → ℕ
+lastRows s b = lastNumber (outcome s b) (any (updatedAndRemoved s b) (b .nodes))
+
+-- rows 9 to 20 of a batch
+abbrev pub laterRows : Forest → Batch → ℕ
+laterRows s b = first (found (pass s b) ∷ rowsAfterPass s b (outcome s b))

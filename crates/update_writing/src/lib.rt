@@ -1,9 +1,9 @@
 // The outcome of a batch, written into a second array: words that it does not use stay 0.
 ghost use mathlib.Core.Path.{_≡_};
 ghost use Prim.Native.Nat.{_+_, _≤_, _<_};
-ghost use lib.ListN.{length, set, replicate};
+ghost use lib.ListN.{length, set};
 ghost use Rattle.base.specs.Regions.{fill};
-ghost use Rattle.state_array.specs.Layout.{WORDS, SLOTS, ENTRIES, NODE-FIELDS, place, TREE, PARENT-TREE};
+ghost use Rattle.state_array.specs.Layout.{blankWords, SLOTS, ENTRIES, NODE-FIELDS, place, TREE, PARENT-TREE};
 ghost use Rattle.state_array.specs.Stored.{headWord, stored};
 ghost use Rattle.update_notes.specs.Codes.{Coded, codeId};
 ghost use Rattle.update_notes.specs.Setting.{asked, forest};
@@ -27,7 +27,7 @@ pub fn write_outcome<'a>(
     next: &mut State,
 )
     requires { ⌜ Told PLANNED (now state) (now batch) scope (now notes) ⌝ }
-    requires { ⌜ now next ≡ replicate WORDS 0 ⌝ }
+    requires { ⌜ now next ≡ blankWords ⌝ }
     ensures { λ _. ⌜ now (next .exit) ≡ stored (outcomeState (now (state .entry)) (now (batch .entry)) scope) ⌝ }
 {
     write_nodes(state, batch, scope, notes, next);

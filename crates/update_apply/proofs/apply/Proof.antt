@@ -1,13 +1,11 @@
 -- `update_apply::apply` meets its contract: a law for each way out. Assumes nothing.
 use borrow.Author.Needs.{needs}
-use Rattle.update_pass.specs.Rows.{passNumber}
 use Rattle.update_writing.proofs.Plan.{told-compared}
 use Rattle.update_apply.proofs.Applied.{applied-early, applied-last}
 use Rattle.update_apply.proofs.apply.Statement.{statement}
 use Rattle.update_apply.proofs.apply.Tie as tie
 
 returns-2 : tie.Need-returns-2
-unfolding passNumber
 returns-2 c =
     let w = c .before .before .before .before in
     let p = w .before .before .before in
@@ -19,7 +17,7 @@ apply-spec =
     tie.close
     (tie.spec
     (λ c κs. search needs) (λ c κs. search needs)
-    (λ c. unfold passNumber in (applied-early _ _ _ _ _ _ (c .before .before .pass-rows .ensures) (c .if1 .taken)))
+    (λ c. applied-early _ _ _ _ _ _ (c .before .before .pass-rows .ensures) (c .if1 .taken))
     (λ c κs. search needs)
     (λ c κs. told-compared (c .before .write .ensures .told))
     (λ c κs. search needs)

@@ -1,11 +1,12 @@
-// Why a cause refuses the batch: its number, the ids that the notes hold of it, its tree and place.
+// Why rows 9 to 14 refuse a batch: the number of what makes the first of them hold, the ids that the notes have of it, its tree and place.
 ghost use mathlib.Core.Path.{_≡_};
 ghost use Prim.Native.Nat.{_<_};
 ghost use Rattle.reasons_why.specs.Why.{found, whyFor};
 ghost use Rattle.update_notes.specs.Setting.{forest, asked};
 ghost use Rattle.update_notes.specs.Says.{Told, READ};
-ghost use Rattle.update_pass.specs.Causes.{namerAt, listedId, childId, causeReason, Within, plainNodes};
-use crate::Cause;
+ghost use Rattle.update_pass.specs.Causes.{listedId, childId, causeReason, Within};
+ghost use Rattle.update_pass.specs.Rows.{rowReason};
+ghost use Rattle.reasons_pass.specs.Nodes.{namerAt, plainNodes};
 use ids::FullNodeId;
 use ids::NodeId;
 use ids::TreeId;
@@ -14,9 +15,19 @@ use state_array::State;
 use state_focus::FoundNode;
 use update_notes::Notes;
 use update_notes::Scope;
+use update_pass::Cause;
+
+// Why rows 9 to 14 refuse the batch.
+pub fn pass_why<'a>(state: &'a State, batch: &'a [u8], scope: Scope, notes: &'a Notes) -> Why
+    requires { ⌜ Told READ (now state) (now batch) scope (now notes) ⌝ }
+    ensures { λ r. ⌜ r ≡ whyFor (rowReason (forest (now (state .entry))) (asked (now (batch .entry)) scope)) ⌝ }
+{
+    let cause = update_pass::cause_of(state, batch, scope, notes);
+    of_cause(state, batch, scope, notes, cause)
+}
 
 // Of any cause.
-pub fn of_cause<'a>(
+fn of_cause<'a>(
     state: &'a State,
     batch: &'a [u8],
     scope: Scope,

@@ -1,9 +1,9 @@
--- `update_pass::pass_why` meets its contract. Assumes nothing.
+-- `reasons_pass::pass_why` meets its contract. Assumes nothing.
 use mathlib.Core.Path.{ap, sym, _∙_}
 use borrow.Author.Needs.{needs}
 use Rattle.reasons_why.specs.Why.{whyFor}
-use Rattle.update_pass.proofs.pass_why.Statement.{statement}
-use Rattle.update_pass.proofs.pass_why.Tie as tie
+use Rattle.reasons_pass.proofs.pass_why.Statement.{statement}
+use Rattle.reasons_pass.proofs.pass_why.Tie as tie
 
 pub pass-why-spec : {M : Type 1} → statement M
 pass-why-spec =

@@ -1,9 +1,9 @@
--- `calls::seed` meets its contract. Assumes nothing.
+-- `replies::seed` meets its contract. Assumes nothing.
 use borrow.Author.Needs.{needs}
 use denote.Ref.{now}
 use Rattle.replies.proofs.Starts.{seed-shows}
-use Rattle.calls.proofs.seed.Statement.{statement}
-use Rattle.calls.proofs.seed.Tie as tie
+use Rattle.replies.proofs.seed.Statement.{statement}
+use Rattle.replies.proofs.seed.Tie as tie
 
 returns : tie.Need-returns
 returns c =

@@ -30,11 +30,13 @@ use Rattle.update_notes.specs.Setting.{asked, forest}
 use Rattle.update_notes.specs.Says.{PositionIn, Told, READ}
 use Rattle.update_notes.proofs.Setting.{batched-at}
 use Rattle.update_notes.proofs.Told.{batched}
 use Rattle.update_pass.specs.declared.Cause.the-variants.{NamedTwice, GraftOverChildren, GraftOfRoot, ClaimedTwice, WithoutPlace, ChildNowhere}
-use Rattle.update_pass.specs.Causes.{Entry, entries, noEntry, namerAt, causeReason, plainNodes}
+use Rattle.update_pass.specs.Causes.{Entry, entries, noEntry, causeReason}
+use Rattle.reasons_pass.specs.Nodes.{namerAt, plainNodes}
 use Rattle.update_pass.specs.Steps.{entriesBefore}
 use Rattle.update_pass.proofs.Read.{searched, first-count, end-word, named-word}
-use Rattle.update_pass.proofs.Causes.{entries-length, entry-child, namer-found, namer-none, first-namer, second-namer}
+use Rattle.update_pass.proofs.Causes.{entries-length, entry-child}
+use Rattle.reasons_pass.proofs.Namers.{namer-found, namer-none, first-namer, second-namer}
 
 module _ {state bytes : List ℕ} {c : Scope} {notes : List ℕ} (told : Told READ state bytes c notes) where
   -- ## The node whose entry j is

@@ -1,4 +1,4 @@
--- `update_pass::why::namer` meets its contract: the entries of the nodes passed end before j. Assumes nothing.
+-- `reasons_pass::namer` meets its contract: the entries of the nodes passed end before j. Assumes nothing.
 use Prim.Native.Nat.{_+_, _-_}
 use native.Mathlib.Omega.{arith}
 use lib.Dec.{ltb}
@@ -8,9 +8,9 @@ use borrow.Author.Tests.{le-ltb}
 use Rattle.base.proofs.Loops.{Passing, passing-begins, passing-goes}
 use Rattle.update_notes.specs.Layout.{ENDS}
 use Rattle.update_notes.proofs.Told.{few-listed}
-use Rattle.update_pass.proofs.Words.{namer-here, namer-past}
-use Rattle.update_pass.proofs.why.namer.Statement.{statement}
-use Rattle.update_pass.proofs.why.namer.Tie as tie
+use Rattle.reasons_pass.proofs.Words.{namer-here, namer-past}
+use Rattle.reasons_pass.proofs.namer.Statement.{statement}
+use Rattle.reasons_pass.proofs.namer.Tie as tie
 
 abbrev Inv-loop : tie.InvT-loop
 Inv-loop state batch scope notes j k i₀ i = Passing (λ m. ltb j (getD notes (ENDS + m) 0)) k i

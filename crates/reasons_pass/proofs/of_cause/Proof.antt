@@ -1,11 +1,11 @@
--- `update_pass::why::of_cause` meets its contract: by the variant. Assumes nothing.
+-- `reasons_pass::of_cause` meets its contract: by the variant. Assumes nothing.
 use native.Mathlib.Omega.{arith}
 use borrow.Author.Needs.{needs}
 use Rattle.reasons_why.specs.Why.{whyFor}
 use Rattle.update_pass.specs.Causes.{causeReason, Within}
-use Rattle.update_pass.proofs.Words.{why-crowded, why-root}
-use Rattle.update_pass.proofs.why.of_cause.Statement.{statement}
-use Rattle.update_pass.proofs.why.of_cause.Tie as tie
+use Rattle.reasons_pass.proofs.Words.{why-crowded, why-root}
+use Rattle.reasons_pass.proofs.of_cause.Statement.{statement}
+use Rattle.reasons_pass.proofs.of_cause.Tie as tie
 
 named-twice-requires : tie.Need-named-twice-requires
 unfolding Within

@@ -1,10 +1,10 @@
--- `update_pass::why::named_twice` meets its contract: the first entry that holds the child, and the second. Assumes nothing.
+-- `reasons_pass::named_twice` meets its contract: the first entry that holds the child, and the second. Assumes nothing.
 use native.Mathlib.Omega.{arith}
 use borrow.Author.Needs.{needs}
 use Rattle.update_notes.proofs.Told.{few-named}
-use Rattle.update_pass.proofs.Words.{first-within, why-named}
-use Rattle.update_pass.proofs.why.named_twice.Statement.{statement}
-use Rattle.update_pass.proofs.why.named_twice.Tie as tie
+use Rattle.reasons_pass.proofs.Words.{first-within, why-named}
+use Rattle.reasons_pass.proofs.named_twice.Statement.{statement}
+use Rattle.reasons_pass.proofs.named_twice.Tie as tie
 
 pub named-twice-spec : {M : Type 1} → statement M
 named-twice-spec =

@@ -1,0 +1,2 @@
+mod Namers
+mod Words

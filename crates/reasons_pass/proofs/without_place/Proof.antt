@@ -1,0 +1,10 @@
+-- `reasons_pass::without_place` meets its contract. Assumes nothing.
+use borrow.Author.Needs.{needs}
+use Rattle.reasons_why.specs.Why.{found}
+use Rattle.reasons_pass.proofs.Words.{why-placeless}
+use Rattle.reasons_pass.proofs.without_place.Statement.{statement}
+use Rattle.reasons_pass.proofs.without_place.Tie as tie
+
+pub without-place-spec : {M : Type 1} → statement M
+unfolding found
+without-place-spec = tie.close (tie.spec (λ c κs. search needs) (λ c. search why-placeless))
