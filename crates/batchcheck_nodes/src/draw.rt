@@ -119,7 +119,7 @@ fn is_at(found: FoundNode, x: FullNodeId) -> bool {
 // ## The way
 
 // ROOT's root.
-pub fn top(state: &State) -> Place {
+fn top(state: &State) -> Place {
     Place {
         slot: root_slot(state, TreeId { high: 0, low: 0 }),
         depth: 0,

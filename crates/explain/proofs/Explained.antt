@@ -87,11 +87,6 @@ pub wayless-of : (o : Option Reason) (k : ℕ) → (k ≡ 15 → ⊥) → (k ≡
 wayless-of none k f g h = tt
 wayless-of (some r) k f g h = wayless r (λ e. f (sym h ∙ e)) (λ e. g (sym h ∙ e))
 
--- a reason that tells a number but these
-pub wayless-tells : (o : Option Reason) (k : ℕ) → (k ≡ 15 → ⊥) → (k ≡ 17 → ⊥) → Tells o k → Wayless o
-wayless-tells none k f g h = tt
-wayless-tells (some r) k f g h = wayless r (λ e. f (sym (h .0) ∙ e)) (λ e. g (sym (h .0) ∙ e))
-
 -- a reason that tells a number is proper
 pub proper-tells : (o : Option Reason) (k : ℕ) → Tells o k → Proper o
 proper-tells none k h = tt

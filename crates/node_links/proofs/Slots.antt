@@ -40,14 +40,6 @@ module _ (s : List ℕ) (r : ℕ) where
       go (yes h) = (h, Option·some-injective (idIn s r) x (sym (slot-id-some h) ∙ e))
       go (no h) = absurd (Option·none-ne-some x (sym (slot-id-none (omega arith)) ∙ e))
 
-  -- and one that holds none is not
-  pub slot-id-past : slotId s r ≡ none → slotsOf s ≤ r
-  slot-id-past e = go (decLt r (slotsOf s))
-    where
-      go : Dec (r < slotsOf s) → slotsOf s ≤ r
-      go (yes h) = absurd (Option·none-ne-some (idIn s r) (sym e ∙ slot-id-some h))
-      go (no h) = omega arith
-
 -- ## The slots of a sound state
 
 module _ (s : List ℕ) (h : Sound s) where

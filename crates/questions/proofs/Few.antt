@@ -260,9 +260,6 @@ module _ (side : Side) (s : Forest) where
         )
 
     module _ (filter : FullNodeId → FilterResult) (level : ℕ) where
-      pub listed-few : length (flatMap (shown filter side s) (x ∷ ahead side s level x)) ≤ length (s .nodes)
-      listed-few = omega (arith, shown-few filter (x ∷ ahead side s level x), met-few h level x there)
-
       pub ahead-few : length (flatMap (shown filter side s) (ahead side s level x)) ≤ length (s .nodes)
       ahead-few =
           omega (arith, shown-few filter (ahead side s level x), mass-past side s h x there (ahead side s level x), met-few h level x there)
