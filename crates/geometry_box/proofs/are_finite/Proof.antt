@@ -7,7 +7,12 @@ use Rattle.geometry_box.proofs.are_finite.Tie as tie
 
 returns : tie.Need-returns
 unfolding finitePoints _&&_
-returns c = cc
+returns c = rw (
+  c .point-is-finite4 .ensures,
+  c .before .point-is-finite3 .ensures,
+  c .before .before .point-is-finite2 .ensures,
+  c .before .before .before .point-is-finite .ensures,
+)
 
 pub are-finite-spec : {M : Type 1} → statement M
 are-finite-spec = tie.close (tie.spec (λ c κs. search needs) (λ c κs. search needs) (λ c κs. search needs) (λ c κs. search needs) returns)

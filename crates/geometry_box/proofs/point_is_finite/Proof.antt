@@ -7,7 +7,7 @@ use Rattle.geometry_box.proofs.point_is_finite.Tie as tie
 
 returns : tie.Need-returns
 unfolding finitePoint _&&_
-returns c = cc
+returns c = rw (c .is-finite2 .ensures, c .before .is-finite .ensures)
 
 pub point-is-finite-spec : {M : Type 1} → statement M
 point-is-finite-spec = tie.close (tie.spec (λ c κs. search needs) (λ c κs. search needs) returns)

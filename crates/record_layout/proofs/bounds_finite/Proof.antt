@@ -18,4 +18,9 @@ bounds-finite-spec =
     (λ c κs. search needs)
     (λ c. search needs)
     (λ c κs. search needs)
-    (λ c. cc))
+    (λ c. rw (
+      c .finite-at4 .ensures,
+      c .before .finite-at3 .ensures,
+      c .before .before .finite-at2 .ensures,
+      c .before .before .before .finite-at .ensures,
+    )))

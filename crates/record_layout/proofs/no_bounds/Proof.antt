@@ -18,4 +18,4 @@ no-bounds-spec =
     (λ c κs. search needs)
     (λ c. search needs)
     (λ c κs. search needs)
-    (λ c. cc))
+    (λ c. rw (c .zero-at4 .ensures, c .before .zero-at3 .ensures, c .before .before .zero-at2 .ensures, c .before .before .before .zero-at .ensures)))

@@ -22,4 +22,11 @@ no-transform-spec =
     (λ c κs. search needs)
     (λ c. search needs)
     (λ c κs. search needs)
-    (λ c. cc))
+    (λ c. rw (
+      c .zero-at6 .ensures,
+      c .before .zero-at5 .ensures,
+      c .before .before .zero-at4 .ensures,
+      c .before .before .before .zero-at3 .ensures,
+      c .before .before .before .before .zero-at2 .ensures,
+      c .before .before .before .before .before .zero-at .ensures,
+    )))

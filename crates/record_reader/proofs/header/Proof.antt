@@ -12,4 +12,10 @@ header-spec =
     (λ c κs. search needs)
     (λ c κs. search needs)
     (λ c κs. search needs)
-    (λ c. cc))
+    (λ c. rw (
+      c .tree-focus .ensures,
+      c .before .tree-root .ensures,
+      c .before .before .tree-id .ensures,
+      c .before .before .before .has-tree-data .ensures,
+      c .before .before .before .before .node-count .ensures,
+    )))

@@ -16,4 +16,14 @@ node-spec =
     (λ c κs. search needs)
     (λ c κs. search needs)
     (λ c κs. search needs)
-    (λ c. cc))
+    (λ c. rw (
+      c .transform .ensures,
+      c .before .bounds .ensures,
+      c .before .before .flags .ensures,
+      c .before .before .before .role .ensures,
+      c .before .before .before .before .child-count .ensures,
+      c .before .before .before .before .before .first-child .ensures,
+      c .before .before .before .before .before .before .graft .ensures,
+      c .before .before .before .before .before .before .before .active-descendant .ensures,
+      c .before .before .before .before .before .before .before .before .node-id .ensures,
+    )))

@@ -6,4 +6,4 @@ use Rattle.record_reader.proofs.tree_focus.Tie as tie
 
 pub tree-focus-spec : {M : Type 1} → statement M
 unfolding batchOf
-tree-focus-spec = tie.close (tie.spec (λ c κs. search needs) (λ c. cc))
+tree-focus-spec = tie.close (tie.spec (λ c κs. search needs) (λ c. rw (c .u64-at .ensures)))

@@ -6,4 +6,4 @@ use Rattle.record_reader.proofs.tree_id.Tie as tie
 
 pub tree-id-spec : {M : Type 1} → statement M
 unfolding batchOf
-tree-id-spec = tie.close (tie.spec (λ c κs. search needs) (λ c κs. search needs) (λ c. cc))
+tree-id-spec = tie.close (tie.spec (λ c κs. search needs) (λ c κs. search needs) (λ c. rw (c .u64-at2 .ensures, c .before .u64-at .ensures)))

@@ -13,4 +13,9 @@ bounds-at-spec =
     (λ c κs. search needs)
     (λ c κs. search needs)
     (λ c κs. search needs)
-    (λ c. cc))
+    (λ c. rw (
+      c .float-at4 .ensures,
+      c .before .float-at3 .ensures,
+      c .before .before .float-at2 .ensures,
+      c .before .before .before .float-at .ensures,
+    )))

@@ -13,4 +13,9 @@ label-at-spec =
     (λ c κs. search needs)
     (λ c κs. search needs)
     (λ c κs. search needs)
-    (λ c. cc))
+    (λ c. rw (
+      c .label-word4 .ensures,
+      c .before .label-word3 .ensures,
+      c .before .before .label-word2 .ensures,
+      c .before .before .before .label-word .ensures,
+    )))

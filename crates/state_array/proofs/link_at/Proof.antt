@@ -14,4 +14,10 @@ link-at-spec =
     (λ c κs. search needs)
     (λ c κs. search needs)
     (λ c κs. search needs)
-    (λ c. cc))
+    (λ c. rw (
+      c .word-at4 .ensures,
+      c .before .word-at3 .ensures,
+      c .before .before .word-at2 .ensures,
+      c .before .before .before .narrow .ensures,
+      c .before .before .before .before .word-at .ensures,
+    )))

@@ -14,4 +14,10 @@ shape-at-spec =
     (λ c κs. search needs)
     (λ c κs. search needs)
     (λ c κs. search needs)
-    (λ c. cc))
+    (λ c. rw (
+      c .word-at5 .ensures,
+      c .before .word-at4 .ensures,
+      c .before .before .word-at3 .ensures,
+      c .before .before .before .word-at2 .ensures,
+      c .before .before .before .before .word-at .ensures,
+    )))

@@ -15,4 +15,11 @@ transform-at-spec =
     (λ c κs. search needs)
     (λ c κs. search needs)
     (λ c κs. search needs)
-    (λ c. cc))
+    (λ c. rw (
+      c .float-at6 .ensures,
+      c .before .float-at5 .ensures,
+      c .before .before .float-at4 .ensures,
+      c .before .before .before .float-at3 .ensures,
+      c .before .before .before .before .float-at2 .ensures,
+      c .before .before .before .before .before .float-at .ensures,
+    )))

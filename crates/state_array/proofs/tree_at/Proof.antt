@@ -14,4 +14,10 @@ tree-at-spec =
     (λ c κs. search needs)
     (λ c κs. search needs)
     (λ c κs. search needs)
-    (λ c. cc))
+    (λ c. rw (
+      c .entry-at5 .ensures,
+      c .before .entry-at4 .ensures,
+      c .before .before .entry-at3 .ensures,
+      c .before .before .before .entry-at2 .ensures,
+      c .before .before .before .before .entry-at .ensures,
+    )))

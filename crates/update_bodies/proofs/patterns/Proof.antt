@@ -11,4 +11,15 @@ patterns-spec =
     (tie.spec
     (λ c κs. search needs) (λ c κs. search needs) (λ c κs. search needs) (λ c κs. search needs) (λ c κs. search needs) (λ c κs. search needs)
     (λ c κs. search needs) (λ c κs. search needs) (λ c κs. search needs) (λ c κs. search needs)
-    (λ c. unfold patternsIn listOf in (cc)))
+    (λ c. unfold patternsIn listOf in rw (
+      c .pattern10 .ensures,
+      c .before .pattern9 .ensures,
+      c .before .before .pattern8 .ensures,
+      c .before .before .before .pattern7 .ensures,
+      c .before .before .before .before .pattern6 .ensures,
+      c .before .before .before .before .before .pattern5 .ensures,
+      c .before .before .before .before .before .before .pattern4 .ensures,
+      c .before .before .before .before .before .before .before .pattern3 .ensures,
+      c .before .before .before .before .before .before .before .before .pattern2 .ensures,
+      c .before .before .before .before .before .before .before .before .before .pattern .ensures,
+    )))

@@ -19,4 +19,9 @@ same-bounds-spec =
     (λ c κs. search needs)
     (λ c. search needs) (λ c. search needs)
     (λ c κs. search needs)
-    (λ c. unfold sameRect boundsOf sameValue _&&_ in (cc)))
+    (λ c. unfold sameRect boundsOf sameValue _&&_ in rw (
+      c .same-value4 .ensures,
+      c .before .same-value3 .ensures,
+      c .before .before .same-value2 .ensures,
+      c .before .before .before .same-value .ensures,
+    )))
