@@ -38,9 +38,11 @@ header-faults :
     faults
     (header 0 0
     ∷ replicate 63 0
+    -- 65 nodes, 257 child entries, 2,049 label bytes; too many nodes and entries
     ∷ header 0 65
-    ∷ header 3 2
-    ∷ header 5 9
+    ∷ set (header 2 1) 3 1
+    ∷ set (header 4 1) 5 8
+    ∷ set (header 0 65) 3 2
     ∷ header 6 2
     ∷ header 8 65
     -- an offset, and a count that does not fit it
@@ -57,6 +59,7 @@ header-faults :
     ∷ breaks 2 0
     ∷ breaks 3 2
     ∷ breaks 4 4
+    ∷ breaks 2 0
     ∷ breaks 5 6
     ∷ breaks 6 8
     ∷ breaks 7 12

@@ -28,7 +28,7 @@ use Rattle.update.specs.Cases.{startAccepted, childTwice, childDropped, 
 use Rattle.update.specs.Traps.{newRootUnderOldParent, newRootOfPane, newRootDropped, unchangedThenDropped, droppedThenUnchanged, newRootBelow, newRootNamedThenListed, newRootListedThenNamed, rootsInCircle, childrenSwapped, namedByTwo, paneRootKeepsLink, paneRootMarked, signOfZero, traps}
 use Rattle.update.specs.GraftCases.{graftGoesAndClaimed, graftKeptAndClaimed, rootGraftNeverPlaced, graftWithChildTwice, secondGraftPlacedFirst, rootGraftPlacedFirst, childNowhereAndGraftHeld, graftHeld, graftReleasedByGone, graftLetGo, graftUnchanged, treeLetGo, otherTreeGiven, treeGraftedAgain, treeGivenAgain, nestedTreeMoved, graftCases}
 use Rattle.update.specs.FocusCases.{focusMovesOn, activeDescendantIsGraft, hostLeaves, focusCases}
-use Rattle.update.specs.RowCases.{treeWithoutGraft, listedTwice, sliceTooShort, stateUnsound, recordBroken, startBroken, startWithoutTreeData, startOfPane, rowCases}
+use Rattle.update.specs.RowCases.{treeWithoutGraft, listedTwice, sliceTooShort, stateUnsound, hostOfUnsound, recordBroken, startBroken, startWithoutTreeData, startOfPane, rowCases}
 
 abbrev pub Right : Case → Type 0
 Right c = c .got ≡ c .says
@@ -254,6 +254,10 @@ state-unsound : Right stateUnsound
 unfolding computed stateUnsound
 state-unsound = refl
 
+host-of-unsound : Right hostOfUnsound
+unfolding computed hostOfUnsound
+host-of-unsound = refl
+
 record-broken : Right recordBroken
 unfolding computed recordBroken
 record-broken = refl
@@ -273,7 +277,7 @@ start-of-pane = refl
 -- cases 1 to 14, and more: traps, grafts, the focus, the rows
 pub the-cases : AllRight (cases ++ (traps ++ graftCases ++ focusCases ++ rowCases))
 the-cases =
-    (start-accepted, (child-twice, (child-dropped, (focus-dropped, (child-nowhere, (node-alone, (changed-then-dropped, (dropped-then-changed, (graft-with-child, (graft-made, (pane-started, (pane-without-tree-data, (graft-twice, (focus-on-empty-graft, (graft-moved, (child-of-itself, (new-root-under-old-parent, (new-root-of-pane, (new-root-dropped, (unchanged-then-dropped, (dropped-then-unchanged, (new-root-below, (new-root-named-then-listed, (new-root-listed-then-named, (roots-in-circle, (children-swapped, (named-by-two, (pane-root-keeps-link, (pane-root-marked, (sign-of-zero, (graft-goes-and-claimed, (graft-kept-and-claimed, (root-graft-never-placed, (graft-with-child-twice, (second-graft-placed-first, (root-graft-placed-first, (child-nowhere-and-graft-held, (graft-held, (graft-released-by-gone, (graft-let-go, (graft-unchanged, (tree-let-go, (other-tree-given, (tree-grafted-again, (tree-given-again, (nested-tree-moved, (focus-moves-on, (active-descendant-is-graft, (host-leaves, (tree-without-graft, (listed-twice, (slice-too-short, (state-unsound, (record-broken, (start-broken, (start-without-tree-data, (start-of-pane, tt)))))))))))))))))))))))))))))))))))))))))))))))))))))))))
+    (start-accepted, (child-twice, (child-dropped, (focus-dropped, (child-nowhere, (node-alone, (changed-then-dropped, (dropped-then-changed, (graft-with-child, (graft-made, (pane-started, (pane-without-tree-data, (graft-twice, (focus-on-empty-graft, (graft-moved, (child-of-itself, (new-root-under-old-parent, (new-root-of-pane, (new-root-dropped, (unchanged-then-dropped, (dropped-then-unchanged, (new-root-below, (new-root-named-then-listed, (new-root-listed-then-named, (roots-in-circle, (children-swapped, (named-by-two, (pane-root-keeps-link, (pane-root-marked, (sign-of-zero, (graft-goes-and-claimed, (graft-kept-and-claimed, (root-graft-never-placed, (graft-with-child-twice, (second-graft-placed-first, (root-graft-placed-first, (child-nowhere-and-graft-held, (graft-held, (graft-released-by-gone, (graft-let-go, (graft-unchanged, (tree-let-go, (other-tree-given, (tree-grafted-again, (tree-given-again, (nested-tree-moved, (focus-moves-on, (active-descendant-is-graft, (host-leaves, (tree-without-graft, (listed-twice, (slice-too-short, (state-unsound, (host-of-unsound, (record-broken, (start-broken, (start-without-tree-data, (start-of-pane, tt))))))))))))))))))))))))))))))))))))))))))))))))))))))))))
 
 -- the numbers of cases 1 to 14, as they are said
 says-numbers : (cs : List Case) → AllRight cs → map (λ c. c .got .number) cs ≡ map (λ c. c .says .number) cs

@@ -9,7 +9,7 @@ use Rattle.record.specs.Encode.{encode}
 use Rattle.record.specs.ExampleNodes.{T, parent, leaf, lists, batchFor, batch}
 use Rattle.state.specs.ExampleStates.{state}
 use Rattle.state.specs.State.{blank}
-use Rattle.update.specs.Calls.{refused, start, update, updateBatch}
+use Rattle.update.specs.Calls.{refused, start, update, updateBatch, hostFocus}
 use Rattle.update.specs.ExampleCalls.{slice, startWith, then, refuses, Case, _gives_}
 use Rattle.update.specs.Cases.{startS, one, three, main, S, afterS}
 
@@ -32,6 +32,11 @@ sliceTooShort = updateBatch S (batch 2 (lists 1 (parent (2 ∷ [])) ∷ [])) (99
 unfoldable pub stateUnsound : Case
 stateUnsound = update (state (one ∷ three ∷ []) (main ∷ [])) (1 ∷ []) slice gives
     refuses 1 (state (one ∷ three ∷ []) (main ∷ []))
+
+-- 1 of a host focus change, on the same state
+unfoldable pub hostOfUnsound : Case
+hostOfUnsound = hostFocus (state (one ∷ three ∷ []) (main ∷ [])) true gives
+    refused 1 (state (one ∷ three ∷ []) (main ∷ [])) []
 
 -- 2: the last of the eight zero bytes of the header is set; for a start too
 unfoldable pub recordBroken : Case
@@ -57,6 +62,7 @@ rowCases =
     ∷ listedTwice
     ∷ sliceTooShort
     ∷ stateUnsound
+    ∷ hostOfUnsound
     ∷ recordBroken
     ∷ startBroken
     ∷ startWithoutTreeData
