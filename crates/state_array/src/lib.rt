@@ -26,6 +26,9 @@ pub const TREES: usize = 32;
 
 pub const ENTRIES: usize = 512;
 
+// How many fields a node has.
+const FIELDS: usize = 28;
+
 // The most nodes that a sound state has.
 pub const MOST_NODES: usize = 256;
 
@@ -166,11 +169,13 @@ pub fn host(state: &State) -> u64
     state[HOST]
 }
 
-// Field f of slot i, 0 past the last slot; so with every read below.
+// Field f of slot i, 0 past the last field and past the last slot; so with every read below.
 pub fn word_at(state: &State, f: usize, i: usize) -> u64
-    requires { ⌜ f < 28 ⌝ }
     ensures { λ r. ⌜ r ≡ word (now (state .entry)) f i ⌝ }
 {
+    if FIELDS <= f {
+        return 0;
+    }
     if i < SLOTS {
         state[NODES + SLOTS * f + i]
     } else {

@@ -5,7 +5,8 @@ use mathlib.Core.Option.{Option, none, some}
 use mathlib.Core.Path.{_≡_}
 use Prim.Native.Nat.{ℕ, _+_, _-_, _≤_, _<_}
 use lib.Dec.{ltb}
-use Rattle.base.specs.Tests.{_&&_}
+use lib.ListN.{length, set}
+use Rattle.base.specs.Tests.{_&&_, if_then_else_}
 use Rattle.base.specs.Bytes.{allBelow}
 use Rattle.base.specs.Search.{First}
 use Rattle.ids.specs.Ids.{sameId, before}
@@ -39,6 +40,10 @@ pub record SlotAmong (n : ℕ) (id : ℕ → FullNodeId) (x : FullNodeId) (r : �
 
 abbrev pub SlotOf : List ℕ → FullNodeId → ℕ → Type 0
 SlotOf s x r = SlotAmong (slotsOf s) (idIn s) x r
+
+-- a list of hints, two bytes each, with a hint for slot i, if the list is that long and the hint fits
+unfoldable pub withHint : List ℕ → ℕ → ℕ → List ℕ
+withHint hints i hint = if ltb i (length hints) && ltb hint 65536 then set hints i hint else hints
 
 -- what a search for a tree found
 unfoldable pub endsOf : FoundTree → Option SubtreeState

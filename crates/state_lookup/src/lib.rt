@@ -1,13 +1,13 @@
 // Searches in a state: the slot of a node, the tree of a tree id. Each answers for any words.
 ghost use mathlib.Core.Bool.{true};
 ghost use mathlib.Core.Path.{_≡_};
-ghost use Rattle.base.specs.Tests.{position};
+ghost use lib.ListN.{getD};
 ghost use Rattle.base.specs.Search.{First};
-ghost use Rattle.ids.specs.Ids.{sameTree, sameId};
-ghost use Rattle.state.specs.State.{idsOf, subtreeOf};
+ghost use Rattle.ids.specs.Ids.{sameTree};
+ghost use Rattle.state.specs.State.{subtreeOf};
 ghost use Rattle.state.specs.Sound.{ascending};
 ghost use Rattle.state_array.specs.View.{view, slotsOf, treesOf, idIn, treeIn};
-ghost use Rattle.state_lookup.specs.Lookup.{standsAt, inSlot, SlotOf, endsOf};
+ghost use Rattle.state_lookup.specs.Lookup.{standsAt, inSlot, SlotOf, withHint, endsOf};
 use ids::FullNodeId;
 use ids::TreeId;
 use ids::TreeIndex;
@@ -25,14 +25,6 @@ pub struct Ends {
 pub enum FoundTree {
     At(Ends),
     Nothing,
-}
-
-// The slot of a node, in a state whose nodes ascend; the number of slots that hold nodes where it is not there.
-pub fn find(state: &State, id: FullNodeId) -> usize
-    requires { ⌜ ascending (view (now state) .forest .nodes) ≡ true ⌝ }
-    ensures { λ r. ⌜ r ≡ position sameId (idsOf (view (now (state .entry)) .forest .nodes)) id ⌝ }
-{
-    slot_of(state, id)
 }
 
 // The first slot that holds an id, in any state, or their number.
@@ -136,8 +128,10 @@ pub fn slot_near(state: &State, near: usize, id: FullNodeId) -> usize
     slot_of(state, id)
 }
 
-// The slot that a list of hints has for slot i, whatever it is.
-pub fn hint_at(hints: &[u16], i: usize) -> usize {
+// The slot that a list of hints has for slot i, whatever it is; 0 past the last.
+pub fn hint_at(hints: &[u16], i: usize) -> usize
+    ensures { λ r. ⌜ r ≡ getD (now (hints .entry)) i 0 ⌝ }
+{
     if i < hints.len() {
         hints[i] as usize
     } else {
@@ -145,8 +139,10 @@ pub fn hint_at(hints: &[u16], i: usize) -> usize {
     }
 }
 
-// Writes a hint for slot i.
-pub fn set_hint(hints: &mut [u16], i: usize, hint: usize) {
+// Writes a hint for slot i, if the list is that long and the hint fits.
+pub fn set_hint(hints: &mut [u16], i: usize, hint: usize)
+    ensures { λ _. ⌜ now (hints .exit) ≡ withHint (now (hints .entry)) i hint ⌝ }
+{
     if hints.len() <= i {
         return;
     }

@@ -113,7 +113,7 @@ fn find_each(state: &State, t: TreeIndex, notes: &mut Notes, from: usize, count:
             tree: t,
             node: NodeId(notes[from + j]),
         };
-        let slot = state_lookup::find(state, x);
+        let slot = state_lookup::slot_of(state, x);
         notes[to + j] = slot as u64;
         j += 1;
     }

@@ -373,7 +373,7 @@ fn is_marked<'a>(
     requires { ⌜ ascending (view (now state) .forest .nodes) ≡ true ⌝ }
     ensures { λ r. ⌜ r ≡ has sameId (picked weight (now (notes .entry)) start (now (state .entry))) x ⌝ }
 {
-    let i = state_lookup::find(state, x);
+    let i = state_lookup::slot_of(state, x);
     if state_array::slots(state) <= i {
         return false;
     }

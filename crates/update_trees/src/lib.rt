@@ -129,7 +129,7 @@ fn root_goes<'a>(
     ensures { λ r. ⌜ r ≡ gone (forest (now (state .entry))) (asked (now (batch .entry)) scope) (record { tree = record { 0 = k }; node = root }) ⌝ }
 {
     let tree = TreeIndex(k as u32);
-    let slot = state_lookup::find(state, FullNodeId { tree, node: root });
+    let slot = state_lookup::slot_of(state, FullNodeId { tree, node: root });
     if state_array::slots(state) <= slot {
         return false;
     }

@@ -1,4 +1,4 @@
--- `state_array::word_at` meets its contract: past the last slot stands 0. Assumes nothing.
+-- `state_array::word_at` meets its contract: past the last field and the last slot stands 0. Assumes nothing.
 use borrow.Author.Tests.{lt-ltb, le-ltb}
 use Rattle.base.specs.Tests.{_&&_}
 use Rattle.state_array.specs.Layout.{word}
@@ -11,6 +11,7 @@ unfolding word _&&_
 word-at-spec =
     tie.close
     (tie.spec
+    (λ c. search (needs, le-ltb))
     (λ c. search needs)
     (λ c. search needs)
     (λ c. search needs)

@@ -9,6 +9,7 @@ use Rattle.update_notes.specs.Codes.{slotAt}
 use Rattle.update_reading.specs.Reading.{slotWord}
 use native.Mathlib.Omega.{arith}
 use borrow.Author.Needs.{needs}
+use Rattle.state_lookup.proofs.Order.{slot-of-place}
 use Rattle.base.proofs.Loops.{Filling, filling-begins, filling-goes, filling-ends}
 use Rattle.update_reading.proofs.find_each.Statement.{statement}
 use Rattle.update_reading.proofs.find_each.Tie as tie
@@ -26,7 +27,7 @@ loop-again c =
     let a = c .before .before .before .before .args in
     let key = ap (λ s. getD s (a .from + l .j) 0) (l .inv .filled) ∙ fill-kept (a .to) _ (l .j) _ (a .from + l .j) (λ p q. omega arith) in
     filling-goes (l .inv) (c .before .before .loop-test .taken)
-    (c .find .ensures ∙ ap (λ k. slotAt (forest (now (a .state))) (record { tree = a .t; node = record { 0 = k } })) key)
+    (slot-of-place _ _ _ (search needs) (c .slot-of .ensures) ∙ ap (λ k. slotAt (forest (now (a .state))) (record { tree = a .t; node = record { 0 = k } })) key)
 
 pub find-each-spec : {M : Type 1} → statement M
 find-each-spec =

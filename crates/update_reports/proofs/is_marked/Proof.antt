@@ -1,4 +1,5 @@
 -- `update_reports::is_marked` meets its contract: by the word of the node's slot. Assumes nothing.
+use Rattle.state_lookup.proofs.Order.{slot-of-place}
 use Rattle.update_reports.proofs.Slice.{picked-absent, picked-there}
 use borrow.Author.Needs.{needs}
 use Rattle.update_reports.proofs.is_marked.Statement.{statement}
@@ -9,7 +10,7 @@ is-marked-spec =
     tie.close
     (tie.spec
     (λ c κs. search needs) (λ c κs. search needs)
-    (λ c. search picked-absent)
+    (λ c. search (picked-absent, slot-of-place))
     (λ c. search needs) (λ c. search needs) (λ c. search needs)
     (λ c κs. search needs)
-    (λ c. search picked-there))
+    (λ c. search (picked-there, slot-of-place)))

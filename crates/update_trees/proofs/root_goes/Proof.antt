@@ -1,4 +1,5 @@
 -- `update_trees::root_goes` meets its contract: by the root's slot. Assumes nothing.
+use Rattle.state_lookup.proofs.Order.{slot-of-place}
 use Rattle.update_trees.proofs.Entries.{absent-stays, mark-tells}
 use borrow.Author.Needs.{needs}
 use Rattle.update_trees.proofs.root_goes.Statement.{statement}
@@ -10,6 +11,6 @@ root-goes-spec =
     (tie.spec
     (λ c. search needs)
     (λ c κs. search needs) (λ c κs. search needs)
-    (λ c. search absent-stays)
+    (λ c. search (absent-stays, slot-of-place))
     (λ c. search needs) (λ c. search needs) (λ c. search needs)
-    (λ c. search mark-tells))
+    (λ c. search (mark-tells, slot-of-place)))
