@@ -19,8 +19,8 @@ use Rattle.replies.specs.declared.Reply.{Reply}
 use Rattle.replies.specs.Replies.{replyTo, isSet, Answers}
 use Rattle.book.specs.Book as book
 use Rattle.book.specs.Book.{answerTo}
-use Rattle.book.specs.Demand.{stateAfter, bookAfter, Kept}
-use Rattle.book.specs.Contracts.{Call, batch, host, meant, Allows, Chain, idsIn, addedIn, removedIn, Counted, Demand3OfCode}
+use Rattle.book.specs.Demand.{stateAfter, bookAfter, Agrees}
+use Rattle.book.specs.Contracts.{Call, batch, host, meant, Allows, Chain, idsIn, addedIn, removedIn, CountedInSlice, Demand3OfCode}
 use Rattle.book.proofs.Calls.{accepted-update, counted-update}
 use Rattle.book.proofs.Theorem.{demand3}
 
@@ -120,7 +120,7 @@ listed-update s bytes lent =
 
 -- what holds of the definition's answer holds of the words and of the ids that stand in the slice
 counted-code : (u bytes lent kept v : List ℕ) (r : Reply) (slice : List ℕ) → Answers (update (view u) bytes lent) u kept v r slice → r .number ≡ 0
-    → Counted (view u .forest) (view v .forest) r slice
+    → CountedInSlice (view u .forest) (view v .forest) r slice
 unfolding replyTo
 counted-code u bytes lent kept v r slice a accepted =
     let d = update (view u) bytes lent in
@@ -139,8 +139,8 @@ counted-code u bytes lent kept v r slice a accepted =
 pub demand3-code : Demand3OfCode
 unfolding replyTo Allows
 demand3-code bytes flag s r said accepted calls t chain = record {
-  after-the-list = subst (λ (u : State). Kept (u .forest) (bookAfter (view s) (book.opened bytes) (map meant calls))) (chain-view s calls t chain)
-      (subst (λ (u : State). Kept (stateAfter u (map meant calls) .forest) (bookAfter u (book.opened bytes) (map meant calls))) (sym (said .state-is))
+  after-the-list = subst (λ (u : State). Agrees (u .forest) (bookAfter (view s) (book.opened bytes) (map meant calls))) (chain-view s calls t chain)
+      (subst (λ (u : State). Agrees (stateAfter u (map meant calls) .forest) (bookAfter u (book.opened bytes) (map meant calls))) (sym (said .state-is))
       (demand3 bytes (isSet flag) (sym (ap (λ (q : Reply). q .number) (said .reply-is)) ∙ accepted) (map meant calls) .after-the-list));
   each-accepted-batch = λ earlier record-bytes lent later _ u _ v q slice allowed zero.
       counted-code u record-bytes lent _ v q slice allowed zero;

@@ -26,14 +26,14 @@ use Rattle.update.specs.Numbers.{batchNumber}
 use Rattle.update.specs.Calls.{Answer, refused, judged, seed, withoutTreeData, startNumber, started, startBatch, start}
 use Rattle.update.proofs.Sound.{passed, outcome-sound}
 use Rattle.book.specs.Book.{Entry, Book, enterAll, strike, openedBy, opened, Call, answerTo, entered, isEntered, treeOfLine, treesOfLines, entryOfNode}
-use Rattle.book.specs.Demand.{stateAfter, bookAfter, Kept, Demand3}
+use Rattle.book.specs.Demand.{stateAfter, bookAfter, Agrees, Demand3}
 use Rattle.book.proofs.Nodes.{nodes-after, entered-present}
 use Rattle.book.proofs.Calls.{Held, leaves-call, counted-update}
 
 -- ## What is carried says all the sentences
 
-kept : (s : Forest) (k : Book) → Held s k → Kept s k
-kept s k i =
+agrees : (s : Forest) (k : Book) → Held s k → Agrees s k
+agrees s k i =
     let parts = sound-parts s (i .is-sound) in
     let shape = shape-parts s (parts .shape) in
     let r = root-of-shape s shape in
@@ -160,7 +160,7 @@ held-started bytes h z = go (parse bytes) refl z
 pub demand3 : Demand3
 demand3 bytes hostFocused accepted calls = record {
   after-the-list =
-      kept (stateAfter (start bytes hostFocused .state) calls .forest) (bookAfter (start bytes hostFocused .state) (opened bytes) calls)
+      agrees (stateAfter (start bytes hostFocused .state) calls .forest) (bookAfter (start bytes hostFocused .state) (opened bytes) calls)
       (held-after (start bytes hostFocused .state) (opened bytes) calls (held-started bytes hostFocused accepted));
   each-accepted-batch = λ earlier record-bytes slice later _.
       counted-update (stateAfter (start bytes hostFocused .state) earlier) record-bytes slice;

@@ -14,7 +14,7 @@ use Rattle.state_array.specs.View.{view}
 use Rattle.replies.specs.declared.Reply.{Reply}
 use Rattle.replies.specs.Replies.{isSet, Starts, Updates, HostFocuses}
 use Rattle.book.specs.Book as book
-use Rattle.book.specs.Demand.{bookAfter, Kept}
+use Rattle.book.specs.Demand.{bookAfter, Agrees}
 
 -- ## Calls of the functions
 
@@ -52,7 +52,7 @@ abbrev pub removedIn : Reply → List ℕ → List FullNodeId
 removedIn r slice = idsIn slice (2 * (r .lengths .added + r .lengths .updated)) (r .lengths .removed)
 
 -- a batch that led from s to t
-pub record Counted (s t : Forest) (r : Reply) (slice : List ℕ) : Type 0 where
+pub record CountedInSlice (s t : Forest) (r : Reply) (slice : List ℕ) : Type 0 where
   -- it leaves exactly the nodes before it, with those in its added list joined and those in its removed list taken away
   pub nodes-after : (x : FullNodeId) → present (t .nodes) x ≡ ((present (s .nodes) x || has sameId (addedIn r slice) x) && not (has sameId (removedIn r slice) x))
   -- nothing added was there before
@@ -65,14 +65,14 @@ pub record Counted (s t : Forest) (r : Reply) (slice : List ℕ) : Type 0 where
 -- what the demand says of one start, which left the words s, one list of calls and one chain to the words t
 pub record CodeClaim (bytes s : List ℕ) (calls : List Call) (t : List ℕ) : Type 0 where
   -- after the list
-  pub after-the-list : Kept (view t .forest) (bookAfter (view s) (book.opened bytes) (map meant calls))
+  pub after-the-list : Agrees (view t .forest) (bookAfter (view s) (book.opened bytes) (map meant calls))
   -- each accepted batch in the list, on the words u that it was handed, with the words v and the slice that it left
   pub each-accepted-batch : (earlier : List Call) (record-bytes lent : List ℕ) (later : List Call)
       → calls ≡ earlier ++ batch record-bytes lent ∷ later
       → (u : List ℕ) → Chain s earlier u
       → (v : List ℕ) (r : Reply) (slice : List ℕ) → Allows u (batch record-bytes lent) v r slice
       → r .number ≡ 0
-      → Counted (view u .forest) (view v .forest) r slice
+      → CountedInSlice (view u .forest) (view v .forest) r slice
 
 -- of any accepted start and any list of calls after it, refused ones included and whatever they hold
 abbrev pub Demand3OfCode : Type 0

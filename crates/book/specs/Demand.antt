@@ -30,8 +30,8 @@ bookAfter s k (c ∷ cs) = bookAfter (answerTo s c .state) (entered k c (answerT
 
 -- ## The sentences of the demand
 
--- what holds of a state and its book
-pub record Kept (s : Forest) (k : Book) : Type 0 where
+-- what a state and its book agree on
+pub record Agrees (s : Forest) (k : Book) : Type 0 where
   -- the state's nodes with their children and grafts are exactly the book's
   pub nodes-are-the-books : map entryOfNode (s .nodes) ≡ k .nodes
   -- and so are the roots and focuses of existing trees
@@ -77,7 +77,7 @@ pub record Counted (s : Forest) (a : Answer) : Type 0 where
 -- what the demand says of one start and one list of calls
 pub record Claim (bytes : List ℕ) (hostFocused : Bool) (calls : List Call) : Type 0 where
   -- after the list
-  pub after-the-list : Kept (stateAfter (start bytes hostFocused .state) calls .forest) (bookAfter (start bytes hostFocused .state) (opened bytes) calls)
+  pub after-the-list : Agrees (stateAfter (start bytes hostFocused .state) calls .forest) (bookAfter (start bytes hostFocused .state) (opened bytes) calls)
   -- each accepted batch in the list
   pub each-accepted-batch : (earlier : List Call) (record-bytes slice : List ℕ) (later : List Call)
       → calls ≡ earlier ++ batch record-bytes slice ∷ later

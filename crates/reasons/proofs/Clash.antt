@@ -35,7 +35,7 @@ use Rattle.reasons.specs.Pass.{claimerAmong, secondClaim, placing, passR
 use Rattle.reasons.specs.Outcome.{claims, clashReason}
 use Rattle.reasons.proofs.Numbers.{claimer-some}
 use Rattle.reasons.proofs.Events.{listing-member}
-use Rattle.reasons.proofs.Kept.{none-made, none-if, none-or}
+use Rattle.reasons.proofs.Unbroken.{none-made, none-if, none-or}
 use Rattle.reasons.specs.Reasons.{claimedTwice, claimedFromHolder, graftedTwice, Regraft}
 use Rattle.reasons.specs.Shape.{graftTwiceFrom}
 use Rattle.reasons.specs.Holds.{Grafts, Claims, Breaks, OfBatch}

@@ -30,7 +30,7 @@ use Rattle.reasons.specs.Holds.{Breaks}
 use Rattle.reasons.specs.Shape.{idsBelow, widened, reached, metLinks, metLink, brokenShape, brokenState, spot, at}
 use Rattle.reasons.proofs.Broken.{has-member, member-present, shape-says, state-says}
 use Rattle.reasons.proofs.Links.{rootLinks, member-map, links-below, below-links, widened-more, widened-old, wider-old, wider-below, wider-cases}
-use Rattle.reasons.proofs.Kept.{Kept, kept, none-each, none-made, none-unless, spot-none}
+use Rattle.reasons.proofs.Unbroken.{Unbroken, unbroken, none-each, none-made, none-unless, spot-none}
 use Rattle.reasons.proofs.First.{said}
 use Rattle.reasons.proofs.Unsound.{state-broken}
 
@@ -40,7 +40,7 @@ single [] x l i = absurd (List·Memᴰ·not-nil i)
 single (y ∷ []) x l i = rw (List·Memᴰ·eq-of-singleton i)
 single (y ∷ z ∷ zs) x l i = absurd (omega arith)
 
-module _ (s : Forest) (k : Kept s) where
+module _ (s : Forest) (k : Unbroken s) where
   r : Root s
   r = root-of-tables (s .nodes) (s .trees) (k .first) (k .held)
 
@@ -196,15 +196,15 @@ module _ (s : Forest) (k : Kept s) where
       all-of (metOnce (wayDown s)) (s .nodes)
       (λ n i. let z = node-met n i in eq-eqb (meets (n .id) (wayDown s)) 1 (omega (arith, single-met (n .id), met-count (n .id) (wayDown s) (z .0) (z .1) (z .2))))
 
-  pub kept-sound : soundShape s ≡ true
+  pub unbroken-sound : soundShape s ≡ true
   unfolding soundShape soundLinks soundTrees wayEnds
-  kept-sound =
+  unbroken-sound =
       joined (joined (joined (joined (joined all-once all-recorded) (k .bare)) (joined (joined (joined (k .differ) (k .first)) (k .one-id)) (k .held))) (k .ordered))
       (le-leb (length (wayDown s)) (length (s .nodes)) short)
 
 -- where no rule is found broken, the shape is sound
 pub shape-complete : (s : Forest) → brokenShape s ≡ none → soundShape s ≡ true
-shape-complete s e = kept-sound s (kept s e)
+shape-complete s e = unbroken-sound s (unbroken s e)
 
 -- ## The answers
 

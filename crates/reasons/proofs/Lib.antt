@@ -5,7 +5,7 @@ pub mod Places
 pub mod Broken
 pub mod Links
 pub mod Unsound
-pub mod Kept
+pub mod Unbroken
 pub mod Complete
 pub mod Exact
 pub mod Events

@@ -120,7 +120,7 @@ module _ (s : Forest) where
       member-has xs x i = any-of (sameId x) xs x i (same-id-refl x)
 
 -- every rule for links and trees
-pub record Kept (s : Forest) : Type 0 where
+pub record Unbroken (s : Forest) : Type 0 where
   pub there : (n : NodeState) (x : FullNodeId) → List·Memᴰ n (s .nodes) → List·Memᴰ x (idsBelow s n) → present (s .nodes) x ≡ true
   pub once : (n : NodeState) → List·Memᴰ n (s .nodes) → length (metLinks s (reached s) (n .id)) ≤ 1
   pub met : (n : NodeState) → List·Memᴰ n (s .nodes) → metLinks s (reached s) (n .id) ≡ [] → ⊥
@@ -132,9 +132,9 @@ pub record Kept (s : Forest) : Type 0 where
   pub held : allGrafted (s .nodes) 0 (s .trees) ≡ true
   pub ordered : ascending (s .nodes) ≡ true
 
-pub kept : (s : Forest) → brokenShape s ≡ none → Kept s
+pub unbroken : (s : Forest) → brokenShape s ≡ none → Unbroken s
 unfolding brokenShape brokenLinks brokenTrees unmet oneIdEach isMetTwice isNeverMet
-kept s e =
+unbroken s e =
     let parts = none-each (brokenLinks s (reached s) ∷ brokenTrees s ∷ disorderFrom 0 (s .nodes) ∷ []) e in
     let links = none-each
     (at tooManyChildren (spot crowded (s .nodes))
