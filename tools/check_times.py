@@ -1,7 +1,8 @@
 #!/usr/bin/env python3
-"""check_times.py [PROGRAM]: the table of docs/CHECK-TIMES.md, from the seconds that the last run of `rt ci` or `rt check` left in target/log.
+"""check_times.py [PROGRAM]: the table of docs/CHECK-TIMES.md, from the seconds that the last run of `rt ci`, `rt prove` or `rt check` left in
+target/log. A run of `RT_JOBS=2 rt prove` on two processors leaves what each crate takes by itself; where more run at a time, each takes longer.
 
-Then what proving takes by itself, without the edits: rt proves the crates level by level, two at a time, and waits for both. With PROGRAM, only
+Then what proving takes without the edits: rt proves the crates level by level, so many at a time, and waits for all of these. With PROGRAM, only
 what that crate needs. The order of the lines in crates.txt says which crates of one level are proved together.
 """
 import pathlib
@@ -49,6 +50,15 @@ def levels(deps, wanted):
     return [[n for n in level if level[n] == k] for k in range(max(level.values()) + 1)]
 
 
+def shared(times):
+    """The seconds that checks which start together take on two processors, where each takes so long by itself."""
+    whole, done, left = 0, 0, len(times)
+    for time in sorted(times):
+        whole += (time - done) * max(1, left / 2)
+        done, left = time, left - 1
+    return whole
+
+
 def main():
     deps = listed()
     rows = levels(deps, sys.argv[1:] or deps)
@@ -58,11 +68,12 @@ def main():
     print("| crate | s | edits | s × (1 + edits) | crate | s | edits | s × (1 + edits) |\n|---|---|---|---|---|---|---|---|")
     for k in range(half):
         print(f"| {cells[k]} | {cells[half + k]} |")
-    pairs = [row[k:k + 2] for row in rows for k in range(0, len(row), 2)]
     print(f"\n{len(names)} crates, {sum(map(seconds, names))} s; {sum(map(edits, names))} edits, {sum(map(edit_seconds, names))} s; s × (1 + edits) {sum(seconds(n) * (1 + edits(n)) for n in names)}")
-    print(f"two at a time, level by level: {sum(max(map(seconds, pair)) for pair in pairs)} s")
-    for pair in pairs:
-        print("  " + ", ".join(f"{n} {seconds(n)}" for n in pair))
+    for jobs in 2, 3, 4:
+        together = [row[k:k + jobs] for row in rows for k in range(0, len(row), jobs)]
+        print(f"{jobs} at a time, level by level: {sum(shared(list(map(seconds, some))) for some in together):.0f} s")
+    for row in rows:
+        print("  " + ", ".join(f"{n} {seconds(n)}" for n in row))
 
 
 if __name__ == "__main__":
