@@ -5,7 +5,7 @@ Each change below replaces one text of crates/*/src. The changed sources are bui
 the proved archive, the driver loads it, and a short run must find calls or answers that differ. Exit status 0: every change was noticed, and the
 sources without a change differ nowhere.
 """
-import argparse, os, re, shutil, subprocess, sys, tempfile
+import argparse, glob, os, re, shutil, subprocess, sys, tempfile
 from crates import needed
 
 HERE = os.path.dirname(os.path.abspath(__file__))
@@ -23,119 +23,119 @@ CHANGES = [
     ('a state\'s unused flag bit is not looked at', 'state_fields', '\n        & (flags < 64)', ''),
     ('a state\'s role past the byte is not looked at', 'state_fields', '\n        & (word_at(state, state_array::ROLE, i) < 256)', ''),
     ('a state\'s recorded places are not looked at', 'state_sound/walk', ' & (l.index == j as u64)', ''),
-    ('the 32nd tree is refused with 8', 'update_rows', '(state_array::TREES <= m)', '(31 <= m)'),
-    ('10 asked before the children are named, so before 9', 'update_pass',
+    ('the 32nd tree is refused with 8', 'calls/rows', '(state_array::TREES <= m)', '(31 <= m)'),
+    ('10 asked before the children are named, so before 9', 'calls/pass',
      '    let k = scope.listed;\n    let mut done = [0u8; 65];',
      '''    let k = scope.listed;
     if 0 < k {
-        if update_notes::grafts_new(batch, 0) & (0 < record_reader::child_count(batch, 0)) {
+        if notes::grafts_new(batch, 0) & (0 < record_reader::child_count(batch, 0)) {
             return Cause::GraftOverChildren(0);
         }
     }
     let mut done = [0u8; 65];'''),
-    ('12\'s clash with a graft already held judged before 14', 'update_apply',
+    ('12\'s clash with a graft already held judged before 14', 'calls/apply',
      '    if early.number != 0 {\n',
      '''    if early.number == 14 {
         write(state, batch, scope, notes, next);
-        let late = update_rows::last_rows(next, false);
+        let late = rows::last_rows(next, false);
         if late.number == 12 {
             return late;
         }
     }
     if early.number != 0 {
 '''),
-    ('a listed node never goes', 'update_gone', 'goes_if(turn <= parent_turn)', 'goes_if(turn < 1)'),
-    ('a tree goes with its old graft, though another node grafts it', 'update_gone',
-     'if update_notes::claimed_from(state, batch, notes, k, slot) < k {\n        return STAYS;',
-     'if update_notes::claimed_from(state, batch, notes, k, slot) < k {\n        return GOES;'),
-    ('a tree whose nodes went still exists', 'update_trees', 'if root_goes(state, batch, scope, notes, k, root) {', 'if root_goes(state, batch, scope, notes, k, root) & (k < 1) {'),
+    ('a listed node never goes', 'calls/gone', 'goes_if(turn <= parent_turn)', 'goes_if(turn < 1)'),
+    ('a tree goes with its old graft, though another node grafts it', 'calls/gone',
+     'if notes::claimed_from(state, batch, notes, k, slot) < k {\n        return STAYS;',
+     'if notes::claimed_from(state, batch, notes, k, slot) < k {\n        return GOES;'),
+    ('a tree whose nodes went still exists', 'calls/trees', 'if root_goes(state, batch, scope, notes, k, root) {', 'if root_goes(state, batch, scope, notes, k, root) & (k < 1) {'),
     ('floats compared by bits', 'update_bodies', 'record_wire::f64_of(x) == record_wire::f64_of(y)', 'x == y'),
-    ('new bits written over equal data', 'update_plan', '(turn - 1) as usize] == 1 {', '(turn - 1) as usize] <= 1 {'),
-    ('a pane\'s root listed without tree data loses its link', 'update_links', 'let cut = root & scope.is_root_tree;', 'let cut = root;'),
-    ('a tree moved to another graft keeps its old link', 'update_links', 'under(listed_id(state, batch, scope, notes, i), 0)', 'was'),
-    ('256 nodes are too many', 'update_rows', 'if state_array::MOST_NODES < state_array::slots(next) {', 'if state_array::MOST_NODES <= state_array::slots(next) {'),
-    ('relinked leaves out a change to no parent', 'update_reports', 'return was.linked != 0;', 'return false;'),
-    ('the lists in descending order', 'update_reports',
+    ('new bits written over equal data', 'calls/plan', '(turn - 1) as usize] == 1 {', '(turn - 1) as usize] <= 1 {'),
+    ('a pane\'s root listed without tree data loses its link', 'calls/links', 'let cut = root & scope.is_root_tree;', 'let cut = root;'),
+    ('a tree moved to another graft keeps its old link', 'calls/links', 'under(listed_id(state, batch, scope, notes, i), 0)', 'was'),
+    ('256 nodes are too many', 'calls/rows', 'if state_array::MOST_NODES < state_array::slots(next) {', 'if state_array::MOST_NODES <= state_array::slots(next) {'),
+    ('relinked leaves out a change to no parent', 'calls/reports', 'return was.linked != 0;', 'return false;'),
+    ('the lists in descending order', 'calls/reports',
      '''if has_bit(notes[start + i], weight) {
             let x = state_array::id_at(state, i);''',
      '''let o = n - 1 - i;
         if has_bit(notes[start + o], weight) {
             let x = state_array::id_at(state, o);'''),
     ('the focus passes through one graft only', 'state_focus', 'let mut left = state_array::trees(state);', 'let mut left = 1usize;'),
-    ('the focus before is read after the batch', 'update_reports', 'let before = state_focus::focus(state);', 'let before = state_focus::focus(next);'),
-    ('an old focus that was updated is an extra id', 'update_reports',
+    ('the focus before is read after the batch', 'calls/reports', 'let before = state_focus::focus(state);', 'let before = state_focus::focus(next);'),
+    ('an old focus that was updated is an extra id', 'calls/reports',
      'if is_marked(next, notes, CHANGED, UPDATED, x) | is_marked(state, notes, GOES, REMOVED, x) {', 'if is_marked(state, notes, GOES, REMOVED, x) {'),
-    ('a batch sets the host flag', 'update_writing', 'next[state_array::HOST] = host;', 'next[state_array::HOST] = 1;'),
+    ('a batch sets the host flag', 'calls/writing', 'next[state_array::HOST] = host;', 'next[state_array::HOST] = 1;'),
     ('bytes of a label that is cut are left', 'state_array', 'low_bytes(word_at(state, LABEL + k, i), length - from)', 'word_at(state, LABEL + k, i)'),
-    ('the added ids are written before 21', 'update_reports', '    if !fit {\n', '    if !fit {\n        if 1 < changes.len() {\n            changes[0] = 0;\n        }\n'),
+    ('the added ids are written before 21', 'calls/reports', '    if !fit {\n', '    if !fit {\n        if 1 < changes.len() {\n            changes[0] = 0;\n        }\n'),
     ('21 hands back the blank state', 'calls', '        return replies::refused(21);', '        clear(state);\n        return replies::refused(21);'),
     ('a refused start leaves what it made', 'calls', '        state_array::clear(state);\n        return replies::refused(refusal.number);', '        return replies::refused(refusal.number);'),
 ]
 
 # The same in the code of modules 6 to 8: questions about made screens must notice these.
 QUESTIONS = [
-    ('the child\'s transform on the left', 'node_links', 'geometry_box::product(direct_transform(state, p), whole)', 'geometry_box::product(whole, direct_transform(state, p))'),
+    ('the child\'s transform on the left', 'question_calls/links', 'geometry_box::product(direct_transform(state, p), whole)', 'geometry_box::product(whole, direct_transform(state, p))'),
     ('a product\'s shift is not shifted', 'geometry_box', 'e: p.a * q.e + p.c * q.f + p.e,', 'e: p.a * q.e + p.c * q.f + q.e,'),
     ('a box from three corners', 'geometry_box', 'let q = apply(t, r.x0, r.y1);', 'let q = apply(t, r.x0, r.y0);'),
     ('a box with a corner that is not finite', 'geometry_box', 'if are_finite(p, q, u, v) {', 'if are_finite(p, q, u, v) | (t.a > 1.0) {'),
     ('an overlap not cut at zero', 'geometry_box', 'if 0.0 < length { length } else { 0.0 }', 'length'),
-    ('hidden not inherited', 'node_links', 'hidden_up(state, parents, i, state_array::SLOTS)', 'hidden_at(state, i)'),
-    ('a filled graft without a child', 'node_links', 'FoundTree::At(_) => 1,', 'FoundTree::At(_) => 0,'),
-    ('the last sibling not stepped to', 'node_links', 'if count - index < 2 {', 'if count - index < 3 {'),
-    ('back to the first sibling', 'node_links', 'child_id(state, p, index as usize - 1)', 'child_id(state, p, 0)'),
-    ('a node that is not there is asked about', 'node_asked', 'if state_array::slots(state) <= slot {', 'if state_array::slots(state) < slot {'),
-    ('a question on a state that is not sound', 'node_asked', 'if !state_sound::sound_noting(state, parents) {', 'if !state_fields::fields_are_ok(state) {'),
-    ('a slice just long enough for the children refused', 'node', 'if out.len() / 2 < length {', 'if out.len() / 2 <= length {'),
-    ('a node\'s own flags mixed up', 'node_answers/own', 'hidden: flag(flags, 1),', 'hidden: flag(flags, 2),'),
-    ('the ends of a tree that went', 'node/tree_state', 'if t.exists == 0 {', 'if (t.exists == 0) & (k < 1) {'),
-    ('focused though it is its own active descendant', 'filters_plain', 'if a == i {\n        return n;', 'if a == i {\n        return i;'),
-    ('focused without the host', 'filters_plain', 'if state_array::host(state) == 0 {', 'if state_array::host(state) == 7 {'),
-    ('a text run is listed', 'filters_plain', ' | (role == 1)', ''),
-    ('a neighbour inside a container not met', 'filters_plain', 'FilterResult::ExcludeNode => iterators_steps::into(state, parents, side, at),', 'FilterResult::ExcludeNode => iterators_steps::after(state, parents, side, at),'),
-    ('the parent\'s filter not asked', 'filters', 'if is_exclude_subtree(common_filter_up(state, parents, focused, p)) {', 'if is_exclude_subtree(common_filter_up(state, parents, focused, p)) & (p < 1) {'),
-    ('the neighbour before not asked', 'filters', '    !is_first_sibling_in_parent_bbox(state, parents, focused, Side::Preceding, at, parent_bbox)', '    true'),
-    ('clips where the node, not its parent, clips', 'filters', 'if !clips_children(state, p) {', 'if !clips_children(state, i) {'),
-    ('no exception for the root', 'filters', '    if is_root(state, i) {\n        return FilterResult::Include;', '    if is_root(state, i) {\n        return common_filter_at(state, parents, focused, i);'),
-    ('what is known of one node believed of another', 'filters', 'if p == known.slot {', 'if known.slot <= p {'),
-    ('a node above a dropped one is not looked for', 'filters', 'included: above.included,', 'included: n,'),
-    ('a walk climbs one level less', 'iterators_steps', 'if level < 1 {', 'if level < 2 {'),
-    ('a level not counted on the way down', 'iterators_steps', 'level: one_more(at.level),', 'level: at.level,'),
-    ('the siblings before in order', 'iterators_lists', 'run.index - 1 - k', 'k'),
-    ('filtered siblings of its own parent alone', 'iterators_shown', 'let level = up.level;', 'let level = 0usize;'),
-    ('the deepest child one level down', 'iterators_shown', 'if n <= next {', 'if n <= next + n {'),
-    ('a walk one behind its count', 'iterators_shown', 'while left > 0 {', 'while left > 1 {'),
-    ('a slice just long enough for a list refused', 'iterators', 'if out.len() < words {', 'if out.len() <= words {'),
-    ('an element beyond the list written', 'iterators', 'while i < words {', 'while (i < words + 1) & (i < out.len()) {'),
+    ('hidden not inherited', 'question_calls/links', 'hidden_up(state, parents, i, state_array::SLOTS)', 'hidden_at(state, i)'),
+    ('a filled graft without a child', 'question_calls/links', 'FoundTree::At(_) => 1,', 'FoundTree::At(_) => 0,'),
+    ('the last sibling not stepped to', 'question_calls/links', 'if count - index < 2 {', 'if count - index < 3 {'),
+    ('back to the first sibling', 'question_calls/links', 'child_id(state, p, index as usize - 1)', 'child_id(state, p, 0)'),
+    ('a node that is not there is asked about', 'question_calls/node_asked', 'if state_array::slots(state) <= slot {', 'if state_array::slots(state) < slot {'),
+    ('a question on a state that is not sound', 'question_calls/node_asked', 'if !state_sound::sound_noting(state, parents) {', 'if !state_fields::fields_are_ok(state) {'),
+    ('a slice just long enough for the children refused', 'question_calls/node', 'if out.len() / 2 < length {', 'if out.len() / 2 <= length {'),
+    ('a node\'s own flags mixed up', 'question_calls/own', 'hidden: flag(flags, 1),', 'hidden: flag(flags, 2),'),
+    ('the ends of a tree that went', 'question_calls/node/tree_state', 'if t.exists == 0 {', 'if (t.exists == 0) & (k < 1) {'),
+    ('focused though it is its own active descendant', 'question_calls/plain', 'if a == i {\n        return n;', 'if a == i {\n        return i;'),
+    ('focused without the host', 'question_calls/plain', 'if state_array::host(state) == 0 {', 'if state_array::host(state) == 7 {'),
+    ('a text run is listed', 'question_calls/plain', ' | (role == 1)', ''),
+    ('a neighbour inside a container not met', 'question_calls/plain', 'FilterResult::ExcludeNode => steps::into(state, parents, side, at),', 'FilterResult::ExcludeNode => steps::after(state, parents, side, at),'),
+    ('the parent\'s filter not asked', 'question_calls/filters', 'if is_exclude_subtree(common_filter_up(state, parents, focused, p)) {', 'if is_exclude_subtree(common_filter_up(state, parents, focused, p)) & (p < 1) {'),
+    ('the neighbour before not asked', 'question_calls/filters', '    !is_first_sibling_in_parent_bbox(state, parents, focused, Side::Preceding, at, parent_bbox)', '    true'),
+    ('clips where the node, not its parent, clips', 'question_calls/filters', 'if !clips_children(state, p) {', 'if !clips_children(state, i) {'),
+    ('no exception for the root', 'question_calls/filters', '    if is_root(state, i) {\n        return FilterResult::Include;', '    if is_root(state, i) {\n        return common_filter_at(state, parents, focused, i);'),
+    ('what is known of one node believed of another', 'question_calls/filters', 'if p == known.slot {', 'if known.slot <= p {'),
+    ('a node above a dropped one is not looked for', 'question_calls/filters', 'included: above.included,', 'included: n,'),
+    ('a walk climbs one level less', 'question_calls/steps', 'if level < 1 {', 'if level < 2 {'),
+    ('a level not counted on the way down', 'question_calls/steps', 'level: one_more(at.level),', 'level: at.level,'),
+    ('the siblings before in order', 'question_calls/lists', 'run.index - 1 - k', 'k'),
+    ('filtered siblings of its own parent alone', 'question_calls/shown', 'let level = up.level;', 'let level = 0usize;'),
+    ('the deepest child one level down', 'question_calls/shown', 'if n <= next {', 'if n <= next + n {'),
+    ('a walk one behind its count', 'question_calls/shown', 'while left > 0 {', 'while left > 1 {'),
+    ('a slice just long enough for a list refused', 'question_calls/iterators', 'if out.len() < words {', 'if out.len() <= words {'),
+    ('an element beyond the list written', 'question_calls/iterators', 'while i < words {', 'while (i < words + 1) & (i < out.len()) {'),
 ]
 
 # The same in the code that says why: the driver's own tests of the reasons must notice these.
 REASONS = [
     ('2: another offset', 'record_layout', '.then(15, at + 38,', '.then(15, at + 36,'),
-    ('5: the places the other way round', 'reasons_rows', 'place: again.second,\n        other: again.first,', 'place: again.first,\n        other: again.second,'),
-    ('6: told of ROOT', 'reasons_rows', 'return of_tree(6, id);', 'return of_tree(6, TreeId { high: 0, low: 0 });'),
-    ('9: the namers the other way round', 'reasons_pass', 'of_nodes(9, child, by, also)', 'of_nodes(9, child, also, by)'),
-    ('10: the first listed node', 'reasons_pass', 'of_nodes(10, x, ', 'of_nodes(10, listed_id(state, batch, scope, notes, i / 64), '),
-    ('11: the first listed node', 'reasons_pass', 'of_nodes(11, x, ', 'of_nodes(11, listed_id(state, batch, scope, notes, i / 64), '),
-    ('12: the claims the other way round', 'reasons_pass', 'claimed_twice(state, batch, scope, notes, i, m),', 'claimed_twice(state, batch, scope, notes, m, i),'),
-    ('12: the holder told as the claimer', 'reasons_outcome', 'return claimed_why(tree, y, x);', 'return claimed_why(tree, x, y);'),
-    ('13: another place', 'reasons_pass', 'place: i,', 'place: i / 64,'),
-    ('14: the first listed node names the child', 'reasons_pass', 'let by = namer(state, batch, scope, notes, j);', 'let by = namer(state, batch, scope, notes, j / 256);'),
-    ('15: told of ROOT', 'reasons_focus', 'way::last_graft(next));', 'TreeId { high: 0, low: 0 });'),
-    ('15 and 17: the way backwards', 'reasons_focus', 'way[j] = word;', 'way[most - 1 - j] = word;'),
-    ('17: the way is not written', 'explain', '(why.number == 15) | (why.number == 17)', 'why.number == 15'),
-    ('18: the node itself told as the one that lost its place', 'reasons_outcome/climb', '!= update_gone::AS_PARENT {', '!= update_gone::AS_PARENT + 9 {'),
-    ('18: nobody dropped it', 'reasons_outcome/climb', 'by: listed_parent(state, batch, scope, notes, at),', 'by: FoundNode::Nothing,'),
+    ('5: the places the other way round', 'calls/why_rows', 'place: again.second,\n        other: again.first,', 'place: again.first,\n        other: again.second,'),
+    ('6: told of ROOT', 'calls/why_rows', 'return of_tree(6, id);', 'return of_tree(6, TreeId { high: 0, low: 0 });'),
+    ('9: the namers the other way round', 'calls/why_pass', 'of_nodes(9, child, by, also)', 'of_nodes(9, child, also, by)'),
+    ('10: the first listed node', 'calls/why_pass', 'of_nodes(10, x, ', 'of_nodes(10, listed_id(state, batch, scope, notes, i / 64), '),
+    ('11: the first listed node', 'calls/why_pass', 'of_nodes(11, x, ', 'of_nodes(11, listed_id(state, batch, scope, notes, i / 64), '),
+    ('12: the claims the other way round', 'calls/why_pass', 'claimed_twice(state, batch, scope, notes, i, m),', 'claimed_twice(state, batch, scope, notes, m, i),'),
+    ('12: the holder told as the claimer', 'calls/why_outcome', 'return claimed_why(tree, y, x);', 'return claimed_why(tree, x, y);'),
+    ('13: another place', 'calls/why_pass', 'place: i,', 'place: i / 64,'),
+    ('14: the first listed node names the child', 'calls/why_pass', 'let by = namer(state, batch, scope, notes, j);', 'let by = namer(state, batch, scope, notes, j / 256);'),
+    ('15: told of ROOT', 'update_focus', 'way::last_graft(next));', 'TreeId { high: 0, low: 0 });'),
+    ('15 and 17: the way backwards', 'update_focus', 'way[j] = word;', 'way[most - 1 - j] = word;'),
+    ('17: the way is not written', 'calls/explain', '(why.number == 15) | (why.number == 17)', 'why.number == 15'),
+    ('18: the node itself told as the one that lost its place', 'calls/why_outcome/climb', '!= gone::AS_PARENT {', '!= gone::AS_PARENT + 9 {'),
+    ('18: nobody dropped it', 'calls/why_outcome/climb', 'by: listed_parent(state, batch, scope, notes, at),', 'by: FoundNode::Nothing,'),
     ('19: the largest absent node', 'reasons_shape/links', 'if ids::is_before(y, x) {', 'if ids::is_before(x, y) {'),
     ('19: a node met twice told later', 'reasons_shape/links', 'if twice.rule != 0 {', 'if twice.rule == 9 {'),
     ('19: the node itself told as the topmost', 'reasons_shape/links', 'if !is_lost(state, marks, p) {', 'if !is_lost(state, marks, p) | (0 < left) {'),
     ('19: the parents the other way round', 'reasons_shape/links', 'parent_of(l),\n                parent_of(first),', 'parent_of(first),\n                parent_of(l),'),
-    ('19: nodes three steps down are not reached', 'reasons_reached', 'while k < n {\n        marks', 'while (k < n) & (k < 2) {\n        marks'),
+    ('19: nodes three steps down are not reached', 'reasons_shape/reached', 'while k < n {\n        marks', 'while (k < n) & (k < 2) {\n        marks'),
     ('1: the next slot', 'reasons_shape', 'return of_node(\n                1,\n                14,\n                i,', 'return of_node(\n                1,\n                14,\n                i + 1,'),
     ('1: a tree\'s number told wrong', 'reasons_shape/trees', 'place: k,', 'place: 0,'),
-    ('20: the limit told as the count', 'reasons_focus', 'place: n,', 'place: 256,'),
-    ('21: the room told as the need', 'reasons_rows', 'place: most,', 'place: room,'),
-    ('the words of the way keep what they held', 'explain', 'clear(way);\n    let refusal = update_rows::first_rows', 'let refusal = update_rows::first_rows'),
-    ('a start\'s memory keeps what was worked in it', 'explain', 'let why = start_why(memory, batch, way);\n    state_array::clear(memory);', 'let why = start_why(memory, batch, way);'),
+    ('20: the limit told as the count', 'update_focus', 'place: n,', 'place: 256,'),
+    ('21: the room told as the need', 'calls/why_rows', 'place: most,', 'place: room,'),
+    ('the words of the way keep what they held', 'calls/explain', 'clear(way);\n    let refusal = rows::first_rows', 'let refusal = rows::first_rows'),
+    ('a start\'s memory keeps what was worked in it', 'calls/explain', 'let why = start_why(memory, batch, way);\n    state_array::clear(memory);', 'let why = start_why(memory, batch, way);'),
 ]
 
 # The library's functions after `cartgravel_`: what C's answer is called, and the arguments.
@@ -239,8 +239,8 @@ def copy_sources(folder, change):
         source = f'{REPOSITORY}/crates/{crate}/src'
         if os.path.getsize(f'{source}/lib.rt') < 3:
             continue  # definitions alone
-        os.makedirs(f'{folder}/{crate}')
-        for name in os.listdir(source):
+        for name in glob.glob('**/*.rt', root_dir=source, recursive=True):
+            os.makedirs(os.path.dirname(f'{folder}/{crate}/{name}'), exist_ok=True)
             text = read(f'{source}/{name}')
             if change and source_file(change[1]) == f'{source}/{name}':
                 text = text.replace(change[2], change[3])

@@ -4,11 +4,11 @@ use crate::question::Question;
 use batchcheck_floats::value;
 use batchcheck_floats::values;
 use batchcheck_nodes::print;
-use filters::FilterAnswer;
 use geometry::Affine;
 use geometry_box::BoundingBox;
 use ids::FullNodeId;
 use node_answers::BoxAnswer;
+use node_answers::FilterAnswer;
 use node_answers::HiddenAnswer;
 use node_answers::ListAnswer;
 use node_answers::NodeAnswer;
@@ -25,6 +25,9 @@ use program_text::print::count;
 use program_text::print::of_number;
 use program_text::print::put;
 use program_text::print::tree_name;
+use question_calls::iterators;
+use question_calls::node;
+use question_calls::walk;
 use questions::Filter;
 use questions::FilterResult;
 use questions::Side;
@@ -86,7 +89,7 @@ fn answer<'a>(out: &mut Out, state: &'a State, q: Question, roles: &'a [u8; 4096
         tell_node(out, state, found, roles);
         return;
     }
-    tell_filter(out, filters::filter(state, id, filter_of(q.filter)));
+    tell_filter(out, question_calls::filter(state, id, filter_of(q.filter)));
 }
 
 // The side that a number means.
@@ -328,7 +331,7 @@ fn walked(state: &State, id: FullNodeId, side: u64, filter: u64, count: u64) -> 
         filter: (filter % 4) as u32,
         count,
     };
-    let stepped = iterators_walk::step(state, walk);
+    let stepped = walk::step(state, walk);
     stepped.answer
 }
 

@@ -5,11 +5,13 @@
 use batchcheck_nodes::draw;
 use batchcheck_nodes::draw::Place;
 use batchcheck_nodes::print::spoken;
-use filters::FilterAnswer;
 use ids::FullNodeId;
-use node::tree_state;
+use node_answers::FilterAnswer;
 use program_text::print::Out;
 use program_text::print::put;
+use question_calls::iterators;
+use question_calls::node::tree_state;
+use question_calls::walk;
 use questions::Filter;
 use questions::FilterResult;
 use questions::Walk;
@@ -91,7 +93,7 @@ fn first_item(state: &State) -> Place {
             depth: 0,
         };
     };
-    if is_item(filters::filter(state, root, Filter::Common)) {
+    if is_item(question_calls::filter(state, root, Filter::Common)) {
         return Place {
             slot: draw::present(state, root),
             depth: 0,
@@ -162,7 +164,7 @@ fn beside(state: &State, x: FullNodeId) -> usize {
         filter: WITH_ROOT_EXCEPTION,
         count: 0,
     };
-    let stepped = iterators_walk::step(state, walk);
+    let stepped = walk::step(state, walk);
     let answer = stepped.answer;
     let found = answer.node;
     slot_of(state, found)

@@ -1,7 +1,7 @@
 // The reasons of `explain` in words, and one mend where it is known. Proved safe and ending, no more; nothing is worked out here.
 use batchcheck_record::malformed;
-use explain::Explanation;
-use explain::Way;
+use calls::explain::Explanation;
+use calls::explain::Way;
 use ids::FullNodeId;
 use ids::NodeId;
 use ids::TreeIndex;

@@ -1,10 +1,30 @@
-// The three calls: a start, a batch, a host focus change, over the state's words. The crate `cartgravel` exports them.
+// The three calls: a start, a batch, a host focus change, over the state's words; in explain.rt why they answer their number. The crate
+// `cartgravel` exports them. The phases of an update, each of which leans on what those before it wrote, are private modules.
+mod answers;
+mod apply;
+mod bodies;
+pub mod explain;
+mod gone;
+mod links;
+mod notes;
+mod pass;
+mod plan;
+mod reading;
+mod reports;
+mod rows;
+mod seeds;
+mod trees;
+mod why_outcome;
+mod why_pass;
+mod why_rows;
+mod writing;
+
 ghost use mathlib.Core.Path.{_≡_};
 ghost use Rattle.state_array.specs.View.{view};
 ghost use Rattle.state_array.specs.Layout.{blankWords};
-ghost use Rattle.update_rows.specs.Rows.{firstNumber, startRows};
+ghost use Rattle.calls.specs.Rows.{firstNumber, startRows};
 ghost use Rattle.replies.specs.Replies.{Starts, Updates, HostFocuses};
-ghost use Rattle.replies.specs.Plain.{HostPut};
+ghost use Rattle.calls.specs.Plain.{HostPut};
 use replies::Reply;
 use state_array::State;
 
@@ -13,7 +33,7 @@ pub fn start<'a, 'b>(state: &'a mut State, batch: &'b [u8], host_focused: u32) -
     ensures { λ r. ⌜ Starts (now (batch .entry)) «host_focused» (now (state .exit)) r ⌝ }
 {
     state_array::clear(state);
-    let refusal = update_rows::start_rows(batch);
+    let refusal = rows::start_rows(batch);
     if refusal.number != 0 {
         return replies::refused(refusal.number);
     }
@@ -24,7 +44,7 @@ pub fn start<'a, 'b>(state: &'a mut State, batch: &'b [u8], host_focused: u32) -
 pub fn update<'a, 'b, 'c>(state: &'a mut State, batch: &'b [u8], changes: &'c mut [u64]) -> Reply
     ensures { λ r. ⌜ Updates (now (state .entry)) (now (batch .entry)) (now (changes .entry)) (now (state .exit)) r (now (changes .exit)) ⌝ }
 {
-    let refusal = update_rows::first_rows(state, batch);
+    let refusal = rows::first_rows(state, batch);
     if refusal.number != 0 {
         return replies::refused(refusal.number);
     }
@@ -41,10 +61,7 @@ pub fn host_focus(state: &mut State, host_focused: u32) -> Reply
     let before = state_focus::focus(state);
     put_host(state, host_focused);
     let after = state_focus::focus(state);
-    replies::accepted(
-        replies::no_lengths(),
-        update_reports::report_host(before, after),
-    )
+    answers::accepted(replies::no_lengths(), reports::report_host(before, after))
 }
 
 // The flag's word; `size` tells that there is one.
@@ -61,19 +78,19 @@ fn started<'a, 'b>(state: &'a mut State, batch: &'b [u8], host_focused: u32) -> 
     requires { ⌜ now state ≡ blankWords ⌝ }
     ensures { λ r. ⌜ Starts (now (batch .entry)) «host_focused» (now (state .exit)) r ⌝ }
 {
-    replies::seed(state, batch, host_focused);
-    let scope = update_rows::start_scope(batch);
-    let mut notes = [0u64; update_notes::WORDS];
+    seeds::seed(state, batch, host_focused);
+    let scope = rows::start_scope(batch);
+    let mut notes = [0u64; notes::WORDS];
     let mut first = [0u64; state_array::WORDS];
-    let refusal = update_apply::apply(state, batch, scope, &mut notes, &mut first);
+    let refusal = apply::apply(state, batch, scope, &mut notes, &mut first);
     if refusal.number != 0 {
         state_array::clear(state);
         return replies::refused(refusal.number);
     }
     *state = first;
-    replies::accepted(
+    answers::accepted(
         replies::no_lengths(),
-        update_reports::report_start(state_focus::focus(state)),
+        reports::report_start(state_focus::focus(state)),
     )
 }
 
@@ -82,19 +99,19 @@ fn updated<'a, 'b, 'c>(state: &'a mut State, batch: &'b [u8], changes: &'c mut [
     requires { ⌜ firstNumber (view (now state) .forest) (now batch) ≡ 0 ⌝ }
     ensures { λ r. ⌜ Updates (now (state .entry)) (now (batch .entry)) (now (changes .entry)) (now (state .exit)) r (now (changes .exit)) ⌝ }
 {
-    let scope = update_rows::scope_of(state, batch);
-    let mut notes = [0u64; update_notes::WORDS];
+    let scope = rows::scope_of(state, batch);
+    let mut notes = [0u64; notes::WORDS];
     let mut next = [0u64; state_array::WORDS];
-    let refusal = update_apply::apply(state, batch, scope, &mut notes, &mut next);
+    let refusal = apply::apply(state, batch, scope, &mut notes, &mut next);
     if refusal.number != 0 {
         return replies::refused(refusal.number);
     }
-    update_reports::write_changed(state, batch, scope, &mut notes, &next);
-    let lists = update_reports::write_lists(state, batch, scope, &notes, &next, changes);
+    reports::write_changed(state, batch, scope, &mut notes, &next);
+    let lists = reports::write_lists(state, batch, scope, &notes, &next, changes);
     if !lists.fit {
         return replies::refused(21);
     }
-    let report = update_reports::report_update(state, batch, scope, &notes, &next);
+    let report = reports::report_update(state, batch, scope, &notes, &next);
     *state = next;
-    replies::accepted(replies::lengths_of(lists), report)
+    answers::accepted(answers::lengths_of(lists), report)
 }

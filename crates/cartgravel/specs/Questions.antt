@@ -16,9 +16,9 @@ use Rattle.questions.specs.Answers.{askNumber}
 use Rattle.questions.specs.Links.{siblings}
 use Rattle.questions.specs.Walks.{filteredChildren, filteredSiblings}
 use Rattle.questions.specs.Filters.{filterOf}
-use Rattle.filters.specs.Answer.{filterAnswer}
+use Rattle.node_answers.specs.Filter.{filterAnswer}
 use Rattle.questions.specs.Kept.{WalkStep}
-use Rattle.iterators_walk.specs.Steps.{steppedOf}
+use Rattle.question_calls.specs.Walk.{steppedOf}
 use Rattle.cartgravel.specs.declared.PlainStep.{PlainStep}
 use Rattle.cartgravel_plain.specs.declared.Listed.{Listed}
 use Rattle.cartgravel_plain.specs.declared.FilterNumber.{FilterNumber}

@@ -25,6 +25,8 @@ use cartgravel_plain::SideNumber;
 use ids::FullNodeId;
 use ids::TreeId;
 use ids::TreeIndex;
+use question_calls::iterators;
+use question_calls::node;
 use questions::Filter;
 use state_array::State;
 
@@ -146,7 +148,11 @@ pub extern "C" fn cartgravel_filter(state: &State, id: FullNodeId, filter: u32) 
     ensures { λ r. ⌜ r ≡ filterReply (view (now (state .entry))) id filter ⌝ }
 {
     match cartgravel_plain::filter_of(filter) {
-        FilterNumber::Known(f) => cartgravel_plain::filter_result(filters::filter(state, id, f)),
+        FilterNumber::Known(f) => cartgravel_plain::filter_result(question_calls::filter(
+            state,
+            id,
+            f,
+        )),
         FilterNumber::Unknown => PlainResult {
             result: 0,
             number: cartgravel_plain::unknown(state) as u32,

@@ -9,10 +9,12 @@ ghost use Rattle.questions.specs.Kept.{nextOf};
 ghost use Rattle.cartgravel.specs.Questions.{plainStep};
 ghost use Rattle.replies.specs.Replies.{Starts, Updates, HostFocuses};
 ghost use Rattle.reasons.specs.Explain.{whyUpdate, whyStart};
-ghost use Rattle.explain.specs.Explained.{Explained, ExplainedStart};
+ghost use Rattle.calls.specs.Explained.{Explained, ExplainedStart};
+use calls::explain;
+use calls::explain::Explanation;
+use calls::explain::Way;
 use cartgravel_plain::FoundId;
-use explain::Explanation;
-use explain::Way;
+use question_calls::walk;
 use questions::Walk;
 use replies::Reply;
 use state_array::State;
@@ -94,7 +96,7 @@ pub extern "C" fn cartgravel_next(walk: &mut Walk, state: &State) -> FoundId
 fn moved_on(state: &State, walk: Walk) -> PlainStep
     ensures { λ r. ⌜ r ≡ plainStep (nextOf (view (now (state .entry))) walk) ⌝ }
 {
-    let s = iterators_walk::step(state, walk);
+    let s = walk::step(state, walk);
     let walk = s.walk;
     let answer = s.answer;
     PlainStep {

@@ -12,9 +12,9 @@ use Rattle.state.specs.Sound.{sound}
 use Rattle.questions.specs.declared.Filter.{Filter}
 use Rattle.questions.specs.declared.Side.{Side}
 use Rattle.questions.specs.Kept.{sideOf, filterChoice}
-use Rattle.filters.specs.declared.FilterAnswer.{FilterAnswer}
-use Rattle.filters.specs.declared.FilterAnswer.the-variants as answer
-use Rattle.filters.specs.Answer.{resultNumber}
+use Rattle.node_answers.specs.declared.FilterAnswer.{FilterAnswer}
+use Rattle.node_answers.specs.declared.FilterAnswer.the-variants as answer
+use Rattle.node_answers.specs.Filter.{resultNumber}
 use Rattle.state_lookup.specs.declared.FoundTree.{FoundTree}
 use Rattle.state_lookup.specs.declared.FoundTree.the-variants as ends
 use Rattle.state_focus.specs.Focus.{foundOf}

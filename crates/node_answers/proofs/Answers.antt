@@ -7,19 +7,12 @@ use native.Mathlib.Omega.{arith}
 use lib.ListN.{length}
 use Rattle.ids.specs.declared.FullNodeId.{FullNodeId}
 use Rattle.state.specs.State.{Forest}
-use Rattle.state_array.specs.View.{view}
 use Rattle.state_focus.specs.declared.FoundNode.{FoundNode}
 use Rattle.state_focus.specs.declared.FoundNode.the-variants as found
 use Rattle.state_focus.specs.Focus.{foundOf}
 use Rattle.questions.specs.Answers.{askNumber, after, written}
 use Rattle.questions.proofs.Answers.{list-number-refused, list-number-short, list-number-fits, after-refused, after-answered}
-use Rattle.node_asked.specs.Asks.{NodeAt}
-use Rattle.node_links.specs.Slots.{OfSlot}
 use Rattle.node_answers.specs.Answers.{foundNode, nodeAnswer, numberFor, listAnswer, Lists}
-
--- what is said of the node in a slot is said of the node that is asked about
-pub of-asked : (s : List ℕ) (x : FullNodeId) (i : ℕ) → NodeAt s x i → (P : Forest → FullNodeId → Type 0) → OfSlot s i P → P (view s .forest) x
-of-asked s x i h P said = rw (← h .id-is) (said (h .is-sound) (h .within))
 
 -- ## A node
 

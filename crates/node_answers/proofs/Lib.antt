@@ -1,5 +1,5 @@
 pub mod Answers
-pub mod Reading
 pub mod Links
 pub mod TreeState
+pub mod Filter
 pub mod Examples

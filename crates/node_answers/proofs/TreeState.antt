@@ -28,7 +28,7 @@ use Rattle.state_lookup.specs.declared.FoundTree.the-variants as ends
 use Rattle.state_lookup.proofs.Trees.{stateOf}
 use Rattle.questions.specs.Answers.{stateNumber, after}
 use Rattle.questions.proofs.Answers.{state-number-unsound, state-number-sound}
-use Rattle.node_links.proofs.Places.{place-at, place-past}
+use Rattle.base.proofs.Places.{place-at, place-past}
 use Rattle.node_answers.specs.declared.OptionalTree.{OptionalTree}
 use Rattle.node_answers.specs.declared.OptionalTree.the-variants as tree
 use Rattle.node_answers.specs.declared.OptionalIndex.{OptionalIndex}

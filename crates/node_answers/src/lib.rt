@@ -1,5 +1,4 @@
-// What the questions about a node and about a state answer, as structs and enums; in own.rt what one slot of the state says of its node.
-pub mod own;
+// What the questions about a node and about a state answer, as structs and enums.
 
 ghost use mathlib.Core.Path.{_≡_};
 ghost use Rattle.node_answers.specs.Reading.{noReading};
@@ -10,6 +9,7 @@ use geometry_box::BoundingBox;
 use ids::NodeId;
 use ids::TreeId;
 use ids::TreeIndex;
+use questions::FilterResult;
 use state_focus::FoundNode;
 use state_lookup::FoundTree;
 
@@ -111,6 +111,14 @@ pub struct CountsAnswer {
     pub nodes: usize,
     pub trees: usize,
     pub host_focused: bool,
+}
+
+// What the question about a filter answers.
+pub enum FilterAnswer {
+    // 1: the state is not sound; 22: the node is not there.
+    Refused(u8),
+    // What the filter says of the node.
+    Result(FilterResult),
 }
 
 // All zeros.

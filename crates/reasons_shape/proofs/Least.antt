@@ -17,8 +17,8 @@ use Rattle.ids.specs.Ids.{sameId, before}
 use Rattle.ids.proofs.Ids.{same-id→≡, before-trans, before-total}
 use Rattle.ids.specs.declared.FullNodeId.{FullNodeId}
 use Rattle.reasons.specs.Shape.{smallest, idsBelow, absentIds, absence}
-use Rattle.reasons_reached.specs.Reached.{Few, belowAt}
-use Rattle.reasons_reached.proofs.Below.{below-end}
+use Rattle.reasons_shape.specs.Reached.{Few, belowAt}
+use Rattle.reasons_shape.proofs.reached.Below.{below-end}
 use Rattle.base.proofs.Gathering.{Gathered, gathered-start, gathered-more, gathered-end}
 use Rattle.reasons_why.specs.Why.{whyBroken, found}
 use Rattle.reasons_why.specs.declared.Why.{Why}
@@ -30,9 +30,9 @@ use Rattle.state_focus.specs.declared.FoundNode.the-variants as node
 use Rattle.state_focus.specs.Focus.{foundOf}
 use Rattle.state_lookup.specs.Lookup.{standsAt}
 use Rattle.state_lookup.proofs.Found.{present-slot}
-use Rattle.state_sound.specs.Parts.{belowIn, KidSays}
-use Rattle.state_sound.specs.declared.walk.Kid.{Kid}
-use Rattle.state_sound.specs.declared.walk.Kid.the-variants as kid
+use Rattle.state_rules.specs.Parts.{belowIn, KidSays}
+use Rattle.state_rules.specs.declared.Kid.{Kid}
+use Rattle.state_rules.specs.declared.Kid.the-variants as kid
 use Rattle.reasons_shape.specs.Rules.{ruleWhy, nodeWhy}
 use Rattle.reasons_shape.proofs.Slots.{spot-there, spot-nowhere}
 

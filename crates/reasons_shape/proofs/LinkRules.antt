@@ -17,8 +17,8 @@ use Rattle.ids.specs.Ids.{sameId}
 use Rattle.ids.specs.declared.FullNodeId.{FullNodeId}
 use Rattle.reasons.specs.Reasons.{Spot, tooManyChildren, metTwice, graftWithChildren}
 use Rattle.reasons.specs.Shape.{spotFrom, at, metLinks, crowded, isMetTwice, isNeverMet, topmostWithin, unmet, metLink, disagrees, wrongLinkFrom}
-use Rattle.reasons_reached.specs.declared.Links.{Links}
-use Rattle.reasons_reached.specs.Reached.{Few, reachedIn, firstLink, Tells}
+use Rattle.reasons_shape.specs.declared.reached.Links.{Links}
+use Rattle.reasons_shape.specs.Reached.{Few, reachedIn, firstLink, Tells}
 use Rattle.reasons_why.specs.Why.{whyBroken, found, droppedNode, droppedBy}
 use Rattle.reasons_why.specs.declared.Why.{Why}
 use Rattle.state.specs.State.{ParentAndIndex, sameLink, present, linkAt, parentOf, parentAt}
@@ -31,8 +31,8 @@ use Rattle.state_focus.specs.declared.FoundNode.the-variants as node
 use Rattle.state_focus.specs.Focus.{foundOf}
 use Rattle.state_lookup.specs.Lookup.{standsAt}
 use Rattle.state_lookup.proofs.Found.{find-there, find-absent, present-slot}
-use Rattle.state_sound.specs.Parts.{bareIn}
-use Rattle.state_sound.proofs.Grafts.{bare-at}
+use Rattle.state_rules.specs.Parts.{bareIn}
+use Rattle.state_rules.proofs.Grafts.{bare-at}
 use Rattle.reasons_shape.specs.Rules.{ruleWhy, nodeWhy, ClimbSays}
 use Rattle.reasons_shape.specs.declared.links.Climb.{Climb}
 use Rattle.reasons_shape.proofs.Chain.{kept, found-of}

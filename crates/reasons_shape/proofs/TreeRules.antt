@@ -27,9 +27,9 @@ use Rattle.state_array.specs.View.{graftIn, idIn, shapeIn, bodyIn, nodeIn, tree
 use Rattle.state_focus.specs.declared.FoundNode.{FoundNode}
 use Rattle.state_focus.specs.declared.FoundNode.the-variants as node
 use Rattle.state_focus.specs.Focus.{foundOf}
-use Rattle.state_sound.specs.Parts.{graftsTree, rootedIn}
-use Rattle.state_sound.proofs.Grafts.{graft-none, graft-some, grafts-at}
-use Rattle.state_sound.proofs.Trees.{oldId, old-found, new-found, rooted-row}
+use Rattle.state_rules.specs.Parts.{graftsTree, rootedIn}
+use Rattle.state_rules.proofs.Grafts.{graft-none, graft-some, grafts-at}
+use Rattle.state_rules.proofs.Trees.{oldId, old-found, new-found, rooted-row}
 use Rattle.reasons_shape.specs.Rules.{ruleWhy, treeWhy}
 use Rattle.base.proofs.Rest.{list-from, list-past, Rest, rest-start, rest-more}
 use Rattle.reasons_shape.proofs.Slots.{nodes, nodes-at, nodes-past}

@@ -1,5 +1,6 @@
 // The first rule of a sound state that a state breaks, for any words. Each rule has a function, which answers rule 0 where the rule is kept.
 mod links;
+mod reached;
 mod trees;
 
 ghost use mathlib.Core.Bool.{not};
@@ -153,7 +154,7 @@ fn fields(state: &State) -> Why
 fn focus(state: &State) -> Why
     ensures { λ r. ⌜ r ≡ whyBroken 1 (if focusPresent (view (now (state .entry)) .forest) then none else some noFocus) ⌝ }
 {
-    if state_sound::focus_is_present(state) {
+    if state_rules::focus_is_present(state) {
         return of_rule(1, 0);
     }
     of_rule(1, 15)

@@ -8,7 +8,7 @@ ghost use Rattle.base.specs.Tests.{_&&_, isNil, keep, sameOption};
 ghost use Rattle.ids.specs.declared.FullNodeId.{FullNodeId};
 ghost use Rattle.reasons.specs.Reasons.{tooManyChildren, metTwice, graftWithChildren};
 ghost use Rattle.reasons.specs.Shape.{spot, at, smallest, idsBelow, metLinks, crowded, absentIds, absence, isMetTwice, topmostWithin, unmet, wrongLinkFrom, brokenLinks};
-ghost use Rattle.reasons_reached.specs.Reached.{Few, reachedIn, Marked, belowAt};
+ghost use Rattle.reasons_shape.specs.Reached.{Few, reachedIn, Marked, belowAt};
 ghost use Rattle.reasons_why.specs.Why.{whyBroken};
 ghost use Rattle.state.specs.State.{present, sameLink, parentOf, parentAt};
 ghost use Rattle.state.specs.Sound.{graftIsBare};
@@ -18,16 +18,17 @@ ghost use Rattle.reasons_shape.specs.Rules.{LeastWith, absentUnder, brok
 use crate::id_found;
 use crate::of_node;
 use crate::of_rule;
+use crate::reached;
+use crate::reached::Slots;
+use crate::reached::is_below;
+use crate::reached::met_links;
 use ids::FullNodeId;
-use reasons_reached::Slots;
-use reasons_reached::is_below;
-use reasons_reached::met_links;
 use reasons_why::Why;
 use state_array::LinkRow;
 use state_array::State;
 use state_focus::FoundNode;
-use state_sound::walk::Kid;
-use state_sound::walk::kid_at;
+use state_rules::Kid;
+use state_rules::kid_at;
 
 // The topmost node above one that is never met, and the parent that it records; nothing where they go round in a circle.
 struct Climb {
@@ -55,7 +56,7 @@ fn broken_ways(state: &State, number: u8) -> Why
     requires { ⌜ Few (now state) ⌝ }
     ensures { λ r. ⌜ r ≡ whyBroken number (brokenWays (view (now (state .entry)) .forest)) ⌝ }
 {
-    let marks = reasons_reached::reached(state);
+    let marks = reached::reached(state);
     let twice = met_twice(state, &marks, number);
     if twice.rule != 0 {
         return twice;
@@ -354,7 +355,7 @@ fn burdened(state: &State, number: u8) -> Why
     let n = state_array::slots(state);
     let mut i = 0usize;
     while i < n {
-        if !state_sound::is_bare(state, i) {
+        if !state_rules::is_bare(state, i) {
             return of_node(
                 number,
                 8,

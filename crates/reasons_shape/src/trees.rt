@@ -12,7 +12,7 @@ ghost use Rattle.state.specs.State.{holder};
 ghost use Rattle.state.specs.Sound.{rootFirst};
 ghost use Rattle.state_array.specs.View.{view, slotsOf, treesOf};
 ghost use Rattle.state_focus.specs.Focus.{foundOf};
-ghost use Rattle.state_sound.specs.Parts.{rootedIn};
+ghost use Rattle.state_rules.specs.Parts.{rootedIn};
 ghost use Rattle.reasons_shape.specs.Rules.{treeWhy};
 use crate::id_found;
 use crate::of_rule;
@@ -81,7 +81,7 @@ fn later_graft(state: &State, i: usize, t: TreeId) -> FoundNode
     let n = state_array::slots(state);
     let mut j = i + 1;
     while j < n {
-        if state_sound::is_graft_of(state, j, t) {
+        if state_rules::is_graft_of(state, j, t) {
             return id_found(state, j);
         }
         j += 1;
@@ -93,7 +93,7 @@ fn later_graft(state: &State, i: usize, t: TreeId) -> FoundNode
 fn root_first(state: &State, number: u8) -> Why
     ensures { λ r. ⌜ r ≡ whyBroken number (if rootFirst (view (now (state .entry)) .forest .trees) then none else some rootNotFirst) ⌝ }
 {
-    if state_sound::root_is_first(state) {
+    if state_rules::root_is_first(state) {
         return of_rule(number, 0);
     }
     of_rule(number, 10)
@@ -146,7 +146,7 @@ fn is_rooted(state: &State, k: usize) -> bool
         tree: TreeIndex(number),
         node,
     };
-    (state_lookup::find_in(state, id) < n) & ((k == 0) | !state_sound::is_free(state, n, t.id))
+    (state_lookup::find_in(state, id) < n) & ((k == 0) | !state_rules::is_free(state, n, t.id))
 }
 
 // A rule, and the number and the id of the tree that breaks it.

@@ -1,12 +1,15 @@
 // The questions by their numbers, and what the library answers as words.
-use filters::FilterAnswer;
 use geometry_box::BoundingBox;
 use ids::FullNodeId;
 use node_answers::BoxAnswer;
+use node_answers::FilterAnswer;
 use node_answers::HiddenAnswer;
 use node_answers::ListAnswer;
 use node_answers::NodeAnswer;
 use node_answers::TransformAnswer;
+use question_calls::iterators;
+use question_calls::node;
+use question_calls::walk;
 use questions::Filter;
 use questions::FilterResult;
 use questions::Side;
@@ -106,7 +109,7 @@ fn walk<'a, 'b>(state: &'a State, which: u64, id: FullNodeId, out: &'b mut [u64]
     let mut at: usize = 0;
     let mut left = out.len() / 2;
     while 0 < left {
-        let s = iterators_walk::step(state, w);
+        let s = walk::step(state, w);
         let answer = s.answer;
         if answer.number != 0 {
             return of_node(answer, out);
@@ -144,7 +147,7 @@ fn other<'a, 'b>(state: &'a State, which: u64, id: FullNodeId, out: &'b mut [u64
         11 => of_hidden(node::is_hidden(state, id)),
         12 => of_transform(node::transform(state, id), out),
         13 => of_box(node::bounding_box(state, id), out),
-        _ => of_filter(filters::filter(state, id, filter_of(which))),
+        _ => of_filter(question_calls::filter(state, id, filter_of(which))),
     }
 }
 

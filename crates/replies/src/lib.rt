@@ -1,16 +1,11 @@
-// What the three calls answer, as plain numbers and structs, the host flag as they take it, and the state that a start begins with.
+// What the three calls answer, as plain numbers and structs, and the host flag as they take it.
 ghost use mathlib.Core.Option.{none};
 ghost use mathlib.Core.Path.{_≡_};
 ghost use Rattle.base.specs.Tests.{if_then_else_};
-ghost use Rattle.state_array.specs.Layout.{blankWords};
-ghost use Rattle.state_array.specs.View.{view};
 ghost use Rattle.state_focus.specs.Focus.{foundOf};
-ghost use Rattle.update_rows.specs.Rows.{startRows};
 ghost use Rattle.replies.specs.Replies.{plainId, isSet};
-ghost use Rattle.replies.specs.Plain.{lengthsAre, plainReport, acceptedReply, refusedReply, seeded};
-use state_array::State;
+ghost use Rattle.replies.specs.Plain.{lengthsAre, refusedReply};
 use state_focus::FoundNode;
-use update_reports::Lists;
 
 // A node's id, or none: then each part is 0.
 #[repr(C)]
@@ -73,17 +68,6 @@ fn no_id() -> OptionalId
     }
 }
 
-// After acceptance.
-pub fn accepted(lengths: Lengths, report: update_reports::Report) -> Reply
-    ensures { λ r. ⌜ r ≡ acceptedReply lengths report ⌝ }
-{
-    Reply {
-        lengths,
-        report: plain_report(report),
-        number: 0,
-    }
-}
-
 // The lengths of empty lists.
 pub fn no_lengths() -> Lengths
     ensures { λ r. ⌜ r ≡ lengthsAre 0 0 0 0 ⌝ }
@@ -93,34 +77,6 @@ pub fn no_lengths() -> Lengths
         updated: 0,
         removed: 0,
         relinked: 0,
-    }
-}
-
-// The lengths of a batch's lists.
-pub fn lengths_of(l: Lists) -> Lengths
-    ensures { λ r. ⌜ r ≡ lengthsAre (l .added) (l .updated) (l .removed) (l .relinked) ⌝ }
-{
-    Lengths {
-        added: l.added,
-        updated: l.updated,
-        removed: l.removed,
-        relinked: l.relinked,
-    }
-}
-
-// A report, its enums as plain ids.
-fn plain_report(r: update_reports::Report) -> Report
-    ensures { λ p. ⌜ p ≡ plainReport r ⌝ }
-{
-    let focus_before = r.focus_before;
-    let focus_after = r.focus_after;
-    let extra_before = r.extra_before;
-    let extra_after = r.extra_after;
-    Report {
-        focus_before: plain_id(focus_before),
-        focus_after: plain_id(focus_after),
-        extra_before: plain_id(extra_before),
-        extra_after: plain_id(extra_after),
     }
 }
 
@@ -143,19 +99,4 @@ pub fn host_flag(host_focused: u32) -> u64
     ensures { λ r. ⌜ r ≡ (if isSet «host_focused» then 1 else 0) ⌝ }
 {
     if host_focused == 0 { 0 } else { 1 }
-}
-
-// ROOT alone, with the root and the focus of the record, in the blank state.
-pub fn seed(state: &mut State, batch: &[u8], host_focused: u32)
-    requires { ⌜ startRows (now batch) ≡ 0 ⌝ }
-    requires { ⌜ now state ≡ blankWords ⌝ }
-    ensures { λ _. ⌜ view (now (state .exit)) ≡ seeded (now (batch .entry)) «host_focused» ⌝ }
-{
-    let root = record_reader::tree_root(batch);
-    let focus = record_reader::tree_focus(batch);
-    state[state_array::TREE_COUNT] = 1;
-    state[state_array::HOST] = host_flag(host_focused);
-    state[state_array::TABLE + state_array::TREES * state_array::TREE_ROOT] = root.0;
-    state[state_array::TABLE + state_array::TREES * state_array::TREE_FOCUS] = focus.0;
-    state[state_array::TABLE + state_array::TREES * state_array::TREE_EXISTS] = 1;
 }

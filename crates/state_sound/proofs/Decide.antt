@@ -3,10 +3,10 @@
 use mathlib.Core.Bool.{Bool, true, false, not}
 use mathlib.Core.List.{List, [], _∷_, append-nil}
 use mathlib.Core.Option.{none, some}
-use mathlib.Core.Path.{_≡_, sym, ap, _∙_}
+use mathlib.Core.Path.{_≡_, sym, _∙_}
 use Prim.Native.Nat.{ℕ, _≤_, _<_}
 use native.Mathlib.Omega.{arith}
-use lib.Dec.{eqb, ltb}
+use lib.Dec.{eqb}
 use lib.ListN.{length}
 use borrow.Author.Tests.{eq-eqb, ne-eqb, le-leb, leb-true}
 use Rattle.base.specs.Tests.{_&&_, all}
@@ -18,21 +18,16 @@ use Rattle.ids.specs.declared.FullNodeId.{FullNodeId}
 use Rattle.record.specs.Batch.{fieldsOk}
 use Rattle.state.specs.State.{Forest}
 use Rattle.state.specs.Down.{belowId, rootOf}
-use Rattle.state.specs.Focus.{effectiveFocus}
 use Rattle.state.specs.Sound.{rootFirst, soundLinks, soundTrees, ascending, soundShape, focusPresent, sound, recorded}
 use Rattle.state_array.specs.View.{treeIn, linkIn, linkOf, nodeIn, entryIn, slotsOf, treesOf, view}
 use Rattle.state.proofs.Sound.{shape-parts, sound-parts}
 use Rattle.state_lookup.specs.Lookup.{standsAt, inOrder, SlotOf}
 use Rattle.state_array.specs.declared.LinkRow.{LinkRow}
 use Rattle.state_array.specs.declared.TreeRow.{TreeRow}
-use Rattle.state_lookup.proofs.Found.{present-slot}
-use Rattle.state_focus.specs.declared.FoundNode.{FoundNode}
-use Rattle.state_focus.specs.declared.FoundNode.the-variants as node
-use Rattle.state_focus.specs.Focus.{foundOf}
 use Rattle.state_sound.specs.Counted.{counted}
 use Rattle.state_sound.specs.Parts.{soundGrafts, startIn, countedBelow, countedAll}
 use Rattle.state_sound.proofs.Pigeons.{links-counted}
-use Rattle.state_sound.proofs.Trees.{root-is}
+use Rattle.state_rules.proofs.Trees.{root-is}
 use Rattle.state_sound.proofs.Walks.{counted-refused, counted-on, recorded-absent, recorded-there, below-there}
 
 -- over ids that ascend, the shape is the rules that do not go down, and the way down in one pass
@@ -93,18 +88,6 @@ module _ (s : List ℕ) where
           let there : r < slotsOf s = rw slots at h in
           e ∙ sym (counted-on f (startIn s) [] (slotsOf s) (omega arith) (told ∙ eq-eqb (l .linked) 0 p)
           ∙ rw (append-nil (belowId f (startIn s .id)), below-there s (startIn s .id) r found there))
-
-  -- ## The focus
-
-  -- no effective focus, and one with its slot
-  module _ {r : FoundNode} (e : foundOf r ≡ effectiveFocus f) where
-    pub focus-nowhere : r ≡ node.Nothing → false ≡ focusPresent f
-    unfolding focusPresent foundOf
-    focus-nowhere q = rw (sym e ∙ ap foundOf q, focusPresent)
-
-    pub focus-found : {x : FullNodeId} → r ≡ node.At x → {i n : ℕ} → First (standsAt s x) (slotsOf s) i → n ≡ slotsOf s → ltb i n ≡ focusPresent f
-    unfolding focusPresent foundOf
-    focus-found {x} q {i} found slots = rw (slots, sym e ∙ ap foundOf q, focusPresent) (sym (present-slot s x i found))
 
   -- ## The whole
 

@@ -23,10 +23,11 @@ use Rattle.state.specs.Sound.{recorded}
 use Rattle.state_array.specs.View.{idIn, linkIn, linkOf, nodeIn, slotsOf, view}
 use Rattle.state_lookup.specs.Lookup.{standsAt, inOrder, SlotOf}
 use Rattle.state_lookup.proofs.Found.{find-there, find-absent}
-use Rattle.state_sound.specs.declared.walk.Kid.{Kid}
-use Rattle.state_sound.specs.declared.walk.Kid.the-variants as kid
+use Rattle.state_rules.specs.declared.Kid.{Kid}
+use Rattle.state_rules.specs.declared.Kid.the-variants as kid
 use Rattle.state_sound.specs.Counted.{counted}
-use Rattle.state_sound.specs.Parts.{belowIn, KidSays, MetAt, countedBelow}
+use Rattle.state_rules.specs.Parts.{belowIn, KidSays}
+use Rattle.state_sound.specs.Parts.{MetAt, countedBelow}
 
 -- ## The pass over a list
 

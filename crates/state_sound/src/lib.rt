@@ -1,19 +1,19 @@
 // Whether a state is sound, for any words. Each part is lent the whole state, and says what it decides of the forest that it shows.
-pub mod walk;
+mod walk;
 
 ghost use mathlib.Core.Path.{_≡_};
 ghost use mathlib.Core.Bool.{true};
 ghost use Prim.Native.Nat.{_<_};
 ghost use Rattle.base.specs.Tests.{all};
-ghost use Rattle.state.specs.Sound.{graftIsBare, graftsDiffer, rootFirst, oneIdEach, soundShape, focusPresent, sound};
+ghost use Rattle.state.specs.Sound.{graftIsBare, graftsDiffer, oneIdEach, soundShape, sound};
 ghost use Rattle.state_array.specs.View.{treesOf, view};
 ghost use Rattle.state_lookup.specs.Lookup.{inOrder};
-ghost use Rattle.state_sound.specs.Parts.{bareIn, graftsTree, noneGrafts, Marked, rootedIn, allRooted, soundGrafts};
+ghost use Rattle.state_rules.specs.Parts.{noneGrafts, Marked, rootedIn, allRooted};
+ghost use Rattle.state_sound.specs.Parts.{soundGrafts};
 use ids::FullNodeId;
 use ids::TreeId;
 use ids::TreeIndex;
 use state_array::State;
-use state_focus::FoundNode;
 
 // Whether a state is sound.
 pub fn sound(state: &State) -> bool
@@ -33,7 +33,9 @@ pub fn sound_noting<'a, 'b>(state: &'a State, parents: &'b mut [u16]) -> bool
     if state_array::TREES < state_array::trees(state) {
         return false;
     }
-    shape_noting(state, parents) & state_fields::fields_are_ok(state) & focus_is_present(state)
+    shape_noting(state, parents)
+        & state_fields::fields_are_ok(state)
+        & state_rules::focus_is_present(state)
 }
 
 // Whether its links and its trees are.
@@ -86,29 +88,7 @@ fn is_new<'a>(seen: &'a [u8; 4096], state: &'a State, n: usize, t: TreeId) -> bo
     if seen[mark] == 0 {
         return true;
     }
-    is_free(state, n, t)
-}
-
-// Whether none of the first n nodes grafts a tree.
-pub fn is_free(state: &State, n: usize, t: TreeId) -> bool
-    ensures { λ r. ⌜ r ≡ noneGrafts (now (state .entry)) t n ⌝ }
-{
-    let mut i = 0usize;
-    while i < n {
-        if is_graft_of(state, i, t) {
-            return false;
-        }
-        i += 1;
-    }
-    true
-}
-
-// Whether a node grafts a tree.
-pub fn is_graft_of(state: &State, i: usize, t: TreeId) -> bool
-    ensures { λ r. ⌜ r ≡ graftsTree (now (state .entry)) t i ⌝ }
-{
-    let d = state_array::shape_at(state, i);
-    state_array::is_graft(d.flags) & ids::same_tree(t, d.graft)
+    state_rules::is_free(state, n, t)
 }
 
 // Whether no graft has children.
@@ -118,29 +98,12 @@ fn grafts_are_bare(state: &State) -> bool
     let n = state_array::slots(state);
     let mut i = 0usize;
     while i < n {
-        if !is_bare(state, i) {
+        if !state_rules::is_bare(state, i) {
             return false;
         }
         i += 1;
     }
     true
-}
-
-// Whether a node is no graft, or has no children.
-pub fn is_bare(state: &State, i: usize) -> bool
-    ensures { λ r. ⌜ r ≡ bareIn (now (state .entry)) i ⌝ }
-{
-    let d = state_array::shape_at(state, i);
-    !state_array::is_graft(d.flags) | (d.child_count == 0)
-}
-
-// Whether ROOT exists and has number 0.
-pub fn root_is_first(state: &State) -> bool
-    ensures { λ r. ⌜ r ≡ rootFirst (view (now (state .entry)) .forest .trees) ⌝ }
-{
-    let m = state_array::trees(state);
-    let t = state_array::tree_at(state, 0);
-    (0 < m) & ids::same_tree(t.id, TreeId { high: 0, low: 0 }) & (t.exists != 0)
 }
 
 // Whether each tree number has an id of its own.
@@ -175,7 +138,7 @@ fn is_rooted(state: &State, k: usize) -> bool
         tree: TreeIndex(number),
         node,
     };
-    (state_lookup::slot_of(state, id) < n) & ((k == 0) | !is_free(state, n, t.id))
+    (state_lookup::slot_of(state, id) < n) & ((k == 0) | !state_rules::is_free(state, n, t.id))
 }
 
 // Whether every tree is rooted.
@@ -201,17 +164,7 @@ fn trees_are_sound(state: &State) -> bool
 {
     grafts_are_bare(state)
         & grafts_differ(state)
-        & root_is_first(state)
+        & state_rules::root_is_first(state)
         & ids_differ(state)
         & all_rooted(state)
-}
-
-// Whether the effective focus is present, and no graft.
-pub fn focus_is_present(state: &State) -> bool
-    ensures { λ r. ⌜ r ≡ focusPresent (view (now (state .entry)) .forest) ⌝ }
-{
-    let FoundNode::At(x) = state_focus::effective_focus(state) else {
-        return false;
-    };
-    state_lookup::find_in(state, x) < state_array::slots(state)
 }

@@ -6,44 +6,14 @@ ghost use Prim.Native.Nat.{_+_, _<_};
 ghost use Rattle.base.specs.Tests.{sameOption};
 ghost use Rattle.state.specs.State.{sameLink};
 ghost use Rattle.state_array.specs.Layout.{SLOTS};
-ghost use Rattle.state_array.specs.View.{linkOf, idIn, slotsOf};
+ghost use Rattle.state_array.specs.View.{linkOf, slotsOf};
 ghost use Rattle.state_lookup.specs.Lookup.{inOrder};
-ghost use Rattle.state_sound.specs.Parts.{belowIn, KidSays, MetAt, countedBelow, countedAll};
+ghost use Rattle.state_sound.specs.Parts.{MetAt, countedBelow, countedAll};
 use ids::FullNodeId;
 use ids::TreeIndex;
 use state_array::LinkRow;
 use state_array::State;
-use state_lookup::FoundTree;
-
-// What is met one step below a node at a place.
-pub enum Kid {
-    At(FullNodeId),
-    Nothing,
-}
-
-// What is met at place j one step below the node in slot p.
-pub fn kid_at(state: &State, p: usize, j: usize) -> Kid
-    ensures { λ r. ⌜ KidSays (belowIn (now (state .entry)) p) j (idIn (now (state .entry)) p) r ⌝ }
-{
-    let d = state_array::shape_at(state, p);
-    if !state_array::is_graft(d.flags) {
-        if d.child_count <= j as u64 {
-            return Kid::Nothing;
-        }
-        let x = state_array::id_at(state, p);
-        let tree = x.tree;
-        let node = state_array::child_at(state, x.node, d.first_child, j);
-        return Kid::At(FullNodeId { tree, node });
-    }
-    if 0 < j {
-        return Kid::Nothing;
-    }
-    let FoundTree::At(e) = state_lookup::tree_of(state, d.graft) else {
-        return Kid::Nothing;
-    };
-    let root = e.root;
-    Kid::At(root)
-}
+use state_rules::Kid;
 
 // Whether a node records the parent p and the place j.
 fn agrees(l: LinkRow, p: FullNodeId, j: usize) -> bool
@@ -87,7 +57,7 @@ fn goes_down<'a, 'b>(state: &'a State, r: usize, parents: &'b mut [u16]) -> bool
         let top = depth - 1;
         let p = path[top];
         let j = nexts[top];
-        let Kid::At(id) = kid_at(state, p, j) else {
+        let Kid::At(id) = state_rules::kid_at(state, p, j) else {
             depth = top;
             continue;
         };

@@ -1,23 +1,15 @@
-// A node's data, read from a record or from a slot; one comparison of two nodes by value, whatever their homes; and which listed nodes of a
-// batch differ from those of a state.
+// A node's data, read from a record or from a slot, and one comparison of two nodes by value, whatever their homes.
 ghost use mathlib.Core.Path.{_≡_};
-ghost use Prim.Native.Nat.{_+_, _*_, _<_, min};
+ghost use Prim.Native.Nat.{_+_, _*_, _<_};
 ghost use lib.Ieee.{eq, ofBits, binary64};
 ghost use lib.ListN.{getD};
 ghost use Rattle.base.specs.Bytes.{listOf};
 ghost use Rattle.geometry.specs.Geometry.{sameRect, sameAffine};
-ghost use Rattle.record.specs.Batch.{sameData};
-ghost use Rattle.record.specs.Parse.{batchOf};
-ghost use Rattle.record_reader.specs.Reader.{listedAt, fieldAt};
-ghost use Rattle.state_array.specs.Layout.{ENTRIES};
+ghost use Rattle.record_reader.specs.Reader.{fieldAt};
 ghost use Rattle.state_array.specs.Stored.{labelWord};
-ghost use Rattle.state_array.specs.View.{slotsOf, nodeIn};
-ghost use Rattle.update_notes.specs.Says.{Told, GONE, COMPARED, differWord};
 ghost use Rattle.update_bodies.specs.Bodies.{patternsIn, ListedBodyIs, BodyIs, boundsOf, transformOf, sameRun, sameBody};
 use state_array::Body;
 use state_array::State;
-use update_notes::Notes;
-use update_notes::Scope;
 
 // Where the node records of a batch start, how long each is, and where its floats start in it.
 const RECORDS: usize = 64;
@@ -25,81 +17,6 @@ const RECORDS: usize = 64;
 const RECORD: usize = 128;
 
 const FLOATS: usize = 48;
-
-// The phase: which listed nodes are old and have other data, by value, than before.
-pub fn write_differs<'a>(state: &'a State, batch: &'a [u8], scope: Scope, notes: &mut Notes)
-    requires { ⌜ Told GONE (now state) (now batch) scope (now notes) ⌝ }
-    ensures { λ _. ⌜ Told COMPARED (now (state .entry)) (now (batch .entry)) scope (now (notes .exit)) ⌝ }
-{
-    let k = scope.listed;
-    let mut i = 0usize;
-    while i < k {
-        let differs = differs_at(state, batch, scope, notes, i);
-        notes[update_notes::DIFFERS + i] = differs;
-        i += 1;
-    }
-}
-
-// 1 where listed node i is old and differs, else 0.
-fn differs_at<'a>(
-    state: &'a State,
-    batch: &'a [u8],
-    scope: Scope,
-    notes: &'a Notes,
-    i: usize,
-) -> u64
-    requires { ⌜ Told GONE (now state) (now batch) scope (now notes) ⌝ }
-    requires { ⌜ i < scope .listed ⌝ }
-    ensures { λ r. ⌜ r ≡ differWord (now (state .entry)) (now (batch .entry)) scope i ⌝ }
-{
-    let slot = notes[update_notes::LISTED_SLOTS + i] as usize;
-    if state_array::slots(state) <= slot {
-        return 0;
-    }
-    if same_data(state, batch, scope, notes, i, slot) {
-        return 0;
-    }
-    1
-}
-
-// Whether the node in a slot has the data of listed node i, by value.
-fn same_data<'a>(
-    state: &'a State,
-    batch: &'a [u8],
-    scope: Scope,
-    notes: &'a Notes,
-    i: usize,
-    slot: usize,
-) -> bool
-    requires { ⌜ Told GONE (now state) (now batch) scope (now notes) ⌝ }
-    requires { ⌜ (i < scope .listed) × (slot < slotsOf (now state)) ⌝ }
-    ensures { λ r. ⌜ r ≡ sameData (nodeIn (now (state .entry)) slot .body) (listedAt (batchOf (now (batch .entry))) i .body) ⌝ }
-{
-    let old = body_of(state, batch, slot);
-    let new = body_of(state, batch, state_array::SLOTS + i);
-    if !same_body(old, new) {
-        return false;
-    }
-    let own = state_array::id_at(state, slot);
-    let shape = state_array::shape_at(state, slot);
-    let from = state_array::CHILDREN + first_entry(shape.first_child);
-    let to = update_notes::NAMED + record_reader::first_child(batch, i);
-    let count = shape.child_count as usize;
-    let entries: &[u64] = state;
-    let named: &[u64] = notes;
-    same_run(entries, from, named, to, own.node.0, count)
-}
-
-// Where a node's children start among the child entries, at most their number.
-fn first_entry(first: u64) -> usize
-    ensures { λ r. ⌜ r ≡ min first ENTRIES ⌝ }
-{
-    if first < state_array::ENTRIES as u64 {
-        first as usize
-    } else {
-        state_array::ENTRIES
-    }
-}
 
 // The data that a code names: below 320 a slot's, from 320 on a listed node's.
 pub fn body_of<'a>(state: &'a State, batch: &'a [u8], code: usize) -> Body
@@ -172,7 +89,7 @@ fn pattern(batch: &[u8], i: usize, k: usize) -> u64
 }
 
 // Whether two nodes have the same data by value, their children's lists aside: as many children, and -0 equals 0.
-fn same_body(a: Body, b: Body) -> bool
+pub fn same_body(a: Body, b: Body) -> bool
     ensures { λ r. ⌜ r ≡ sameBody a b ⌝ }
 {
     let x = a.label;
@@ -228,7 +145,14 @@ fn same_value(x: u64, y: u64) -> bool
 }
 
 // Whether the count words from `from` on of one array are those from `to` on of another; past the end of either stands `past`.
-fn same_run<'a>(a: &'a [u64], from: usize, b: &'a [u64], to: usize, past: u64, count: usize) -> bool
+pub fn same_run<'a>(
+    a: &'a [u64],
+    from: usize,
+    b: &'a [u64],
+    to: usize,
+    past: u64,
+    count: usize,
+) -> bool
     ensures { λ r. ⌜ r ≡ sameRun (now (a .entry)) from (now (b .entry)) to past count ⌝ }
 {
     let mut k = 0usize;

@@ -3,7 +3,7 @@ use borrow.Author.Needs.{needs}
 use denote.Ref.{now}
 use mathlib.Core.Path.{sym, _∙_}
 use Rattle.base.proofs.Tests.{not-true, not-false}
-use Rattle.replies.proofs.Host.{host-refused, host-accepted}
+use Rattle.calls.proofs.answers.Host.{host-refused, host-accepted}
 use Rattle.calls.proofs.host_focus.Statement.{statement}
 use Rattle.calls.proofs.host_focus.Tie as tie
 

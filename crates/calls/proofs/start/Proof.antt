@@ -1,8 +1,8 @@
 -- `calls::start` meets its contract: a law for each way out. Assumes nothing.
 use borrow.Author.Needs.{needs}
 use mathlib.Core.Path.{sym, ap, _∙_}
-use Rattle.update_notes.specs.declared.Refusal.{Refusal}
-use Rattle.replies.proofs.Starts.{first-refused}
+use Rattle.calls.specs.declared.notes.Refusal.{Refusal}
+use Rattle.calls.proofs.answers.Starts.{first-refused}
 use Rattle.calls.proofs.start.Statement.{statement}
 use Rattle.calls.proofs.start.Tie as tie
 

@@ -3,12 +3,12 @@ use borrow.Author.Needs.{needs}
 use mathlib.Core.Option.{Option}
 use mathlib.Core.Path.{refl, sym, ap, _∙_, subst}
 use Rattle.ids.specs.declared.FullNodeId.{FullNodeId}
-use Rattle.update_reports.specs.Reported.{OnlyAfter}
+use Rattle.calls.specs.Reported.{OnlyAfter}
 use Rattle.state.specs.State.{State}
-use Rattle.update_notes.specs.declared.Refusal.{Refusal}
-use Rattle.update_rows.proofs.Given.{told-start}
-use Rattle.replies.proofs.Updates.{later-pass}
-use Rattle.replies.proofs.Starts.{seed-forest, later-refused, start-accepted}
+use Rattle.calls.specs.declared.notes.Refusal.{Refusal}
+use Rattle.calls.proofs.rows.Given.{told-start}
+use Rattle.calls.proofs.answers.Updates.{later-pass}
+use Rattle.calls.proofs.answers.Starts.{seed-forest, later-refused, start-accepted}
 use Rattle.calls.proofs.started.Statement.{statement}
 use Rattle.calls.proofs.started.Tie as tie
 

@@ -2,10 +2,10 @@
 use borrow.Author.Needs.{needs}
 use mathlib.Core.Path.{refl, sym, ap, _∙_}
 use Rattle.base.proofs.Tests.{not-true, not-false}
-use Rattle.update_notes.specs.declared.Refusal.{Refusal}
-use Rattle.update_rows.proofs.Given.{told-update}
-use Rattle.update_rows.proofs.Numbers.{first-passed}
-use Rattle.replies.proofs.Updates.{later-pass, later-refused, full-refused, update-accepted}
+use Rattle.calls.specs.declared.notes.Refusal.{Refusal}
+use Rattle.calls.proofs.rows.Given.{told-update}
+use Rattle.calls.proofs.rows.Numbers.{first-passed}
+use Rattle.calls.proofs.answers.Updates.{later-pass, later-refused, full-refused, update-accepted}
 use Rattle.calls.proofs.updated.Statement.{statement}
 use Rattle.calls.proofs.updated.Tie as tie
 

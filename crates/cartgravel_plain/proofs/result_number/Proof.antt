@@ -1,5 +1,5 @@
 -- `cartgravel_plain::result_number` meets its contract: by the variant. Assumes nothing.
-use Rattle.filters.specs.Answer.{resultNumber}
+use Rattle.node_answers.specs.Filter.{resultNumber}
 use borrow.Author.Needs.{needs}
 use Rattle.cartgravel_plain.proofs.result_number.Statement.{statement}
 use Rattle.cartgravel_plain.proofs.result_number.Tie as tie

@@ -1,7 +1,7 @@
 -- `state_sound::all_rooted` meets its contract: each tree passed is rooted. Assumes nothing.
 use Prim.Native.Nat.{_-_}
 use Rattle.base.proofs.Scan.{Passed, scan}
-use Rattle.state_sound.specs.Parts.{rootedIn, allRooted}
+use Rattle.state_rules.specs.Parts.{rootedIn, allRooted}
 use borrow.Author.Needs.{needs}
 use Rattle.state_sound.proofs.all_rooted.Statement.{statement}
 use Rattle.state_sound.proofs.all_rooted.Tie as tie

@@ -1,8 +1,8 @@
 -- `state_sound::grafts_are_bare` meets its contract: each node passed is bare. Assumes nothing.
 use Prim.Native.Nat.{_-_}
 use Rattle.base.proofs.Scan.{Passed, scan}
-use Rattle.state_sound.specs.Parts.{bareIn}
-use Rattle.state_sound.proofs.Grafts.{all-bare}
+use Rattle.state_rules.specs.Parts.{bareIn}
+use Rattle.state_rules.proofs.Grafts.{all-bare}
 use borrow.Author.Needs.{needs}
 use Rattle.state_sound.proofs.grafts_are_bare.Statement.{statement}
 use Rattle.state_sound.proofs.grafts_are_bare.Tie as tie

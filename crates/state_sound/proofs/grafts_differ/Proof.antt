@@ -1,7 +1,7 @@
 -- `state_sound::grafts_differ` meets its contract: each graft passed is new, and has its mark. Assumes nothing.
 use Prim.Native.Nat.{_-_}
 use borrow.Author.Needs.{needs}
-use Rattle.state_sound.proofs.Grafts.{Marking, marking-start, marking-none, marking-more, marking-fails, marking-end}
+use Rattle.state_rules.proofs.Grafts.{Marking, marking-start, marking-none, marking-more, marking-fails, marking-end}
 use Rattle.state_sound.proofs.grafts_differ.Statement.{statement}
 use Rattle.state_sound.proofs.grafts_differ.Tie as tie
 

@@ -3,7 +3,7 @@ use mathlib.Core.Bool.{not}
 use Prim.Native.Nat.{_-_}
 use borrow.Author.Needs.{needs}
 use Rattle.base.proofs.Scan.{Passed, scan}
-use Rattle.state_sound.proofs.Trees.{oldId, one-id-by, old-found, new-found}
+use Rattle.state_rules.proofs.Trees.{oldId, one-id-by, old-found, new-found}
 use Rattle.state_sound.proofs.ids_differ.Statement.{statement}
 use Rattle.state_sound.proofs.ids_differ.Tie as tie
 

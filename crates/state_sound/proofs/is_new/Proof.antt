@@ -1,6 +1,6 @@
 -- `state_sound::is_new` meets its contract: a tree without a mark is grafted by none. Assumes nothing.
 use borrow.Author.Needs.{needs}
-use Rattle.state_sound.proofs.Grafts.{unmarked}
+use Rattle.state_rules.proofs.Grafts.{unmarked}
 use Rattle.state_sound.proofs.is_new.Statement.{statement}
 use Rattle.state_sound.proofs.is_new.Tie as tie
 

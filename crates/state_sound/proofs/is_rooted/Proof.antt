@@ -2,7 +2,7 @@
 use denote.Ref.{now}
 use borrow.Author.Needs.{needs}
 use Rattle.base.specs.Tests.{_&&_}
-use Rattle.state_sound.proofs.Trees.{rooted-unborn, rooted-born}
+use Rattle.state_rules.proofs.Trees.{rooted-unborn, rooted-born}
 use Rattle.state_sound.proofs.is_rooted.Statement.{statement}
 use Rattle.state_sound.proofs.is_rooted.Tie as tie
 

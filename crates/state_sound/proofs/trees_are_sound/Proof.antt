@@ -2,7 +2,7 @@
 use denote.Ref.{now}
 use Rattle.base.specs.Tests.{_&&_}
 use Rattle.state_sound.specs.Parts.{soundGrafts}
-use Rattle.state_sound.proofs.Trees.{rooted-is}
+use Rattle.state_rules.proofs.Trees.{rooted-is}
 use borrow.Author.Needs.{needs}
 use Rattle.state_sound.proofs.trees_are_sound.Statement.{statement}
 use Rattle.state_sound.proofs.trees_are_sound.Tie as tie

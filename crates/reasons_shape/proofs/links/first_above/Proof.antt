@@ -1,7 +1,7 @@
 -- `reasons_shape::links::first_above` meets its contract: no node passed stands above the id. Assumes nothing.
 use Prim.Native.Nat.{_-_}
 use Rattle.base.proofs.Scan.{Missed, scan}
-use Rattle.reasons_reached.specs.Reached.{belowAt}
+use Rattle.reasons_shape.specs.Reached.{belowAt}
 use borrow.Author.Needs.{needs}
 use Rattle.reasons_shape.proofs.links.first_above.Statement.{statement}
 use Rattle.reasons_shape.proofs.links.first_above.Tie as tie

@@ -2,7 +2,7 @@
 use Prim.Native.Nat.{_-_}
 use Rattle.base.proofs.Scan.{call-is}
 use Rattle.reasons.specs.Shape.{isMetTwice}
-use Rattle.reasons_reached.specs.Reached.{reachedIn}
+use Rattle.reasons_shape.specs.Reached.{reachedIn}
 use Rattle.reasons_shape.proofs.LinkRules.{twice-says}
 use Rattle.reasons_shape.proofs.Slots.{Seeking, seeking-start, seeking-more, spot-kept, spot-broken}
 use Rattle.state_array.specs.View.{view}

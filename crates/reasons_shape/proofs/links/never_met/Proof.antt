@@ -1,7 +1,7 @@
 -- `reasons_shape::links::never_met` meets its contract: each node passed is met. Assumes nothing.
 use Prim.Native.Nat.{_-_}
 use Rattle.reasons.specs.Shape.{isNeverMet}
-use Rattle.reasons_reached.specs.Reached.{reachedIn}
+use Rattle.reasons_shape.specs.Reached.{reachedIn}
 use Rattle.reasons_shape.proofs.LinkRules.{never-is, unmet-kept, unmet-broken}
 use Rattle.reasons_shape.proofs.Slots.{Seeking, seeking-start, seeking-more}
 use Rattle.state_array.specs.View.{view}

@@ -1,6 +1,6 @@
 -- `reasons_shape::trees::is_rooted` meets its contract: a law for each way out. Assumes nothing.
 use Rattle.base.specs.Tests.{_&&_}
-use Rattle.state_sound.proofs.Trees.{rooted-unborn, rooted-found}
+use Rattle.state_rules.proofs.Trees.{rooted-unborn, rooted-found}
 use borrow.Author.Needs.{needs}
 use denote.Ref.{now}
 use Rattle.reasons_shape.proofs.trees.is_rooted.Statement.{statement}

@@ -1,0 +1,38 @@
+-- `bodies::same_data` meets its contract: the data compared, then the children. Assumes nothing.
+use denote.Ref.{now}
+use mathlib.Core.Path.{_≡_}
+use lib.ListN.{length}
+use native.Mathlib.Omega.{arith}
+use Rattle.calls.proofs.notes.Told.{few-listed, few-named}
+use Rattle.calls.proofs.bodies.Differs.{run-within, other-data, same-data}
+use borrow.Author.Needs.{needs}
+use Rattle.calls.proofs.bodies.same_data.Statement.{statement}
+use Rattle.calls.proofs.bodies.same_data.Tie as tie
+
+add-to : tie.Need-add-to
+add-to c = let s = c .before .before .before .before .before .before .before .before .before in omega (arith, run-within (s .pre .0) (s .pre .1 .0), few-named, c .first-child .ensures)
+
+returns-2 : tie.Need-returns-2
+returns-2 c =
+    let s = c .before .before .before .before .before .before .before .before .before .before .before .before in
+    let long : length (now (s .args .state)) ≡ 9640 = omega arith in
+    let bodies = c .before .before .before .before .before .before .before .before .before in
+    same-data (s .pre .0) (s .pre .1 .0) (s .pre .1 .1) (bodies .before .body-of .ensures) (bodies .body-of2 .ensures) long
+    (c .before .before .before .before .before .before .before .before .same-body .ensures) (c .before .before .before .before .before .before .before .if1 .left)
+    (c .before .before .before .before .before .before .id-at .ensures) (c .before .before .before .before .before .shape-at .ensures)
+    (c .before .before .before .before .first-entry .ensures) (c .before .before .before .first-child .ensures) (c .same-run .ensures)
+
+pub same-data-spec : {M : Type 1} → statement M
+same-data-spec =
+    tie.close
+    (tie.spec
+    (λ c κs. search needs)
+    (λ c. omega (arith, few-listed))
+    (λ c κs. search needs) (λ c κs. search needs)
+    (λ c. search other-data)
+    (λ c κs. search needs) (λ c κs. search needs) (λ c κs. search needs)
+    (λ c. search needs)
+    (λ c κs. search needs)
+    add-to
+    (λ c κs. search needs)
+    returns-2)

@@ -1,0 +1,2 @@
+pub mod Namers
+pub mod Words

@@ -1,0 +1,138 @@
+-- What the notes say to the writer, of node r its code, its id, its link, its data; and the whole outcome. Assumes nothing.
+use Rattle.ids.specs.declared.FullNodeId.{FullNodeId}
+use mathlib.Core.List.{List}
+use mathlib.Core.Path.{_≡_, sym, _∙_, ap}
+use Prim.Native.Nat.{ℕ, _+_, _-_, _≤_, _<_}
+use native.Mathlib.Omega.{arith}
+use lib.ListN.{length, getD, replicate}
+use Rattle.record.specs.Batch.{Batch, NodeData, fieldsOk}
+use Rattle.record_reader.specs.Reader.{listedAt}
+use Rattle.state.specs.State.{Forest, NodeState}
+use Rattle.state_array.specs.View.{idIn, nodeIn}
+use Rattle.state_array.specs.Stored.{noState, entriesOf, bodyOf, headWord, stored}
+use Rattle.update.specs.Words.{here}
+use Rattle.update.specs.Outcome.{linkAfter, outcome}
+use Rattle.calls.specs.declared.notes.Scope.{Scope}
+use Rattle.calls.specs.Layout.{LISTED, COUNT, CODES, SOURCES}
+use Rattle.calls.specs.Setting.{asked, forest}
+use Rattle.calls.specs.Codes.{idAt, codeId, codeLink, Coded, SourceOf, codeOf, sourceOf, nodeAt}
+use Rattle.calls.specs.Says.{Told, COMPARED, PLANNED, listedWord, codeWord, sourceWord, outcomeState}
+use Rattle.calls.proofs.notes.Places.{forest-id, forest-node}
+use Rattle.update_focus.proofs.Numbers.{forest-length}
+use Rattle.calls.proofs.notes.Told.{few-listed, few-named, few-after, batched}
+use Rattle.calls.proofs.Outcome.Codes.{code-old, code-new, coded, code-id}
+use Rattle.calls.proofs.Outcome.Nodes.{code-link, source-of}
+use Rattle.calls.proofs.Outcome.Room.{entries-few, trees-few}
+use Rattle.calls.specs.Written.{nodesAfter, nodesWritten, childrenWritten}
+use native.Mathlib.Decide.{decLt}
+use Rattle.state_array.specs.declared.Body.{Body}
+use Rattle.calls.proofs.notes.Setting.{batched-at}
+use Rattle.base.proofs.Lists.{all-at}
+use Rattle.update_bodies.specs.Bodies.{BodyIs}
+use Rattle.base.specs.Regions.{fill}
+use Rattle.state_array.proofs.Filled.{filled-stored}
+use Rattle.calls.specs.Trees.{treesAfter, treesWritten}
+
+module _ {state bytes : List ℕ} {c : Scope} {notes : List ℕ} (told : Told PLANNED state bytes c notes) where
+  abbrev s : Forest
+  s = forest state
+
+  abbrev b : Batch
+  b = asked bytes c
+
+  -- ## Limits
+
+  -- how many nodes there are, and that they have room
+  pub count-told : getD notes COUNT 0 ≡ length (nodesAfter state bytes c)
+  count-told = told .written 11 (omega arith) 0 (omega arith)
+
+  pub nodes-room : length (nodesAfter state bytes c) ≤ 320
+  nodes-room = few-after state bytes c (told .given)
+
+  -- a node before the count is one of them
+  pub node-among : {r : ℕ} → r < getD notes COUNT 0 → r < length (nodesAfter state bytes c)
+  node-among h = omega (arith, count-told)
+
+  listed-room : length (asked bytes c .nodes) ≤ 64
+  listed-room = omega (arith, few-listed state bytes c (told .given), told .given .scoped .listed)
+
+  -- so have their children
+  pub entries-room : length (entriesOf (nodesAfter state bytes c)) ≤ 512
+  entries-room = entries-few s b (told .given .kept) (rw (told .given .scoped .named) at (few-named state bytes c (told .given)))
+
+  -- what the links were worked out from
+  pub told-compared : Told COMPARED state bytes c notes
+  told-compared = record { given = told .given; long = told .long; written = λ j h. told .written j (omega arith) }
+
+  -- ## Node r
+
+  module _ {r : ℕ} (l : r < length (nodesAfter state bytes c)) where
+    code-told : getD notes (CODES + r) 0 ≡ codeOf s b (idAt (outcome s b) r)
+    unfolding codeWord
+    code-told = told .written 12 (omega arith) r l
+
+    source-told : getD notes (SOURCES + r) 0 ≡ sourceOf s b (idAt (outcome s b) r)
+    unfolding sourceWord
+    source-told = told .written 13 (omega arith) r l
+
+    -- its code, its id and its link
+    pub code-there : Coded (forest state) (asked bytes c) (getD notes (CODES + r) 0)
+    code-there = rw code-told (coded s b (told .given .kept) listed-room (told .given .once) r l)
+
+    pub id-there : codeId (forest state) (asked bytes c) (getD notes (CODES + r) 0) ≡ getD (nodesAfter state bytes c) r noState .id
+    id-there = rw code-told (code-id s b (told .given .kept) listed-room (told .given .once) r l)
+
+    pub link-there : linkAfter (forest state) (asked bytes c) (codeId (forest state) (asked bytes c) (getD notes (CODES + r) 0)) (codeLink (forest state) (asked bytes c) (getD notes (CODES + r) 0))
+        ≡ getD (nodesAfter state bytes c) r noState .parentAndIndex
+    link-there = rw code-told (sym (code-link s b (told .given .kept) listed-room (told .given .once) r l))
+
+    -- where its data comes from
+    pub source-there : SourceOf (forest state) (asked bytes c) (getD notes (SOURCES + r) 0) (getD (nodesAfter state bytes c) r noState .body)
+    source-there = rw source-told (source-of s b (told .given .kept) listed-room (told .given .once) r l)
+
+  -- ## The id of a code
+
+  module _ {code : ℕ} (there : Coded (forest state) (asked bytes c) code) where
+    pub slot-id : {y : FullNodeId} → code < 320 → y ≡ idIn state code → y ≡ codeId (forest state) (asked bytes c) code
+    slot-id h e = e ∙ sym (code-old s b code h ∙ forest-id state code (rw (forest-length state) at (there .stays h .0)))
+
+    -- a listed node's place
+    pub listed-place : 320 ≤ code → code - 320 < 64
+    listed-place h = omega (arith, there .new h .0, listed-room)
+
+    pub listed-id : 320 ≤ code → record { tree = c .tree; node = record { 0 = getD notes (LISTED + (code - 320)) 0 } } ≡ codeId (forest state) (asked bytes c) code
+    unfolding here listedWord
+    listed-id h =
+        let word : getD notes (LISTED + (code - 320)) 0 ≡ listedAt b (code - 320) .id .0 = told .written 0 (omega arith) (code - 320) (omega (arith, there .new h .0, told .given .scoped .listed)) in
+        (λ z. record { tree = told .given .scoped .tree z; node = record { 0 = word z } }) ∙ sym (code-new s b code h)
+
+module _ {state bytes : List ℕ} {c : Scope} {notes : List ℕ} (told : Told PLANNED state bytes c notes) {r : ℕ} (l : r < length (nodesAfter state bytes c)) where
+  pub body-there : {d : Body} → BodyIs state bytes (getD notes (SOURCES + r) 0) d → d ≡ bodyOf (getD (nodesAfter state bytes c) r noState .body)
+  body-there {d} is = go (decLt source 320)
+    where
+      source : ℕ
+      source = getD notes (SOURCES + r) 0
+
+      body : NodeData
+      body = getD (nodesAfter state bytes c) r noState .body
+
+      go : Dec (source < 320) → d ≡ bodyOf body
+      go (yes h) =
+          let from = source-there told l .kept h in
+          let node : nodeAt (forest state) source ≡ nodeIn state source = forest-node state source (rw (forest-length state) at (from .0)) in
+          let fields = all-at (λ n. fieldsOk (n .body)) (forest state .nodes) noState (told .given .kept .fields) source (from .0) in
+          is .kept h (rw node at fields) .is ∙ ap (λ (n : NodeState). bodyOf (n .body)) (sym node) ∙ ap bodyOf (from .1)
+      go (no h) =
+          let past : 320 ≤ source = omega arith in
+          let from = source-there told l .read past in
+          let record-of = batched state bytes c (told .given) in
+          is .read past (told .given .formed) (rw (record-of .nodes) at (from .0)) .is
+          ∙ rw (batched-at bytes (asked bytes c) record-of (source - 320)) (ap bodyOf (from .1))
+
+pub outcome-written : {state bytes : List ℕ} {c : Scope} {notes : List ℕ} → Told PLANNED state bytes c notes → {blank nodes children trees end : List ℕ}
+    → blank ≡ replicate 9640 0 → nodes ≡ nodesWritten (nodesAfter state bytes c) blank → children ≡ childrenWritten (nodesAfter state bytes c) nodes
+    → trees ≡ treesWritten (treesAfter state bytes c) children → end ≡ fill 0 3 (headWord (outcomeState state bytes c)) trees → end ≡ stored (outcomeState state bytes c)
+outcome-written {state} {bytes} {c} told z n k t h =
+    rw (h, t, k, n, z)
+    (filled-stored (outcomeState state bytes c) (nodes-room told)
+    (trees-few (forest state) (asked bytes c) (told .given .kept) (told .given .numbered)) (entries-room told))

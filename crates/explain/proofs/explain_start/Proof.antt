@@ -1,8 +1,0 @@
--- `explain::explain_start` meets its contract. Assumes nothing.
-use borrow.Author.Needs.{needs}
-use Rattle.explain.proofs.explain_start.Statement.{statement}
-use Rattle.explain.proofs.explain_start.Tie as tie
-use Rattle.explain.proofs.Parts.{explained-start}
-
-pub explain-start-spec : {M : Type 1} → statement M
-explain-start-spec = tie.close (tie.spec (λ c κs. search needs) (λ c κs. search needs) (λ c κs. search needs) (λ c κs. search needs) (λ c. search explained-start))

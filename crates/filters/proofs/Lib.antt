@@ -1,4 +1,0 @@
-pub mod Common
-pub mod Near
-pub mod Clipped
-pub mod Answer

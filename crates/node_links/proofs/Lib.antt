@@ -1,5 +1,0 @@
-pub mod Places
-pub mod Slots
-pub mod Links
-pub mod Siblings
-pub mod Up

@@ -1,0 +1,128 @@
+-- `filters::nearest_up` meets its contract: what is told of a node by those above it. The measure is how many there are from it up. Assumes nothing.
+use mathlib.Core.Path.{refl, sym, ap, _∙_}
+use Prim.Native.Nat.{ℕ, _<_}
+use native.Mathlib.Omega.{arith}
+use lib.ListN.{length}
+use borrow.Author.Needs.{needs}
+use borrow.Fn.Kinds.{In}
+use borrow.Fn.PlainCycle.{Measures, is, falls, and}
+use Rattle.questions.specs.Filters.{filterOf, isExcludeSubtree}
+use Rattle.question_calls.proofs.plain.Above.{up-next}
+use Rattle.question_calls.specs.Plain.{upFrom}
+use Rattle.question_calls.proofs.filters.Near.{included-here, included-on, included-end, hidden-joined, dropped-above}
+use Rattle.question_calls.proofs.filters.nearest_up.Reads as nearest-up
+use Rattle.question_calls.proofs.filters.nearest_up.Kinds as nearest-up-kinds
+use Rattle.question_calls.proofs.filters.+nearest_up.Lts-nearest_up as nearest-up-lts
+use Rattle.question_calls.proofs.filters.common_below.Reads as common-below-reads
+use Rattle.question_calls.proofs.filters.is_exclude_subtree.Reads as is-exclude-subtree-reads
+use Rattle.question_calls.proofs.filters.is_kept.Reads as is-kept-reads
+use Rattle.question_calls.proofs.links.hidden_at.Reads as hidden-at-reads
+use Rattle.question_calls.proofs.links.parent_slot.Reads as parent-slot-reads
+use Rattle.state_array.proofs.slots.Reads as slots-reads
+use Rattle.question_calls.proofs.filters.+nearest_up.{statement}
+use Rattle.question_calls.proofs.filters.+nearest_up.Tie.{close}
+
+abbrev μ-nearest-up : Measures 2 nearest-up-kinds.ps ℕ
+μ-nearest-up κs a = length (upFrom (a .0 .now) (a .1 .1 .1 .1 .0))
+
+abbrev nearest-up-at : ℕ → In 2 nearest-up-kinds.ps
+nearest-up-at t =
+    and 2 nearest-up-kinds.ps (is 2 nearest-up-kinds.ps μ-nearest-up t) nearest-up.Pre
+
+abbrev nearest-up-below : ℕ → In 2 nearest-up-kinds.ps
+nearest-up-below t =
+    and 2 nearest-up-kinds.ps (falls 2 nearest-up-kinds.ps _<_ μ-nearest-up t) nearest-up.Pre
+
+-- what the calls ask and give
+abbrev calls : ℕ → nearest-up-lts.Claims
+calls t = (
+  slots-reads.Asked,
+  slots-reads.Learnt,
+  parent-slot-reads.Asked,
+  parent-slot-reads.Learnt,
+  nearest-up-below t,
+  nearest-up.Post,
+  hidden-at-reads.Asked,
+  hidden-at-reads.Learnt,
+  common-below-reads.Asked,
+  common-below-reads.Learnt,
+  is-exclude-subtree-reads.Asked,
+  is-exclude-subtree-reads.Learnt,
+  is-kept-reads.Asked,
+  is-kept-reads.Learnt,
+)
+
+returns : (t : ℕ) → nearest-up-lts.Need-returns (calls t) (nearest-up-at t) nearest-up.Post
+returns t c =
+    let past = rw (c .before .slots .ensures) at (c .if1 .taken) in
+    record {
+      included-is = included-end (filterOf _ _) _ (c .before .before .before .pre .1 .0) _ _ past (c .before .slots .ensures);
+      nothing = λ _. (refl, refl);
+      hidden-is = λ l. absurd (omega arith);
+      dropped-is = λ l. absurd (omega arith);
+    }
+
+nearest-up-requires : (t : ℕ) → nearest-up-lts.Need-nearest-up-requires (calls t) (nearest-up-at t) nearest-up.Post
+nearest-up-requires t c κs =
+    let start = c .before .before .before .before in
+    let sound = start .pre .1 .0 in
+    let l = rw (c .before .before .slots .ensures) at (c .before .if1 .left) in
+    (omega (arith, start .pre .0, ap length (up-next _ sound _ _ l (c .parent-slot .ensures sound l))), start .pre .1)
+
+common-below-requires : (t : ℕ) → nearest-up-lts.Need-common-below-requires (calls t) (nearest-up-at t) nearest-up.Post
+common-below-requires t c κs =
+    let sound = c .before .before .before .before .before .before .before .pre .1 .0 in
+    let l = rw (c .before .before .before .before .before .slots .ensures) at (c .before .before .before .before .if1 .left) in
+    let up = c .before .before .before .parent-slot .ensures sound l in
+    let near = c .before .before .nearest-up .ensures in
+    record {
+      is-sound = sound;
+      focus = c .before .before .before .before .before .before .before .pre .1 .1;
+      within = l;
+      hidden-is = hidden-joined _ sound _ l _ up _ _ (λ past. near .nothing past .0) (near .hidden-is) (c .before .hidden-at .ensures sound l);
+      dropped-is = dropped-above _ sound _ l _ up _ (λ past. near .nothing past .1) (near .dropped-is);
+    }
+
+is-kept-requires : (t : ℕ) → nearest-up-lts.Need-is-kept-requires (calls t) (nearest-up-at t) nearest-up.Post
+is-kept-requires t c κs = c .before .common-below .ensures
+
+returns-2 : (t : ℕ) → nearest-up-lts.Need-returns-2 (calls t) (nearest-up-at t) nearest-up.Post
+returns-2 t c =
+    let sound = c .before .before .before .before .before .before .before .before .before .before .before .pre .1 .0 in
+    let l = rw (c .before .before .before .before .before .before .before .before .before .slots .ensures) at (c .before .before .before .before .before .before .before .before .if1 .left) in
+    let up = c .before .before .before .before .before .before .before .parent-slot .ensures sound l in
+    let near = c .before .before .before .before .before .before .nearest-up .ensures in
+    record {
+      included-is = included-here (filterOf _ _) _ sound _ l _ refl (sym (c .before .is-kept .ensures) ∙ c .if2 .taken);
+      nothing = λ past. absurd (omega arith);
+      hidden-is = λ _. hidden-joined _ sound _ l _ up _ _ (λ past. near .nothing past .0) (near .hidden-is) (c .before .before .before .before .before .hidden-at .ensures sound l);
+      dropped-is = λ _. c .before .before .is-exclude-subtree .ensures ∙ ap isExcludeSubtree (c .before .before .before .common-below .ensures);
+    }
+
+returns-3 : (t : ℕ) → nearest-up-lts.Need-returns-3 (calls t) (nearest-up-at t) nearest-up.Post
+returns-3 t c =
+    let sound = c .before .before .before .before .before .before .before .before .before .before .before .pre .1 .0 in
+    let l = rw (c .before .before .before .before .before .before .before .before .before .slots .ensures) at (c .before .before .before .before .before .before .before .before .if1 .left) in
+    let up = c .before .before .before .before .before .before .before .parent-slot .ensures sound l in
+    let near = c .before .before .before .before .before .before .nearest-up .ensures in
+    record {
+      included-is = near .included-is ∙ included-on (filterOf _ _) _ sound _ l _ refl _ up (sym (c .before .is-kept .ensures) ∙ c .if2 .left);
+      nothing = λ past. absurd (omega arith);
+      hidden-is = λ _. hidden-joined _ sound _ l _ up _ _ (λ past. near .nothing past .0) (near .hidden-is) (c .before .before .before .before .before .hidden-at .ensures sound l);
+      dropped-is = λ _. c .before .before .is-exclude-subtree .ensures ∙ ap isExcludeSubtree (c .before .before .before .common-below .ensures);
+    }
+
+pub +nearest-up-spec : {M : Type 1} → statement M
++nearest-up-spec = close μ-nearest-up λ t. nearest-up-lts.spec (calls t)
+    (nearest-up-at t)
+    nearest-up.Post
+    (λ c κs. search needs)
+    (returns t)
+    (λ c κs. search needs)
+    (nearest-up-requires t)
+    (λ c κs. search needs)
+    (common-below-requires t)
+    (λ c κs. search needs)
+    (is-kept-requires t)
+    (returns-2 t)
+    (returns-3 t)

@@ -1,0 +1,4 @@
+pub mod Slots
+pub mod Links
+pub mod Siblings
+pub mod Up

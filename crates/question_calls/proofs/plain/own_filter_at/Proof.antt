@@ -1,0 +1,34 @@
+-- `plain::own_filter_at` meets its contract: the node's own flag is asked. Assumes nothing.
+use mathlib.Core.Path.{sym, _∙_}
+use borrow.Author.Needs.{needs}
+use Rattle.question_calls.proofs.plain.Own.{own-by-flag}
+use Rattle.question_calls.proofs.plain.Rows.{by-focused, by-hidden, by-transparent, by-plain}
+use Rattle.question_calls.proofs.plain.own_filter_at.Statement.{statement}
+use Rattle.question_calls.proofs.plain.own_filter_at.Tie as tie
+
+returns : tie.Need-returns
+returns c = λ sound there. by-focused _ sound _ (c .before .pre) _ there _ (c .if1 .taken) ∙ sym (own-by-flag _ _)
+
+returns-2 : tie.Need-returns-2
+returns-2 c = λ sound there.
+    let g = c .before .before in
+    by-hidden _ sound _ (g .before .pre) _ there _ (g .if1 .left) (sym (c .before .hidden-at .ensures sound there) ∙ c .if2 .taken) ∙ sym (own-by-flag _ _)
+
+returns-3 : tie.Need-returns-3
+returns-3 c = λ sound there.
+    let k = c .before .before in
+    let g = k .before .before in
+    by-transparent _ sound _ (g .before .pre) _ there _ (g .if1 .left) (sym (k .before .hidden-at .ensures sound there) ∙ k .if2 .left)
+    (sym (c .before .is-transparent .ensures sound there) ∙ c .if3 .taken) ∙ sym (own-by-flag _ _)
+
+returns-4 : tie.Need-returns-4
+returns-4 c = λ sound there.
+    let k = c .before .before in
+    let g = k .before .before in
+    by-plain _ sound _ (g .before .pre) _ there _ (g .if1 .left) (sym (k .before .hidden-at .ensures sound there) ∙ k .if2 .left)
+    (sym (c .before .is-transparent .ensures sound there) ∙ c .if3 .left) ∙ sym (own-by-flag _ _)
+
+pub own-filter-at-spec : {M : Type 1} → statement M
+own-filter-at-spec =
+    tie.close
+    (tie.spec returns (λ c κs. search needs) returns-2 (λ c κs. search needs) returns-3 returns-4)

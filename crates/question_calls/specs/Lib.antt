@@ -1,0 +1,9 @@
+pub mod Asks
+pub mod Slots
+pub mod Places
+pub mod Lists
+pub mod Plain
+pub mod Filters
+pub mod Shown
+pub mod Iterators
+pub mod Walk

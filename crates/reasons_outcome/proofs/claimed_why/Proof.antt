@@ -1,8 +1,0 @@
--- `reasons_outcome::claimed_why` meets its contract. Assumes nothing.
-use Rattle.reasons_why.specs.Why.{whyOf, found}
-use mathlib.Core.Path.{refl}
-use Rattle.reasons_outcome.proofs.claimed_why.Statement.{statement}
-use Rattle.reasons_outcome.proofs.claimed_why.Tie as tie
-
-pub claimed-why-spec : {M : Type 1} → statement M
-claimed-why-spec = tie.close (tie.spec (λ c. unfold whyOf found in refl))

@@ -1,2 +1,0 @@
-pub mod Regrafts
-pub mod Climbs

@@ -1,2 +1,0 @@
-mod Namers
-mod Words

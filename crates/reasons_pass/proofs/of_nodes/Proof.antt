@@ -1,8 +1,0 @@
--- `reasons_pass::of_nodes` meets its contract. Assumes nothing.
-use mathlib.Core.Path.{refl}
-use Rattle.reasons_pass.specs.Nodes.{plainNodes}
-use Rattle.reasons_pass.proofs.of_nodes.Statement.{statement}
-use Rattle.reasons_pass.proofs.of_nodes.Tie as tie
-
-pub of-nodes-spec : {M : Type 1} → statement M
-of-nodes-spec = tie.close (tie.spec (λ c. unfold plainNodes in refl))

@@ -1,0 +1,4 @@
+pub mod Grafts
+pub mod Trees
+pub mod Kids
+pub mod Focus

@@ -1,5 +1,0 @@
-pub mod Layout
-pub mod Columns
-pub mod Setting
-pub mod Codes
-pub mod Says

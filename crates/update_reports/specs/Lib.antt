@@ -1,3 +1,0 @@
-pub mod Outcomes
-pub mod Slice
-pub mod Reported

@@ -1,9 +1,0 @@
--- `update_trees::tree_count` meets its contract. Assumes nothing.
-use Rattle.update_trees.proofs.Entries.{count-known, count-new}
-use borrow.Author.Needs.{needs}
-use Rattle.update_trees.proofs.tree_count.Statement.{statement}
-use Rattle.update_trees.proofs.tree_count.Tie as tie
-
-pub tree-count-spec : {M : Type 1} → statement M
-tree-count-spec =
-    tie.close (tie.spec (λ c κs. search needs) (λ c. search needs) (λ c. search count-known) (λ c. search needs) (λ c. search count-new))
