@@ -1,4 +1,4 @@
--- What the plan's functions answer: codes that stand in the notes for now, a place among them, the columns in the end. Assumes nothing.
+-- What the plan's functions answer: codes that stand in the notes so far, a place among them, the columns in the end. Assumes nothing.
 use mathlib.Core.Bool.{true, false}
 use mathlib.Core.List.{List}
 use mathlib.Core.Logic.{_⊎_}

@@ -9,7 +9,7 @@ use replies::Reply;
 use replies::Report;
 
 // After acceptance.
-pub fn accepted(lengths: Lengths, report: reports::Report) -> Reply
+pub(crate) fn accepted(lengths: Lengths, report: reports::Report) -> Reply
     ensures { λ r. ⌜ r ≡ acceptedReply lengths report ⌝ }
 {
     Reply {
@@ -20,7 +20,7 @@ pub fn accepted(lengths: Lengths, report: reports::Report) -> Reply
 }
 
 // The lengths of a batch's lists.
-pub fn lengths_of(l: Lists) -> Lengths
+pub(crate) fn lengths_of(l: Lists) -> Lengths
     ensures { λ r. ⌜ r ≡ lengthsAre (l .added) (l .updated) (l .removed) (l .relinked) ⌝ }
 {
     Lengths {

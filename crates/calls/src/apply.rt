@@ -17,7 +17,7 @@ use crate::writing;
 use state_array::State;
 
 // The first number of 9 to 20 that refuses the batch, 0 if none does; then the outcome stands in `next`, and the notes have the plan.
-pub fn apply<'a, 'b, 'c>(
+pub(crate) fn apply<'a, 'b, 'c>(
     state: &'a State,
     batch: &'a [u8],
     scope: Scope,
@@ -39,7 +39,7 @@ pub fn apply<'a, 'b, 'c>(
 }
 
 // The outcome of a batch that passed rows 9 to 14, with what goes, what differs and the plan in the notes.
-pub fn write<'a, 'b, 'c>(
+pub(crate) fn write<'a, 'b, 'c>(
     state: &'a State,
     batch: &'a [u8],
     scope: Scope,

@@ -13,7 +13,7 @@ use crate::notes::Scope;
 use state_array::State;
 
 // The phase: which listed nodes are old and have other data, by value, than before.
-pub fn write_differs<'a>(state: &'a State, batch: &'a [u8], scope: Scope, notes: &mut Notes)
+pub(crate) fn write_differs<'a>(state: &'a State, batch: &'a [u8], scope: Scope, notes: &mut Notes)
     requires { ⌜ Told GONE (now state) (now batch) scope (now notes) ⌝ }
     ensures { λ _. ⌜ Told COMPARED (now (state .entry)) (now (batch .entry)) scope (now (notes .exit)) ⌝ }
 {

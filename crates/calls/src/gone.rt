@@ -22,7 +22,7 @@ pub const GOES: u64 = 1;
 pub const AS_PARENT: u64 = 2;
 
 // The phase: the parents' slots, and which nodes go.
-pub fn write_gone<'a>(state: &'a State, batch: &'a [u8], scope: Scope, notes: &mut Notes)
+pub(crate) fn write_gone<'a>(state: &'a State, batch: &'a [u8], scope: Scope, notes: &mut Notes)
     requires { ⌜ Told READ (now state) (now batch) scope (now notes) ⌝ }
     ensures { λ _. ⌜ Told GONE (now (state .entry)) (now (batch .entry)) scope (now (notes .exit)) ⌝ }
 {
@@ -79,7 +79,7 @@ fn write_fates<'a>(state: &'a State, batch: &'a [u8], scope: Scope, notes: &mut 
 }
 
 // The fate of the node in slot i.
-pub fn fate_at<'a>(
+pub(crate) fn fate_at<'a>(
     state: &'a State,
     batch: &'a [u8],
     scope: Scope,

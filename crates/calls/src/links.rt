@@ -26,7 +26,7 @@ use state_array::LinkRow;
 use state_array::State;
 
 // The link after of a code's node.
-pub fn link_of<'a>(
+pub(crate) fn link_of<'a>(
     state: &'a State,
     batch: &'a [u8],
     scope: Scope,

@@ -73,7 +73,7 @@ pub struct Refusal {
 }
 
 // A refusal by a number alone.
-pub fn refuse(number: u8) -> Refusal
+pub(crate) fn refuse(number: u8) -> Refusal
     ensures { λ r. ⌜ r ≡ refusal number ⌝ }
 {
     Refusal {
@@ -86,7 +86,7 @@ pub fn refuse(number: u8) -> Refusal
 }
 
 // Whether listed node i grafts a tree.
-pub fn grafts_new(batch: &[u8], i: usize) -> bool
+pub(crate) fn grafts_new(batch: &[u8], i: usize) -> bool
     ensures { λ r. ⌜ r ≡ isSome (graft? (listedAt (batchOf (now (batch .entry))) i .body)) ⌝ }
 {
     state_array::is_graft(record_reader::flags(batch, i) as u64)
@@ -102,7 +102,7 @@ fn grafts_old(state: &State, slot: usize) -> bool
 }
 
 // Whether listed node i grafts what the node in a slot grafts: the same tree, or none both.
-pub fn same_graft<'a>(state: &'a State, batch: &'a [u8], i: usize, slot: usize) -> bool
+pub(crate) fn same_graft<'a>(state: &'a State, batch: &'a [u8], i: usize, slot: usize) -> bool
     ensures { λ r. ⌜ r ≡ sameOption sameTree (graft? (listedAt (batchOf (now (batch .entry))) i .body)) (graftBelow (now (state .entry)) slot) ⌝ }
 {
     let old = grafts_old(state, slot);
@@ -129,7 +129,7 @@ fn claimer_of<'a>(batch: &'a [u8], notes: &'a Notes, k: usize, t: TreeId) -> usi
 }
 
 // The listed node that claims the tree that the node in a slot grafted, or k.
-pub fn claimed_from<'a>(
+pub(crate) fn claimed_from<'a>(
     state: &'a State,
     batch: &'a [u8],
     notes: &'a Notes,
@@ -147,14 +147,14 @@ pub fn claimed_from<'a>(
 }
 
 // Whether x is the root as the batch leaves it.
-pub fn is_root(scope: Scope, x: FullNodeId) -> bool
+pub(crate) fn is_root(scope: Scope, x: FullNodeId) -> bool
     ensures { λ r. ⌜ r ≡ sameOption sameId (rootIn scope) (some x) ⌝ }
 {
     scope.rooted & (scope.tree.0 == x.tree.0) & (scope.root.0 == x.node.0)
 }
 
 // The first of the n words from `from` on that is x, or n.
-pub fn position_in(notes: &Notes, from: usize, n: usize, x: u64) -> usize
+pub(crate) fn position_in(notes: &Notes, from: usize, n: usize, x: u64) -> usize
     requires { ⌜ from + n ≤ WORDS ⌝ }
     ensures { λ r. ⌜ PositionIn (now (notes .entry)) from n x r ⌝ }
 {
@@ -169,7 +169,7 @@ pub fn position_in(notes: &Notes, from: usize, n: usize, x: u64) -> usize
 }
 
 // The first slot whose node grafts a tree, or the number of slots.
-pub fn holder_of(state: &State, t: TreeId) -> usize
+pub(crate) fn holder_of(state: &State, t: TreeId) -> usize
     ensures { λ r. ⌜ HolderIs (now (state .entry)) t r ⌝ }
 {
     let n = state_array::slots(state);

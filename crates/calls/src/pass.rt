@@ -53,7 +53,12 @@ pub enum Cause {
 }
 
 // Rows 9 to 14.
-pub fn pass_rows<'a>(state: &'a State, batch: &'a [u8], scope: Scope, notes: &'a Notes) -> Refusal
+pub(crate) fn pass_rows<'a>(
+    state: &'a State,
+    batch: &'a [u8],
+    scope: Scope,
+    notes: &'a Notes,
+) -> Refusal
     requires { ⌜ Told READ (now state) (now batch) scope (now notes) ⌝ }
     ensures { λ r. ⌜ r ≡ refusal (passNumber (forest (now (state .entry))) (asked (now (batch .entry)) scope)) ⌝ }
 {
@@ -76,7 +81,12 @@ fn number_of(cause: Cause) -> u8
 }
 
 // What makes the first of rows 9 to 14 hold.
-pub fn cause_of<'a>(state: &'a State, batch: &'a [u8], scope: Scope, notes: &'a Notes) -> Cause
+pub(crate) fn cause_of<'a>(
+    state: &'a State,
+    batch: &'a [u8],
+    scope: Scope,
+    notes: &'a Notes,
+) -> Cause
     requires { ⌜ Told READ (now state) (now batch) scope (now notes) ⌝ }
     ensures { λ r. ⌜ RowsExplained (forest (now (state .entry))) (asked (now (batch .entry)) scope) r ⌝ }
 {

@@ -17,7 +17,7 @@ use ids::NodeId;
 use state_array::State;
 
 // The phase: the codes of the outcome's nodes in ascending order of their ids, how many there are, and the sources of their data.
-pub fn write_plan<'a>(state: &'a State, batch: &'a [u8], scope: Scope, notes: &mut Notes)
+pub(crate) fn write_plan<'a>(state: &'a State, batch: &'a [u8], scope: Scope, notes: &mut Notes)
     requires { ⌜ Told COMPARED (now state) (now batch) scope (now notes) ⌝ }
     ensures { λ _. ⌜ Told PLANNED (now (state .entry)) (now (batch .entry)) scope (now (notes .exit)) ⌝ }
 {

@@ -17,7 +17,7 @@ use ids::TreeIndex;
 use state_array::State;
 
 // The phase: the words of a batch over a state, in eight columns.
-pub fn write_words<'a>(state: &'a State, batch: &'a [u8], scope: Scope, notes: &mut Notes)
+pub(crate) fn write_words<'a>(state: &'a State, batch: &'a [u8], scope: Scope, notes: &mut Notes)
     requires { ⌜ Told 0 (now state) (now batch) scope (now notes) ⌝ }
     ensures { λ _. ⌜ Told READ (now (state .entry)) (now (batch .entry)) scope (now (notes .exit)) ⌝ }
 {

@@ -54,7 +54,7 @@ pub struct Report {
 }
 
 // The phase: what changed of each node of the outcome, which stands in `next`.
-pub fn write_changed<'a>(
+pub(crate) fn write_changed<'a>(
     state: &'a State,
     batch: &'a [u8],
     scope: Scope,
@@ -159,7 +159,7 @@ fn change_of(updated: bool, relinked: bool) -> u64
 }
 
 // Writes the four lists one after another, if the slice has room for them.
-pub fn write_lists<'a>(
+pub(crate) fn write_lists<'a>(
     state: &'a State,
     batch: &'a [u8],
     scope: Scope,
@@ -248,7 +248,7 @@ fn write_list<'a>(
 }
 
 // The focus before and after a batch, and the extra ids by the marks.
-pub fn report_update<'a>(
+pub(crate) fn report_update<'a>(
     state: &'a State,
     batch: &'a [u8],
     scope: Scope,
@@ -266,14 +266,14 @@ pub fn report_update<'a>(
 }
 
 // The focus before and after a host focus change, which has empty lists, and the extra ids.
-pub fn report_host(before: FoundNode, after: FoundNode) -> Report
+pub(crate) fn report_host(before: FoundNode, after: FoundNode) -> Report
     ensures { λ r. ⌜ HostReported before after r ⌝ }
 {
     report_of(before, after, before, after)
 }
 
 // What a start reports: its focus.
-pub fn report_start(after: FoundNode) -> Report
+pub(crate) fn report_start(after: FoundNode) -> Report
     ensures { λ r. ⌜ OnlyAfter (foundOf after) r ⌝ }
 {
     Report {

@@ -43,21 +43,21 @@ pub struct Again {
 }
 
 // Rows 1, 2 and 5 to 8.
-pub fn first_rows<'a>(state: &'a State, batch: &'a [u8]) -> Refusal
+pub(crate) fn first_rows<'a>(state: &'a State, batch: &'a [u8]) -> Refusal
     ensures { λ r. ⌜ r ≡ refusal (firstNumber (view (now (state .entry)) .forest) (now (batch .entry))) ⌝ }
 {
     notes::refuse(first_number(state, batch))
 }
 
 // Rows 2 to 5 of a start.
-pub fn start_rows(batch: &[u8]) -> Refusal
+pub(crate) fn start_rows(batch: &[u8]) -> Refusal
     ensures { λ r. ⌜ r ≡ refusal (startRows (now (batch .entry))) ⌝ }
 {
     notes::refuse(start_number(batch))
 }
 
 // What a batch on a state is about.
-pub fn scope_of<'a>(state: &'a State, batch: &'a [u8]) -> Scope
+pub(crate) fn scope_of<'a>(state: &'a State, batch: &'a [u8]) -> Scope
     ensures { λ r. ⌜ (wellFormed (now (batch .entry)) ≡ true → Scoped (view (now (state .entry)) .forest) (batchOf (now (batch .entry))) r) ⌝ }
 {
     let header = record_view::read_header(batch);
@@ -77,7 +77,7 @@ pub fn scope_of<'a>(state: &'a State, batch: &'a [u8]) -> Scope
 }
 
 // What a start is about.
-pub fn start_scope(batch: &[u8]) -> Scope
+pub(crate) fn start_scope(batch: &[u8]) -> Scope
     ensures { λ r. ⌜ (startRows (now (batch .entry)) ≡ 0 → Scoped (seed (batchOf (now (batch .entry)))) (withoutTreeData (batchOf (now (batch .entry)))) r) ⌝ }
 {
     let header = record_view::read_header(batch);
@@ -94,14 +94,14 @@ pub fn start_scope(batch: &[u8]) -> Scope
 }
 
 // 12's second part and rows 15 to 20, of the outcome that stands in `next`; `clash` is row 18.
-pub fn last_rows(next: &State, clash: bool) -> Refusal
+pub(crate) fn last_rows(next: &State, clash: bool) -> Refusal
     ensures { λ r. ⌜ r ≡ refusal (lastNumber (view (now (next .entry)) .forest) clash) ⌝ }
 {
     notes::refuse(last_number(next, clash))
 }
 
 // Row 18: whether a listed node has other data than before, and goes.
-pub fn updated_and_removed<'a>(
+pub(crate) fn updated_and_removed<'a>(
     state: &'a State,
     batch: &'a [u8],
     scope: Scope,
@@ -122,7 +122,7 @@ pub fn updated_and_removed<'a>(
 }
 
 // Whether listed node i has other data than before, so that it is old, and goes.
-pub fn clashes_at<'a>(
+pub(crate) fn clashes_at<'a>(
     state: &'a State,
     batch: &'a [u8],
     scope: Scope,
@@ -197,7 +197,7 @@ fn listed_twice(batch: &[u8]) -> bool
 }
 
 // The first listed node that was listed before, and where.
-pub fn listed_again(batch: &[u8]) -> Again
+pub(crate) fn listed_again(batch: &[u8]) -> Again
     requires { ⌜ wellFormed (now batch) ≡ true ⌝ }
     ensures { λ r. ⌜ ListedAgain (batchOf (now (batch .entry))) r ⌝ }
 {
@@ -235,7 +235,7 @@ fn first_of(seen: &[u64; 64], n: usize, x: u64) -> usize
 }
 
 // Row 6: tree data for a tree other than ROOT that no node grafts.
-pub fn is_ungrafted<'a>(state: &'a State, batch: &'a [u8]) -> bool
+pub(crate) fn is_ungrafted<'a>(state: &'a State, batch: &'a [u8]) -> bool
     ensures { λ r. ⌜ r ≡ ungrafted (view (now (state .entry)) .forest) (batchOf (now (batch .entry))) ⌝ }
 {
     if !record_reader::has_tree_data(batch) {
@@ -246,7 +246,7 @@ pub fn is_ungrafted<'a>(state: &'a State, batch: &'a [u8]) -> bool
 }
 
 // Row 7: no tree data for a tree other than ROOT that does not exist.
-pub fn is_missing<'a>(state: &'a State, batch: &'a [u8]) -> bool
+pub(crate) fn is_missing<'a>(state: &'a State, batch: &'a [u8]) -> bool
     ensures { λ r. ⌜ r ≡ missing (view (now (state .entry)) .forest) (batchOf (now (batch .entry))) ⌝ }
 {
     let id = record_reader::tree_id(batch);
@@ -254,7 +254,7 @@ pub fn is_missing<'a>(state: &'a State, batch: &'a [u8]) -> bool
 }
 
 // Row 8: a tree without a number, where none is left.
-pub fn is_full<'a>(state: &'a State, batch: &'a [u8]) -> bool
+pub(crate) fn is_full<'a>(state: &'a State, batch: &'a [u8]) -> bool
     ensures { λ r. ⌜ r ≡ full (view (now (state .entry)) .forest) (batchOf (now (batch .entry))) ⌝ }
 {
     let m = state_array::trees(state);

@@ -7,7 +7,7 @@ ghost use Rattle.calls.specs.Plain.{seeded};
 use state_array::State;
 
 // ROOT alone, with the root and the focus of the record, in the blank state.
-pub fn seed(state: &mut State, batch: &[u8], host_focused: u32)
+pub(crate) fn seed(state: &mut State, batch: &[u8], host_focused: u32)
     requires { ⌜ startRows (now batch) ≡ 0 ⌝ }
     requires { ⌜ now state ≡ blankWords ⌝ }
     ensures { λ _. ⌜ view (now (state .exit)) ≡ seeded (now (batch .entry)) «host_focused» ⌝ }

@@ -22,7 +22,7 @@ use state_array::State;
 use state_array::TreeRow;
 
 // The trees of the outcome: of those whose root goes none exists, and the batch's tree has its root and its focus.
-pub fn write_trees<'a>(
+pub(crate) fn write_trees<'a>(
     state: &'a State,
     batch: &'a [u8],
     scope: Scope,
@@ -42,7 +42,12 @@ pub fn write_trees<'a>(
 }
 
 // How many trees have numbers after the batch.
-pub fn tree_count<'a>(state: &'a State, batch: &'a [u8], scope: Scope, notes: &'a Notes) -> usize
+pub(crate) fn tree_count<'a>(
+    state: &'a State,
+    batch: &'a [u8],
+    scope: Scope,
+    notes: &'a Notes,
+) -> usize
     requires { ⌜ Told PLANNED (now state) (now batch) scope (now notes) ⌝ }
     ensures { λ r. ⌜ r ≡ length (treesAfter (now (state .entry)) (now (batch .entry)) scope) ⌝ }
 {

@@ -24,7 +24,7 @@ use state_array::State;
 use state_focus::FoundNode;
 
 // 12, where two nodes of the outcome graft one tree: the node that claims it, and the other.
-pub fn clash_why<'a>(
+pub(crate) fn clash_why<'a>(
     state: &'a State,
     batch: &'a [u8],
     scope: Scope,
@@ -47,7 +47,12 @@ pub fn clash_why<'a>(
 }
 
 // 18: the first listed node that is updated and removed, the node whose place is gone, and the listed node that dropped it.
-pub fn removed_why<'a>(state: &'a State, batch: &'a [u8], scope: Scope, notes: &'a Notes) -> Why
+pub(crate) fn removed_why<'a>(
+    state: &'a State,
+    batch: &'a [u8],
+    scope: Scope,
+    notes: &'a Notes,
+) -> Why
     requires { ⌜ Told PLANNED (now state) (now batch) scope (now notes) ⌝ }
     ensures { λ r. ⌜ r ≡ whyFor (removedReason (view (now (state .entry)) .forest) (asked (now (batch .entry)) scope)) ⌝ }
 {

@@ -20,7 +20,7 @@ use state_array::State;
 use state_focus::FoundNode;
 
 // Why rows 9 to 14 refuse the batch.
-pub fn pass_why<'a>(state: &'a State, batch: &'a [u8], scope: Scope, notes: &'a Notes) -> Why
+pub(crate) fn pass_why<'a>(state: &'a State, batch: &'a [u8], scope: Scope, notes: &'a Notes) -> Why
     requires { ⌜ Told READ (now state) (now batch) scope (now notes) ⌝ }
     ensures { λ r. ⌜ r ≡ whyFor (rowReason (forest (now (state .entry))) (asked (now (batch .entry)) scope)) ⌝ }
 {

@@ -21,7 +21,7 @@ use state_array::State;
 use state_focus::FoundNode;
 
 // Rows 5 to 8.
-pub fn before_pass<'a>(state: &'a State, batch: &'a [u8], scope: Scope) -> Why
+pub(crate) fn before_pass<'a>(state: &'a State, batch: &'a [u8], scope: Scope) -> Why
     requires { ⌜ wellFormed (now batch) ≡ true ⌝ }
     requires { ⌜ Scoped (forest (now state)) (batchOf (now batch)) scope ⌝ }
     ensures { λ r. ⌜ r ≡ whyFor (firstGiven (λ o. o) (reasonsBeforePass (forest (now (state .entry))) (batchOf (now (batch .entry))))) ⌝ }
@@ -44,7 +44,7 @@ pub fn before_pass<'a>(state: &'a State, batch: &'a [u8], scope: Scope) -> Why
 }
 
 // Row 5: the first listed node that was listed before; `tree` is the number of its tree.
-pub fn listed_again(batch: &[u8], tree: TreeIndex) -> Why
+pub(crate) fn listed_again(batch: &[u8], tree: TreeIndex) -> Why
     requires { ⌜ wellFormed (now batch) ≡ true ⌝ }
     ensures { λ r. ⌜ AgainIs (now (batch .entry)) tree r ⌝ }
 {
@@ -66,7 +66,7 @@ pub fn listed_again(batch: &[u8], tree: TreeIndex) -> Why
 }
 
 // A number and a tree.
-pub fn of_tree(number: u8, tree: TreeId) -> Why
+pub(crate) fn of_tree(number: u8, tree: TreeId) -> Why
     ensures { λ r. ⌜ r ≡ ofTree number tree ⌝ }
 {
     Why {
@@ -82,7 +82,7 @@ pub fn of_tree(number: u8, tree: TreeId) -> Why
 }
 
 // Row 21: how many elements the lists take, where fewer are lent.
-pub fn slice_why<'a>(
+pub(crate) fn slice_why<'a>(
     state: &'a State,
     batch: &'a [u8],
     scope: Scope,

@@ -22,7 +22,7 @@ use state_array::LinkRow;
 use state_array::State;
 
 // The outcome, written into an array of zeros: its nodes, their children, the table of trees, the head.
-pub fn write_outcome<'a>(
+pub(crate) fn write_outcome<'a>(
     state: &'a State,
     batch: &'a [u8],
     scope: Scope,

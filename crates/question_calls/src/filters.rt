@@ -180,7 +180,13 @@ fn nothing_known(state: &State) -> Known
 }
 
 // What a filter needs to know of a node, to be asked of those below it: nothing where it asks no parent.
-pub fn known_at(state: &State, parents: &[u16], focused: usize, filter: Filter, i: usize) -> Known
+pub(crate) fn known_at(
+    state: &State,
+    parents: &[u16],
+    focused: usize,
+    filter: Filter,
+    i: usize,
+) -> Known
     requires { ⌜ Sound (now state) ⌝ }
     requires { ⌜ Focused (now state) focused ⌝ }
     ensures { λ r. ⌜ Knows (now (state .entry)) r ⌝ }
@@ -196,7 +202,7 @@ pub fn known_at(state: &State, parents: &[u16], focused: usize, filter: Filter, 
 }
 
 // The same of a node that the filter includes: `common_filter` does not drop it, unless it is ROOT's root.
-pub fn known_included(state: &State, filter: Filter, i: usize) -> Known
+pub(crate) fn known_included(state: &State, filter: Filter, i: usize) -> Known
     requires { ⌜ Included filter (now state) i ⌝ }
     ensures { λ r. ⌜ Knows (now (state .entry)) r ⌝ }
 {
@@ -213,7 +219,7 @@ pub fn known_included(state: &State, filter: Filter, i: usize) -> Known
 }
 
 // One of the three, where something is known of a node above.
-pub fn filter_knowing(
+pub(crate) fn filter_knowing(
     state: &State,
     parents: &[u16],
     focused: usize,
@@ -317,7 +323,7 @@ pub struct Nearest {
 }
 
 // The same worked out from the root down: `excepted` where ROOT's root is included, whatever it is.
-pub fn nearest_up(
+pub(crate) fn nearest_up(
     state: &State,
     parents: &[u16],
     focused: usize,
@@ -368,7 +374,7 @@ fn is_kept(state: &State, excepted: bool, result: FilterResult, i: usize) -> boo
 }
 
 // Whether a filter asks no parent.
-pub fn is_plain(filter: Filter) -> bool
+pub(crate) fn is_plain(filter: Filter) -> bool
     ensures { λ r. ⌜ r ≡ isPlain filter ⌝ }
 {
     match filter {
@@ -379,7 +385,7 @@ pub fn is_plain(filter: Filter) -> bool
 }
 
 // Whether a filter includes ROOT's root, whatever it is.
-pub fn has_root_exception(filter: Filter) -> bool
+pub(crate) fn has_root_exception(filter: Filter) -> bool
     ensures { λ r. ⌜ r ≡ hasRootException filter ⌝ }
 {
     match filter {
@@ -390,7 +396,13 @@ pub fn has_root_exception(filter: Filter) -> bool
 }
 
 // Whether a filter says ExcludeNode, for which no parent is asked.
-pub fn is_passed(state: &State, parents: &[u16], focused: usize, filter: Filter, i: usize) -> bool
+pub(crate) fn is_passed(
+    state: &State,
+    parents: &[u16],
+    focused: usize,
+    filter: Filter,
+    i: usize,
+) -> bool
     requires { ⌜ Focused (now state) focused ⌝ }
     ensures { λ r. ⌜ OfSlot (now (state .entry)) i (λ f x. r ≡ isExcludeNode (filterOf filter (view (now (state .entry))) x)) ⌝ }
 {
@@ -420,7 +432,7 @@ fn clips_children(state: &State, i: usize) -> bool
 }
 
 // Whether the node's children stand in its place.
-pub fn is_exclude_node(result: FilterResult) -> bool
+pub(crate) fn is_exclude_node(result: FilterResult) -> bool
     ensures { λ r. ⌜ r ≡ isExcludeNode result ⌝ }
 {
     match result {

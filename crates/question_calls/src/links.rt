@@ -19,7 +19,7 @@ use state_array::State;
 use state_lookup::FoundTree;
 
 // The parent's slot.
-pub fn parent_slot(state: &State, parents: &[u16], i: usize) -> usize
+pub(crate) fn parent_slot(state: &State, parents: &[u16], i: usize) -> usize
     ensures { λ r. ⌜ OfSlot (now (state .entry)) i (λ f x. slotId (now (state .entry)) r ≡ parentAt (f .nodes) x) ⌝ }
 {
     let link = state_array::link_at(state, i);
@@ -30,7 +30,7 @@ pub fn parent_slot(state: &State, parents: &[u16], i: usize) -> usize
 }
 
 // How many children there are; of a graft 1 where its tree exists, else 0.
-pub fn child_count(state: &State, i: usize) -> usize
+pub(crate) fn child_count(state: &State, i: usize) -> usize
     ensures { λ r. ⌜ OfSlot (now (state .entry)) i (λ f x. r ≡ length (childIds f x)) ⌝ }
 {
     let shape = state_array::shape_at(state, i);
@@ -44,7 +44,7 @@ pub fn child_count(state: &State, i: usize) -> usize
 }
 
 // Child k, without a search for its slot.
-pub fn child_id(state: &State, i: usize, k: usize) -> FullNodeId
+pub(crate) fn child_id(state: &State, i: usize, k: usize) -> FullNodeId
     ensures { λ r. ⌜ OfSlot (now (state .entry)) i (λ f x. (k < length (childIds f x) → r ≡ getD (childIds f x) k x)) ⌝ }
 {
     let shape = state_array::shape_at(state, i);
@@ -71,7 +71,7 @@ fn child_slot(state: &State, i: usize, k: usize) -> usize
 }
 
 // The slot of the first child, or on the preceding side of the last.
-pub fn first_child_slot(state: &State, side: Side, i: usize) -> usize
+pub(crate) fn first_child_slot(state: &State, side: Side, i: usize) -> usize
     ensures { λ r. ⌜ OfSlot (now (state .entry)) i (λ f x. slotId (now (state .entry)) r ≡ head? (turned side (childIds f x))) ⌝ }
 {
     match side {
@@ -92,7 +92,7 @@ fn last_child_slot(state: &State, i: usize) -> usize
 }
 
 // The slot of the next sibling on a side, from the recorded link and the parent's children.
-pub fn sibling_slot(state: &State, parents: &[u16], side: Side, i: usize) -> usize
+pub(crate) fn sibling_slot(state: &State, parents: &[u16], side: Side, i: usize) -> usize
     ensures { λ r. ⌜ OfSlot (now (state .entry)) i (λ f x. slotId (now (state .entry)) r ≡ head? (siblings side f x)) ⌝ }
 {
     match side {
@@ -140,7 +140,7 @@ fn preceding_slot(state: &State, parents: &[u16], i: usize) -> usize
 }
 
 // Whether the node or one of its ancestors is hidden.
-pub fn is_hidden(state: &State, parents: &[u16], i: usize) -> bool
+pub(crate) fn is_hidden(state: &State, parents: &[u16], i: usize) -> bool
     ensures { λ r. ⌜ OfSlot (now (state .entry)) i (λ f x. r ≡ isHidden f x) ⌝ }
 {
     hidden_up(state, parents, i, state_array::SLOTS)
@@ -164,14 +164,14 @@ fn hidden_up(state: &State, parents: &[u16], i: usize, room: usize) -> bool
 }
 
 // The node's own hidden flag.
-pub fn hidden_at(state: &State, i: usize) -> bool
+pub(crate) fn hidden_at(state: &State, i: usize) -> bool
     ensures { λ r. ⌜ OfSlot (now (state .entry)) i (λ f x. r ≡ hiddenAt f x) ⌝ }
 {
     state_array::word_at(state, state_array::FLAGS, i) % 2 == 1
 }
 
 // The bounding box: that of the node's bounds under its transform, if it has bounds.
-pub fn bounding_box(state: &State, parents: &[u16], i: usize) -> BoundingBox
+pub(crate) fn bounding_box(state: &State, parents: &[u16], i: usize) -> BoundingBox
     ensures { λ r. ⌜ OfSlot (now (state .entry)) i (λ f x. r ≡ boundingBox f x) ⌝ }
 {
     if state_array::word_at(state, state_array::FLAGS, i) / 16 % 2 != 1 {
@@ -184,7 +184,7 @@ pub fn bounding_box(state: &State, parents: &[u16], i: usize) -> BoundingBox
 }
 
 // The node's transform under its ancestors', each multiplied on the left: right where there are fewer ancestors than room for them.
-pub fn transform_of(state: &State, parents: &[u16], i: usize) -> Affine
+pub(crate) fn transform_of(state: &State, parents: &[u16], i: usize) -> Affine
     ensures { λ r. ⌜ OfSlot (now (state .entry)) i (λ f x. r ≡ transform f x) ⌝ }
 {
     let n = state_array::slots(state);

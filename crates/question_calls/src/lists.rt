@@ -22,7 +22,7 @@ pub struct Run {
 }
 
 // Where the siblings on a side of the node in slot i stand.
-pub fn siblings_run(state: &State, parents: &[u16], side: Side, i: usize) -> Run
+pub(crate) fn siblings_run(state: &State, parents: &[u16], side: Side, i: usize) -> Run
     requires { ⌜ Sound (now state) ⌝ }
     requires { ⌜ i < slotsOf (now state) ⌝ }
     ensures { λ r. ⌜ RunOf (now (state .entry)) side (siblings side (view (now (state .entry)) .forest) (idIn (now (state .entry)) i)) r ⌝ }
@@ -53,7 +53,7 @@ pub fn siblings_run(state: &State, parents: &[u16], side: Side, i: usize) -> Run
 }
 
 // Sibling k of a run, by its place.
-pub fn sibling_at(state: &State, side: Side, run: Run, k: usize) -> FullNodeId
+pub(crate) fn sibling_at(state: &State, side: Side, run: Run, k: usize) -> FullNodeId
     requires { ⌜ Sound (now state) ⌝ }
     requires { ⌜ InRun (now state) side run k ⌝ }
     ensures { λ r. ⌜ r ≡ inRun (now (state .entry)) side run k ⌝ }
@@ -65,7 +65,7 @@ pub fn sibling_at(state: &State, side: Side, run: Run, k: usize) -> FullNodeId
 }
 
 // Stores an id after k others.
-pub fn store(ids: &mut [u64], k: usize, x: FullNodeId)
+pub(crate) fn store(ids: &mut [u64], k: usize, x: FullNodeId)
     requires { ⌜ 2 * k + 2 ≤ length (now ids) ⌝ }
     ensures { λ _. ⌜ now (ids .exit) ≡ set (set (now (ids .entry)) (2 * k) (x .tree .0)) (2 * k + 1) (x .node .0) ⌝ }
 {
@@ -74,7 +74,7 @@ pub fn store(ids: &mut [u64], k: usize, x: FullNodeId)
 }
 
 // Writes the siblings on a side of the node in slot i at the start of a slice that has room for them.
-pub fn put_siblings<'a, 'b>(
+pub(crate) fn put_siblings<'a, 'b>(
     state: &'a State,
     parents: &'a [u16],
     side: Side,

@@ -10,7 +10,7 @@ pub struct AskedNode {
 }
 
 // Where the node stands, in any state.
-pub fn asked<'a, 'b>(state: &'a State, id: FullNodeId, parents: &'b mut [u16]) -> AskedNode
+pub(crate) fn asked<'a, 'b>(state: &'a State, id: FullNodeId, parents: &'b mut [u16]) -> AskedNode
     ensures { λ r. ⌜ Asks (now (state .entry)) id r ⌝ }
 {
     if !state_sound::sound_noting(state, parents) {

@@ -23,7 +23,7 @@ use state_array::State;
 use state_focus::FoundNode;
 
 // What the node in slot i says of itself.
-pub fn reading(state: &State, i: usize) -> NodeReading
+pub(crate) fn reading(state: &State, i: usize) -> NodeReading
     requires { ⌜ NodeAt (now state) (idIn (now state) i) i ⌝ }
     ensures { λ r. ⌜ r ≡ readingOf (view (now (state .entry)) .forest) (idIn (now (state .entry)) i) (bodyIn (now (state .entry)) i) ⌝ }
 {
@@ -43,7 +43,7 @@ pub fn reading(state: &State, i: usize) -> NodeReading
 }
 
 // The label of the node in slot i at the start of a slice that has room for it.
-pub fn put_label<'a, 'b>(state: &'a State, i: usize, n: usize, out: &'b mut [u8])
+pub(crate) fn put_label<'a, 'b>(state: &'a State, i: usize, n: usize, out: &'b mut [u8])
     requires { ⌜ (n ≡ length (labelIn (now state) i)) × (n ≤ length (now out)) ⌝ }
     ensures { λ _. ⌜ now (out .exit) ≡ written (labelIn (now (state .entry)) i) (now (out .entry)) ⌝ }
 {
@@ -55,7 +55,7 @@ pub fn put_label<'a, 'b>(state: &'a State, i: usize, n: usize, out: &'b mut [u8]
 }
 
 // The ids of the children of the node in slot i, at the start of a slice that has room for them.
-pub fn put_children<'a, 'b>(state: &'a State, i: usize, n: usize, out: &'b mut [u64])
+pub(crate) fn put_children<'a, 'b>(state: &'a State, i: usize, n: usize, out: &'b mut [u64])
     requires { ⌜ NodeAt (now state) (idIn (now state) i) i ⌝ }
     requires { ⌜ (n ≡ length (childIds (view (now state) .forest) (idIn (now state) i))) × (2 * n ≤ length (now out)) ⌝ }
     ensures { λ _. ⌜ now (out .exit) ≡ written (idWords (childIds (view (now (state .entry)) .forest) (idIn (now (state .entry)) i))) (now (out .entry)) ⌝ }
@@ -71,7 +71,7 @@ pub fn put_children<'a, 'b>(state: &'a State, i: usize, n: usize, out: &'b mut [
 }
 
 // The node in a slot; none past the last.
-pub fn node_at(state: &State, i: usize) -> FoundNode
+pub(crate) fn node_at(state: &State, i: usize) -> FoundNode
     ensures { λ r. ⌜ foundOf r ≡ slotId (now (state .entry)) i ⌝ }
 {
     if state_array::slots(state) <= i {

@@ -19,7 +19,7 @@ use state_array::State;
 use state_focus::FoundNode;
 
 // The slot of the node that is focused for the filters; past the last slot where none is.
-pub fn focused_slot(state: &State) -> usize
+pub(crate) fn focused_slot(state: &State) -> usize
     ensures { λ r. ⌜ (Sound (now (state .entry)) → Focused (now (state .entry)) r) ⌝ }
 {
     let n = state_array::slots(state);
@@ -57,7 +57,7 @@ fn active_descendant_slot(state: &State, i: usize) -> usize
 }
 
 // Whether its children stand in its place: a graft, a GenericContainer or a TextRun.
-pub fn is_transparent(state: &State, i: usize) -> bool
+pub(crate) fn is_transparent(state: &State, i: usize) -> bool
     ensures { λ r. ⌜ OfSlot (now (state .entry)) i (λ f x. r ≡ isTransparent f x) ⌝ }
 {
     let flags = state_array::word_at(state, state_array::FLAGS, i);
@@ -83,7 +83,7 @@ fn own_filter_at(state: &State, focused: usize, i: usize) -> FilterResult
 }
 
 // `common_filter_without_parent_checks`
-pub fn without_parent_checks_at(
+pub(crate) fn without_parent_checks_at(
     state: &State,
     parents: &[u16],
     focused: usize,
@@ -106,7 +106,7 @@ pub fn without_parent_checks_at(
 
 // The filtered parent of a node that is not hidden, and how many ancestors before it are passed over; past the last slot where there is none.
 // No ancestor of such a node is hidden.
-pub fn included_above(state: &State, parents: &[u16], focused: usize, i: usize) -> Place
+pub(crate) fn included_above(state: &State, parents: &[u16], focused: usize, i: usize) -> Place
     requires { ⌜ Sound (now state) ⌝ }
     requires { ⌜ Focused (now state) focused ⌝ }
     ensures { λ r. ⌜ OfSlot (now (state .entry)) i (λ f x. (isHidden f x ≡ false → Above (withoutParentChecks (view (now (state .entry)))) (now (state .entry)) x r)) ⌝ }
@@ -146,7 +146,13 @@ fn shown_from(state: &State, parents: &[u16], focused: usize, side: Side, at: Pl
 }
 
 // The nearest node that is listed of what is ahead of a node on one side.
-pub fn neighbour(state: &State, parents: &[u16], focused: usize, side: Side, at: Place) -> usize
+pub(crate) fn neighbour(
+    state: &State,
+    parents: &[u16],
+    focused: usize,
+    side: Side,
+    at: Place,
+) -> usize
     requires { ⌜ Sound (now state) ⌝ }
     requires { ⌜ Focused (now state) focused ⌝ }
     ensures { λ r. ⌜ OfSlot (now (state .entry)) (at .slot) (λ f x. slotId (now (state .entry)) r ≡ head? (shownAhead (view (now (state .entry))) side (at .level) x)) ⌝ }
@@ -168,7 +174,7 @@ fn unlisted(state: &State, parents: &[u16], side: Side, at: Place, result: Filte
 }
 
 // Whether the node is listed.
-pub fn is_include(result: FilterResult) -> bool
+pub(crate) fn is_include(result: FilterResult) -> bool
     ensures { λ r. ⌜ r ≡ isInclude result ⌝ }
 {
     match result {

@@ -99,7 +99,7 @@ fn shown_after(
 }
 
 // To the first filtered child on a side.
-pub fn shown_child(
+pub(crate) fn shown_child(
     state: &State,
     parents: &[u16],
     focused: usize,
@@ -196,7 +196,7 @@ fn included_from(state: &State, parents: &[u16], focused: usize, from: usize) ->
 }
 
 // The filtered parent.
-pub fn filtered_parent(
+pub(crate) fn filtered_parent(
     state: &State,
     parents: &[u16],
     focused: usize,
@@ -213,7 +213,7 @@ pub fn filtered_parent(
 }
 
 // The first filtered child, or on the preceding side the last.
-pub fn filtered_child(
+pub(crate) fn filtered_child(
     state: &State,
     parents: &[u16],
     focused: usize,
@@ -233,7 +233,7 @@ pub fn filtered_child(
 }
 
 // The deepest first filtered child, or on the preceding side the deepest last.
-pub fn deepest_child(
+pub(crate) fn deepest_child(
     state: &State,
     parents: &[u16],
     focused: usize,
@@ -262,7 +262,7 @@ pub fn deepest_child(
 }
 
 // To the nearest filtered sibling on a side.
-pub fn shown_sibling(
+pub(crate) fn shown_sibling(
     state: &State,
     parents: &[u16],
     focused: usize,
@@ -299,7 +299,7 @@ pub fn shown_sibling(
 }
 
 // Collects the ids that are listed from a place on; answers how many there are.
-pub fn collect(
+pub(crate) fn collect(
     state: &State,
     parents: &[u16],
     focused: usize,
@@ -330,7 +330,7 @@ pub fn collect(
 }
 
 // The slot of the node at a place of the list.
-pub fn listed_at(
+pub(crate) fn listed_at(
     state: &State,
     parents: &[u16],
     focused: usize,

@@ -18,7 +18,7 @@ pub struct Place {
 }
 
 // To what is met next after a node and all below it: its next sibling, or that of the nearest ancestor that has one.
-pub fn after(state: &State, parents: &[u16], side: Side, at: Place) -> Place
+pub(crate) fn after(state: &State, parents: &[u16], side: Side, at: Place) -> Place
     ensures { λ r. ⌜ OfSlot (now (state .entry)) (at .slot) (λ f x. metFrom side (now (state .entry)) r ≡ ahead side f (at .level) x) ⌝ }
 {
     let n = state_array::slots(state);
@@ -42,7 +42,7 @@ pub fn after(state: &State, parents: &[u16], side: Side, at: Place) -> Place
 }
 
 // To what is met next after a node: its first child on this side, or what comes after it.
-pub fn into(state: &State, parents: &[u16], side: Side, at: Place) -> Place
+pub(crate) fn into(state: &State, parents: &[u16], side: Side, at: Place) -> Place
     ensures { λ r. ⌜ OfSlot (now (state .entry)) (at .slot) (λ f x. metFrom side (now (state .entry)) r ≡ turned side (childIds f x) ++ ahead side f (at .level) x) ⌝ }
 {
     let child = links::first_child_slot(state, side, at.slot);

@@ -31,7 +31,7 @@ pub struct Links {
 pub type Slots = [u8; state_array::SLOTS];
 
 // Which nodes are reached from ROOT's root.
-pub fn reached(state: &State) -> Slots
+pub(crate) fn reached(state: &State) -> Slots
     requires { ⌜ Few (now state) ⌝ }
     ensures { λ r. ⌜ Marked (now (state .entry)) (reachedIn (now (state .entry))) r ⌝ }
 {
@@ -108,7 +108,7 @@ fn leads_to<'a>(state: &'a State, marks: &'a Slots, x: FullNodeId, p: usize) -> 
 }
 
 // Whether x stands one step below the node in slot p.
-pub fn is_below(state: &State, p: usize, x: FullNodeId) -> bool
+pub(crate) fn is_below(state: &State, p: usize, x: FullNodeId) -> bool
     requires { ⌜ Few (now state) ⌝ }
     requires { ⌜ p < slotsOf (now state) ⌝ }
     ensures { λ r. ⌜ r ≡ belowAt (now (state .entry)) x p ⌝ }
@@ -151,7 +151,7 @@ fn root_mark(state: &State, root: FullNodeId, i: usize) -> u8
 }
 
 // The links under which x is met, going down once from each node reached.
-pub fn met_links<'a>(state: &'a State, marks: &'a Slots, x: FullNodeId) -> Links
+pub(crate) fn met_links<'a>(state: &'a State, marks: &'a Slots, x: FullNodeId) -> Links
     requires { ⌜ Few (now state) ⌝ }
     requires { ⌜ Marked (now state) (reachedIn (now state)) (now marks) ⌝ }
     ensures { λ r. ⌜ Tells (metLinks (view (now (state .entry)) .forest) (reachedIn (now (state .entry))) x) r ⌝ }
