@@ -3,7 +3,8 @@
 // A program keeps a `cartgravel_state`, starts it once and hands it batches; then it asks what has the focus, what a node is called and what a
 // cardholder can reach from there. Each call and each question answers a number; CARTGRAVEL_ACCEPTED is 0. After any other number the lent slice is
 // as it was, the rest of the answer is zeros, and the state is as it was; only a refused start leaves the blank state, which no other call takes.
-// cartgravel_explain says why a batch gets its number. Any bytes may stand in a state, a batch, a walk or a slice.
+// cartgravel_explain and cartgravel_explain_start say why a batch or a start gets its number: their answer is the reason, whatever the number is, and
+// they write all of `way`. Any bytes may stand in a state, a batch, a walk or a slice.
 //
 // The calls keep no pointer, allocate nothing and have no state of their own, so threads may call them at once, each on its own memory; questions may
 // share a state. A call needs CARTGRAVEL_STACK bytes of stack. A state lives where its owner puts it.
@@ -146,8 +147,8 @@ enum {
 // A child entry is a u64, a node's number. Each node's children and label start where those of the node before it end. Floats are finite.
 
 // The state: one array of words, which are the library's own: read and write them only by the calls, or copy the whole. Any words are a state;
-// one that no call has made is refused with 1 unless it is sound. After acceptance the words are the one form of what the state shows, and
-// nothing is left in them of what is gone.
+// one that no call has made is refused with 1 unless it is sound. After an accepted start or batch the words are the one form of what the state shows,
+// and nothing is left in them of what is gone; an accepted host focus change alters one word and no other; a refused start leaves zeros.
 typedef struct {
     uint64_t words[CARTGRAVEL_STATE_WORDS];
 } cartgravel_state;

@@ -13,7 +13,7 @@ use core::fmt;
 /// calls change it in place, keep no pointer and allocate nothing; each needs [`STACK`](crate::STACK) bytes of stack,
 /// and [`start`](State::start), which answers a state by value, [`START_STACK`](crate::START_STACK).
 ///
-/// A sound state has one form in memory once a call has been accepted, so two are equal if and only if they show the
+/// A state that a start or a batch has left has one form in memory, so two are equal if and only if they show the
 /// same. After a refusal the state is as it was, byte for byte; only a refused `restart` leaves the blank one.
 #[derive(Clone, PartialEq, Eq)]
 pub struct State(sys::State);
