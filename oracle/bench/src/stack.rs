@@ -46,10 +46,11 @@ pub fn print() {
     println!("\n| call | answer, bytes | stack, bytes |\n|---|---|---|");
     calls();
     let screen = clipping_chain(256);
-    let (root, last) = (screen.ids[0], screen.ids[255]);
-    for (words, size, question, id) in questions(root, last) {
-        line(words, size, question_stack(&screen, question, id));
+    for (words, size, question) in questions() {
+        let deepest = screen.ids.iter().map(|id| question_stack(&screen, question, *id)).max();
+        line(words, size, deepest.expect("the chain has nodes"));
     }
+    let last = screen.ids[255];
     reading(&screen.ours, last);
     let mut walk = sys::Walk { node: named(last), side: FOLLOWING, filter: COMMON, count: 0 };
     line("`cartgravel_next`", size_of::<sys::FoundId>(), stack_of(&mut || done(walk.next(&screen.ours))));
@@ -91,37 +92,31 @@ fn calls() {
     line("`cartgravel_explain_start`", size, stack_of(&mut || done(state.explain_start(&start, &mut way))));
 }
 
-/// The questions, each of the node for which it goes furthest.
-fn questions(root: Id, last: Id) -> Vec<(&'static str, usize, Question, Id)> {
+/// The questions, each of which is asked of every node.
+fn questions() -> Vec<(&'static str, usize, Question)> {
     let (found, listed) = (size_of::<sys::FoundId>(), size_of::<sys::Listed>());
     vec![
-        ("`cartgravel_counts`", size_of::<sys::PlainCounts>(), Question::Judged, root),
-        ("`cartgravel_parent`", found, Question::Parent, last),
-        ("`cartgravel_children`", listed, Question::Children, root),
-        ("`cartgravel_hidden`", size_of::<sys::Flag>(), Question::Hidden, last),
-        ("`cartgravel_transform`", size_of::<sys::PlainTransform>(), Question::Transform, last),
-        ("`cartgravel_bounding_box`", size_of::<sys::PlainBox>(), Question::BoundingBox, last),
-        ("`cartgravel_filter`, common", size_of::<sys::PlainResult>(), Question::Filter(COMMON), last),
-        (
-            "the same, root exception",
-            size_of::<sys::PlainResult>(),
-            Question::Filter(WITH_ROOT_EXCEPTION),
-            last,
-        ),
+        ("`cartgravel_counts`", size_of::<sys::PlainCounts>(), Question::Judged),
+        ("`cartgravel_parent`", found, Question::Parent),
+        ("`cartgravel_children`", listed, Question::Children),
+        ("`cartgravel_hidden`", size_of::<sys::Flag>(), Question::Hidden),
+        ("`cartgravel_transform`", size_of::<sys::PlainTransform>(), Question::Transform),
+        ("`cartgravel_bounding_box`", size_of::<sys::PlainBox>(), Question::BoundingBox),
+        ("`cartgravel_filter`, common", size_of::<sys::PlainResult>(), Question::Filter(COMMON)),
+        ("the same, root exception", size_of::<sys::PlainResult>(), Question::Filter(WITH_ROOT_EXCEPTION)),
         (
             "the same, no parent checks",
             size_of::<sys::PlainResult>(),
             Question::Filter(WITHOUT_PARENT_CHECKS),
-            last,
         ),
-        ("`cartgravel_filtered_parent`", found, Question::FilteredParent(COMMON), last),
-        ("`cartgravel_first_filtered_child`", found, Question::FirstChild(COMMON), (last.0, last.1 - 1)),
-        ("`cartgravel_last_filtered_child`", found, Question::LastChild(COMMON), (last.0, last.1 - 1)),
-        ("`cartgravel_deepest_first_filtered_child`", found, Question::DeepestFirst(COMMON), root),
-        ("`cartgravel_deepest_last_filtered_child`", found, Question::DeepestLast(COMMON), root),
-        ("`cartgravel_siblings`", listed, Question::Siblings(FOLLOWING), last),
-        ("`cartgravel_filtered_children`", listed, Question::FilteredChildren(COMMON), (last.0, last.1 - 1)),
-        ("`cartgravel_filtered_siblings`", listed, Question::FilteredSiblings(COMMON, FOLLOWING), last),
+        ("`cartgravel_filtered_parent`", found, Question::FilteredParent(COMMON)),
+        ("`cartgravel_first_filtered_child`", found, Question::FirstChild(COMMON)),
+        ("`cartgravel_last_filtered_child`", found, Question::LastChild(COMMON)),
+        ("`cartgravel_deepest_first_filtered_child`", found, Question::DeepestFirst(COMMON)),
+        ("`cartgravel_deepest_last_filtered_child`", found, Question::DeepestLast(COMMON)),
+        ("`cartgravel_siblings`", listed, Question::Siblings(FOLLOWING)),
+        ("`cartgravel_filtered_children`", listed, Question::FilteredChildren(COMMON)),
+        ("`cartgravel_filtered_siblings`", listed, Question::FilteredSiblings(COMMON, FOLLOWING)),
     ]
 }
 
