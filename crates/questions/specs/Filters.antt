@@ -91,7 +91,7 @@ neighbourInside side s p x =
       | some y ↦ meet (boundingBox (s .forest) y) (boundingBox (s .forest) p)
     ]
 
--- x lies outside the box of p, which clips its children, and so do its neighbours
+-- x lies outside the box of p, which clips its children, and no neighbour of x lies inside it
 unfoldable pub clippedBy : State → FullNodeId → FullNodeId → Bool
 clippedBy s p x =
     clipsAt (s .forest) p

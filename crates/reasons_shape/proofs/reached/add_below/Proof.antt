@@ -1,4 +1,4 @@
--- `reasons_reached::add_below` meets its contract: the links of each place passed are added. Assumes nothing.
+-- `reasons_shape::reached::add_below` meets its contract: the links of each place passed are added. Assumes nothing.
 use Prim.Native.Nat.{_-_, _≤_}
 use borrow.Author.Needs.{needs}
 use Rattle.reasons_shape.proofs.reached.Meeting.{Adding, adding-start, adding-end, adding-none, adding-other, adding-more}

@@ -1,4 +1,4 @@
--- `reasons_reached::add_link` meets its contract: the first link, or one of several. Assumes nothing.
+-- `reasons_shape::reached::add_link` meets its contract: the first link, or one of several. Assumes nothing.
 use Rattle.reasons_shape.proofs.reached.Meeting.{link-first, link-later}
 use Rattle.reasons_shape.proofs.reached.add_link.Statement.{statement}
 use Rattle.reasons_shape.proofs.reached.add_link.Tie as tie

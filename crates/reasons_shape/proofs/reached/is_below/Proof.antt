@@ -1,4 +1,4 @@
--- `reasons_reached::is_below` meets its contract: the id stands at no place passed. Assumes nothing.
+-- `reasons_shape::reached::is_below` meets its contract: the id stands at no place passed. Assumes nothing.
 use Prim.Native.Nat.{_-_, _≤_}
 use borrow.Author.Needs.{needs}
 use Rattle.reasons_shape.proofs.reached.Below.{Looking, looking-start, looking-end, looking-none, looking-hit, looking-more}

@@ -1,4 +1,4 @@
--- `reasons_reached::leads_to` meets its contract: a law for each way out. Assumes nothing.
+-- `reasons_shape::reached::leads_to` meets its contract: a law for each way out. Assumes nothing.
 use borrow.Author.Needs.{needs}
 use Rattle.reasons_shape.proofs.reached.Marks.{leads-not, leads-if}
 use Rattle.reasons_shape.proofs.reached.leads_to.Statement.{statement}

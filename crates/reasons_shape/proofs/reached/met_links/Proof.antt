@@ -1,4 +1,4 @@
--- `reasons_reached::met_links` meets its contract: the links below each node passed are added. Assumes nothing.
+-- `reasons_shape::reached::met_links` meets its contract: the links below each node passed are added. Assumes nothing.
 use Prim.Native.Nat.{_-_}
 use borrow.Author.Needs.{needs}
 use Rattle.reasons_shape.proofs.reached.Meeting.{Meeting, meeting-start, meeting-skips, meeting-more, meeting-end}

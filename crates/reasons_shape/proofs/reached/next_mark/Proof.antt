@@ -1,4 +1,4 @@
--- `reasons_reached::next_mark` meets its contract: a law for each way out. Assumes nothing.
+-- `reasons_shape::reached::next_mark` meets its contract: a law for each way out. Assumes nothing.
 use borrow.Author.Needs.{needs}
 use Rattle.reasons_shape.proofs.reached.Marks.{mark-old, mark-none, mark-new}
 use Rattle.reasons_shape.proofs.reached.next_mark.Statement.{statement}

@@ -1,4 +1,4 @@
--- `reasons_reached::no_link` meets its contract. Assumes nothing.
+-- `reasons_shape::reached::no_link` meets its contract. Assumes nothing.
 use mathlib.Core.Path.{refl}
 use Rattle.state_array.specs.View.{linkOf}
 use Rattle.reasons_shape.proofs.reached.no_link.Statement.{statement}

@@ -1,4 +1,4 @@
--- `reasons_reached::none_leads` meets its contract: no node passed leads to the id. Assumes nothing.
+-- `reasons_shape::reached::none_leads` meets its contract: no node passed leads to the id. Assumes nothing.
 use mathlib.Core.Bool.{not}
 use Prim.Native.Nat.{_-_}
 use borrow.Author.Needs.{needs}

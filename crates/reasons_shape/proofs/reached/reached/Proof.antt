@@ -1,4 +1,4 @@
--- `reasons_reached::reached` meets its contract: the laws of `Reaching`. Assumes nothing.
+-- `reasons_shape::reached::reached` meets its contract: the laws of `Reaching`. Assumes nothing.
 use Prim.Native.Nat.{_-_}
 use borrow.Author.Needs.{needs}
 use Rattle.reasons_shape.proofs.reached.Marks.{Reaching, reached-none, reaching-start, reaching-more, reaching-end}

@@ -1,4 +1,4 @@
--- `reasons_reached::root_links` meets its contract: a law for each way out. Assumes nothing.
+-- `reasons_shape::reached::root_links` meets its contract: a law for each way out. Assumes nothing.
 use borrow.Author.Needs.{needs}
 use Rattle.reasons_shape.proofs.reached.Meeting.{root-nowhere, root-here, root-other}
 use Rattle.reasons_shape.proofs.reached.root_links.Statement.{statement}

@@ -1,4 +1,4 @@
--- `reasons_reached::root_mark` meets its contract: the root, and any other. Assumes nothing.
+-- `reasons_shape::reached::root_mark` meets its contract: the root, and any other. Assumes nothing.
 use borrow.Author.Needs.{needs}
 use Rattle.reasons_shape.proofs.reached.Marks.{root-mark, other-mark}
 use Rattle.reasons_shape.proofs.reached.root_mark.Statement.{statement}

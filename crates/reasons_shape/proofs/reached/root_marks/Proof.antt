@@ -1,4 +1,4 @@
--- `reasons_reached::root_marks` meets its contract: each mark passed is stored. Assumes nothing.
+-- `reasons_shape::reached::root_marks` meets its contract: each mark passed is stored. Assumes nothing.
 use Prim.Native.Nat.{_-_}
 use borrow.Author.Needs.{needs}
 use Rattle.reasons_shape.specs.Reached.{rootMark}
