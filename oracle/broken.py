@@ -64,7 +64,7 @@ CHANGES = [
     ('the focus passes through one graft only', 'state_focus', 'let mut left = state_array::trees(state);', 'let mut left = 1usize;'),
     ('the focus before is read after the batch', 'calls/reports', 'let before = state_focus::focus(state);', 'let before = state_focus::focus(next);'),
     ('an old focus that was updated is an extra id', 'calls/reports',
-     'if is_marked(next, notes, CHANGED, UPDATED, x) | is_marked(state, notes, GOES, REMOVED, x) {', 'if is_marked(state, notes, GOES, REMOVED, x) {'),
+     'if is_marked(next, notes, CHANGED, UPDATED, x) | is_marked(state, notes, FATES, REMOVED, x) {', 'if is_marked(state, notes, FATES, REMOVED, x) {'),
     ('a batch sets the host flag', 'calls/writing', 'next[state_array::HOST] = host;', 'next[state_array::HOST] = 1;'),
     ('bytes of a label that is cut are left', 'state_array', 'low_bytes(word_at(state, LABEL + k, i), length - from)', 'word_at(state, LABEL + k, i)'),
     ('the added ids are written before 21', 'calls/reports', '    if !fit {\n', '    if !fit {\n        if 1 < changes.len() {\n            changes[0] = 0;\n        }\n'),

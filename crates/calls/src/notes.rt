@@ -38,10 +38,10 @@ pub const TURNS: usize = 704;
 pub const NAMINGS: usize = 1024;
 // Which listed nodes claim a tree (64).
 pub const CLAIMS: usize = 1344;
-// For each slot, the slot of its parent, the number of nodes where it has none; whether it goes.
+// For each slot, the slot of its parent, the number of nodes where it has none; its fate: 1 where it goes, else 0.
 pub const ABOVE: usize = 1408;
 
-pub const GOES: usize = 1728;
+pub const FATES: usize = 1728;
 // Which listed nodes are old and have other data than before (64).
 pub const DIFFERS: usize = 2048;
 // How many nodes the outcome has (1).

@@ -63,7 +63,7 @@ fn keep_slot<'a>(
     requires { ⌜ i < slotsOf (now state) ⌝ }
     ensures { λ r. ⌜ Planned (i + 1) 0 (now (state .entry)) (now (batch .entry)) scope (now (notes .exit)) r ⌝ }
 {
-    if notes[notes::GOES + i] == 1 {
+    if notes[notes::FATES + i] == 1 {
         return count;
     }
     notes[notes::CODES + count] = i as u64;

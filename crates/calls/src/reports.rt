@@ -18,7 +18,7 @@ ghost use Rattle.calls.specs.Slice.{Marks, Counted, picked, Room, ListWr
 ghost use Rattle.calls.specs.Reported.{UpdateReported, HostReported, ReportOf, OnlyAfter, unlessBefore, unlessAfter};
 use crate::notes;
 use crate::notes::CHANGED;
-use crate::notes::GOES;
+use crate::notes::FATES;
 use crate::notes::Notes;
 use crate::notes::Scope;
 use ids::FullNodeId;
@@ -26,7 +26,7 @@ use state_array::LinkRow;
 use state_array::State;
 use state_focus::FoundNode;
 
-// The bits of a node's mark in the column CHANGED, and of the mark of an old node in the column GOES.
+// The bits of a node's mark in the column CHANGED, and of the mark of an old node in the column FATES.
 const ADDED: u64 = 1;
 
 const UPDATED: u64 = 2;
@@ -174,7 +174,7 @@ pub(crate) fn write_lists<'a>(
     let m = state_array::slots(next);
     let added = count_of(notes, CHANGED, m, ADDED);
     let updated = count_of(notes, CHANGED, m, UPDATED);
-    let removed = count_of(notes, GOES, n, REMOVED);
+    let removed = count_of(notes, FATES, n, REMOVED);
     let relinked = count_of(notes, CHANGED, m, RELINKED);
     let words = 2 * (added + updated + removed + relinked);
     let fit = words <= changes.len();
@@ -191,7 +191,7 @@ pub(crate) fn write_lists<'a>(
     }
     let from_updated = write_list(next, notes, CHANGED, ADDED, 0, changes);
     let from_removed = write_list(next, notes, CHANGED, UPDATED, from_updated, changes);
-    let from_relinked = write_list(state, notes, GOES, REMOVED, from_removed, changes);
+    let from_relinked = write_list(state, notes, FATES, REMOVED, from_removed, changes);
     let end = write_list(next, notes, CHANGED, RELINKED, from_relinked, changes);
     lists
 }
@@ -335,7 +335,7 @@ fn unless_before<'a>(
     let FoundNode::At(x) = found else {
         return FoundNode::Nothing;
     };
-    if is_marked(next, notes, CHANGED, UPDATED, x) | is_marked(state, notes, GOES, REMOVED, x) {
+    if is_marked(next, notes, CHANGED, UPDATED, x) | is_marked(state, notes, FATES, REMOVED, x) {
         return FoundNode::Nothing;
     }
     found

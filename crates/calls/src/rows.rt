@@ -138,7 +138,7 @@ pub(crate) fn clashes_at<'a>(
         return false;
     }
     let slot = notes[notes::LISTED_SLOTS + i] as usize;
-    notes[notes::GOES + slot] == 1
+    notes[notes::FATES + slot] == 1
 }
 
 // The number of rows 1, 2 and 5 to 8.

@@ -15,7 +15,7 @@ use Rattle.state.specs.State.{Forest, present}
 use Rattle.state_array.specs.View.{slotsOf, idIn}
 use Rattle.update.specs.Words.{here, old, turn}
 use Rattle.update.specs.Gone.{gone}
-use Rattle.calls.specs.Layout.{LISTED-SLOTS, GOES, CODES, LISTED}
+use Rattle.calls.specs.Layout.{LISTED-SLOTS, FATES, CODES, LISTED}
 use Rattle.calls.specs.declared.notes.Scope.{Scope}
 use Rattle.calls.specs.Setting.{asked, forest, KeptForest, Given}
 use Rattle.calls.specs.Codes.{idAt, slotAt, flag, codeId}
@@ -178,12 +178,12 @@ flag-false false e = refl
 -- ## Old nodes
 
 module _ {state bytes : List ℕ} {c : Scope} {notes : List ℕ} {i count : ℕ} (h : Planned i 0 state bytes c notes count) (l : i < slotsOf state) where
-  goes-at : getD notes (GOES + i) 0 ≡ flag (gone (forest state) (asked bytes c) (idAt (forest state) i))
+  goes-at : getD notes (FATES + i) 0 ≡ flag (gone (forest state) (asked bytes c) (idAt (forest state) i))
   unfolding goesWord
   goes-at = h .told .written 9 (omega arith) i l
 
   -- the node in slot i goes
-  pub plan-goes : getD notes (GOES + i) 0 ≡ 1 → Planned (i + 1) 0 state bytes c notes count
+  pub plan-goes : getD notes (FATES + i) 0 ≡ 1 → Planned (i + 1) 0 state bytes c notes count
   plan-goes e = record {
     told = h .told;
     few = omega (arith, h .few);
@@ -191,7 +191,7 @@ module _ {state bytes : List ℕ} {c : Scope} {notes : List ℕ} {i count : ℕ}
   }
 
   -- it stays
-  pub plan-stays : (getD notes (GOES + i) 0 ≡ 1 → ⊥) → Planned (i + 1) 0 state bytes c (set notes (CODES + count) i) (count + 1)
+  pub plan-stays : (getD notes (FATES + i) 0 ≡ 1 → ⊥) → Planned (i + 1) 0 state bytes c (set notes (CODES + count) i) (count + 1)
   plan-stays e = record {
     told = told-set state bytes c notes COMPARED (h .told) (CODES + count) i (omega arith);
     few = omega (arith, h .few);

@@ -32,7 +32,7 @@ use Rattle.state_focus.specs.declared.FoundNode.{FoundNode}
 use Rattle.state_focus.specs.declared.FoundNode.the-variants as node
 use Rattle.calls.specs.declared.notes.Scope.{Scope}
 use Rattle.calls.specs.Reported.{unlessBefore, unlessAfter, Reported, ReportOf}
-use Rattle.calls.specs.Layout.{GOES, CHANGED}
+use Rattle.calls.specs.Layout.{FATES, CHANGED}
 use Rattle.calls.specs.Setting.{asked, forest}
 use Rattle.calls.specs.Codes.{nodeAt, idAt, slotAt, flag, changeOf}
 use Rattle.calls.specs.Says.{goesWord, changedWord, REPORTED}
@@ -215,10 +215,10 @@ module _ {state bytes : List ℕ} {c : Scope} {notes next : List ℕ} (given : O
       (λ r h. ap (bit 2) (mark r h) ∙ marks (forest state) (asked bytes c) (idAt (outcome (forest state) (asked bytes c)) r) .1)
       ∙ updated-among (forest state) (asked bytes c) (given .told .given .kept .ascending)
 
-  pub picked-removed : picked 1 notes GOES state ≡ changesIn state bytes c .removed
+  pub picked-removed : picked 1 notes FATES state ≡ changesIn state bytes c .removed
   unfolding changesOf changesWith removed goesWord
   picked-removed =
-      picked-ids 1 notes GOES state (forest state) refl (λ x. not (present (outcome (forest state) (asked bytes c) .nodes) x))
+      picked-ids 1 notes FATES state (forest state) refl (λ x. not (present (outcome (forest state) (asked bytes c) .nodes) x))
       (λ i h. ap (bit 1) (given .told .written 9 (omega arith) i h)
       ∙ bit-flag (gone (forest state) (asked bytes c) (idAt (forest state) i))
       ∙ sym (removed-is (forest state) (asked bytes c) (idAt (forest state) i) (present-at (forest state) i (omega (arith, forest-length state)))))
@@ -233,7 +233,7 @@ module _ {state bytes : List ℕ} {c : Scope} {notes next : List ℕ} (given : O
   -- ## A node by its marks
 
   module _ (found : FoundNode) {x : FullNodeId} (is : found ≡ node.At x) {t u : Bool} where
-    module _ (p : t ≡ has sameId (picked 2 notes CHANGED next) x) (q : u ≡ has sameId (picked 1 notes GOES state) x) where
+    module _ (p : t ≡ has sameId (picked 2 notes CHANGED next) x) (q : u ≡ has sameId (picked 1 notes FATES state) x) where
       marked-before : (t || u) ≡ has sameId (changesIn state bytes c .updated ++ changesIn state bytes c .removed) x
       marked-before =
           ap₂ _||_ (p ∙ ap (λ l. has sameId l x) picked-updated) (q ∙ ap (λ l. has sameId l x) picked-removed)

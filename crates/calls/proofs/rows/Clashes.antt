@@ -29,7 +29,7 @@ use Rattle.state_array.specs.View.{slotsOf}
 use Rattle.update.specs.Words.{here}
 use Rattle.update.specs.Gone.{gone}
 use Rattle.update.specs.Numbers.{updatedAndRemoved}
-use Rattle.calls.specs.Layout.{LISTED-SLOTS, GOES, DIFFERS}
+use Rattle.calls.specs.Layout.{LISTED-SLOTS, FATES, DIFFERS}
 use Rattle.calls.specs.declared.notes.Scope.{Scope}
 use Rattle.calls.specs.Setting.{asked, forest}
 use Rattle.calls.specs.Codes.{slotAt, idAt, differs}
@@ -170,7 +170,7 @@ module _ {state bytes : List ℕ} {c : Scope} {notes : List ℕ} (told : Told CO
         omega (arith, slot-is, forest-length state)
 
     -- whose mark says whether it goes
-    pub clash-goes : eqb (getD notes (GOES + getD notes (LISTED-SLOTS + i) 0) 0) 1 ≡ updatedAndRemoved s b (listedAt b i)
+    pub clash-goes : eqb (getD notes (FATES + getD notes (LISTED-SLOTS + i) 0) 0) 1 ≡ updatedAndRemoved s b (listedAt b i)
     unfolding goesWord
     clash-goes =
         ap (λ (m : ℕ). eqb m 1) (told .written 9 (omega arith) (getD notes (LISTED-SLOTS + i) 0) clash-within)

@@ -6,7 +6,7 @@ use lib.ListN.{length}
 use borrow.Author.Tests.{leb-true}
 use native.Mathlib.Omega.{arith}
 use Rattle.base.proofs.Tests.{not-true, not-false}
-use Rattle.calls.specs.Layout.{GOES, CHANGED}
+use Rattle.calls.specs.Layout.{FATES, CHANGED}
 use Rattle.calls.specs.Outcomes.{changesIn}
 use Rattle.calls.specs.Slice.{picked}
 use Rattle.calls.proofs.reports.Picked.{picked-added, picked-updated, picked-removed, picked-relinked}
@@ -20,7 +20,7 @@ counts : (c : tie.After-count-of4)
     → let a = c .before .before .before .before .before .before .before .before .args in
     (c .before .before .before .count-of .result ≡ length (picked 1 (now (a .notes)) CHANGED (now (a .next))))
     × (c .before .before .count-of2 .result ≡ length (picked 2 (now (a .notes)) CHANGED (now (a .next))))
-    × (c .before .count-of3 .result ≡ length (picked 1 (now (a .notes)) GOES (now (a .state))))
+    × (c .before .count-of3 .result ≡ length (picked 1 (now (a .notes)) FATES (now (a .state))))
     × (c .count-of4 .result ≡ length (picked 4 (now (a .notes)) CHANGED (now (a .next))))
 counts c =
     let a = c .before .before .before .before .before .before .before .before .args in
@@ -28,7 +28,7 @@ counts c =
     let n = c .before .before .before .before .before .slots .ensures in (
       picked-count 1 (now (a .notes)) CHANGED (now (a .next)) _ _ (c .before .before .before .count-of .ensures) m,
       picked-count 2 (now (a .notes)) CHANGED (now (a .next)) _ _ (c .before .before .count-of2 .ensures) m,
-      picked-count 1 (now (a .notes)) GOES (now (a .state)) _ _ (c .before .count-of3 .ensures) n,
+      picked-count 1 (now (a .notes)) FATES (now (a .state)) _ _ (c .before .count-of3 .ensures) n,
       picked-count 4 (now (a .notes)) CHANGED (now (a .next)) _ _ (c .count-of4 .ensures) m,
     )
 
@@ -38,7 +38,7 @@ fits : (c : tie.Else1)
     2
     * (length (picked 1 (now (a .notes)) CHANGED (now (a .next)))
     + length (picked 2 (now (a .notes)) CHANGED (now (a .next)))
-    + length (picked 1 (now (a .notes)) GOES (now (a .state)))
+    + length (picked 1 (now (a .notes)) FATES (now (a .state)))
     + length (picked 4 (now (a .notes)) CHANGED (now (a .next))))
     ≤ length (now (a .changes))
 fits c = let k = counts (c .before) in rw (← k .0, ← k .1, ← k .2, ← k .3) (leb-true _ _ (not-false (c .if1 .left)))
