@@ -52,7 +52,7 @@ CHANGES = [
     ('floats compared by bits', 'update_bodies', 'record_wire::f64_of(x) == record_wire::f64_of(y)', 'x == y'),
     ('new bits written over equal data', 'calls/plan', '(turn - 1) as usize] == 1 {', '(turn - 1) as usize] <= 1 {'),
     ('a pane\'s root listed without tree data loses its link', 'calls/links', 'let cut = root & scope.is_root_tree;', 'let cut = root;'),
-    ('a tree moved to another graft keeps its old link', 'calls/links', 'under(listed_id(state, batch, scope, notes, i), 0)', 'was'),
+    ('a tree moved to another graft keeps its old link', 'calls/links', 'under(notes::listed_id(scope, notes, i), 0)', 'was'),
     ('256 nodes are too many', 'calls/rows', 'if state_array::MOST_NODES < state_array::slots(next) {', 'if state_array::MOST_NODES <= state_array::slots(next) {'),
     ('relinked leaves out a change to no parent', 'calls/reports', 'return was.linked != 0;', 'return false;'),
     ('the lists in descending order', 'calls/reports',
