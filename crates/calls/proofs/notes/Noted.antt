@@ -1,22 +1,25 @@
 -- Laws of what functions answer by the notes alone, and what it means for a state and a batch of which the notes tell. Assumes nothing.
+use mathlib.Core.Bool.{false}
 use mathlib.Core.List.{List}
 use mathlib.Core.Path.{_≡_, sym, ap₂}
 use Prim.Native.Nat.{ℕ, _+_, _-_, _≤_, _<_}
 use native.Mathlib.Omega.{arith}
-use lib.Dec.{ltb}
-use borrow.Author.Tests.{lt-ltb, le-ltb, ltb-true, ltb-false}
+use lib.Dec.{eqb, ltb}
+use lib.ListN.{getD}
+use borrow.Author.Tests.{lt-ltb, le-ltb, ltb-true, ltb-false, eq-eqb, ne-eqb}
 use Rattle.base.proofs.Cases.{by-test, by-order}
 use Rattle.ids.specs.declared.TreeIndex.{TreeIndex}
 use Rattle.ids.specs.declared.FullNodeId.{FullNodeId}
 use Rattle.record_reader.specs.Reader.{listedAt}
 use Rattle.state_array.specs.View.{idIn}
 use Rattle.update.specs.Words.{here}
-use Rattle.calls.specs.Layout.{LISTED}
+use Rattle.state_focus.specs.declared.FoundNode.the-variants as node
+use Rattle.calls.specs.Layout.{LISTED, LISTED-SLOTS, TURNS, ABOVE, FATES, DIFFERS}
 use Rattle.calls.specs.declared.notes.Scope.{Scope}
 use Rattle.calls.specs.Setting.{asked, forest}
 use Rattle.calls.specs.Codes.{codeId}
 use Rattle.calls.specs.Says.{listedWord, Told}
-use Rattle.calls.specs.Noted.{idNoted, codeNoted}
+use Rattle.calls.specs.Noted.{idNoted, codeNoted, differNoted, clashNoted, parentNoted}
 use Rattle.calls.specs.Plan.{Valid}
 use Rattle.calls.proofs.notes.Places.{forest-id}
 use Rattle.calls.proofs.notes.Told.{few-listed}
@@ -34,9 +37,44 @@ module _ (state : List ℕ) (c : Scope) (notes : List ℕ) (code : ℕ) {y : Ful
   unfolding codeNoted
   code-listed h e = rw (le-ltb code 320 h) e
 
-module _ {k : ℕ} {state bytes : List ℕ} {c : Scope} {notes : List ℕ} (some : 0 < k) (told : Told k state bytes c notes) where
-  -- ## What the notes tell
+-- ## Marks
 
+module _ (notes : List ℕ) (slot : ℕ) where
+  -- a node without a turn
+  pub differ-unlisted : getD notes (TURNS + slot) 0 < 1 → false ≡ differNoted notes slot
+  unfolding differNoted
+  differ-unlisted h = rw (lt-ltb _ 1 h)
+
+  -- one with a turn
+  pub differ-listed : 1 ≤ getD notes (TURNS + slot) 0 → eqb (getD notes (DIFFERS + (getD notes (TURNS + slot) 0 - 1)) 0) 1 ≡ differNoted notes slot
+  unfolding differNoted
+  differ-listed h = rw (le-ltb _ 1 h)
+
+module _ (notes : List ℕ) (i : ℕ) where
+  -- a listed node that does not differ
+  pub clash-same : (getD notes (DIFFERS + i) 0 ≡ 1 → ⊥) → false ≡ clashNoted notes i
+  unfolding clashNoted
+  clash-same h = rw (ne-eqb _ 1 h)
+
+  -- one that does
+  pub clash-slot : getD notes (DIFFERS + i) 0 ≡ 1 → eqb (getD notes (FATES + getD notes (LISTED-SLOTS + i) 0) 0) 1 ≡ clashNoted notes i
+  unfolding clashNoted
+  clash-slot h = rw (eq-eqb _ 1 h)
+
+module _ (notes : List ℕ) (at : ℕ) (p : FullNodeId) where
+  -- a parent that is not listed
+  pub parent-unlisted : getD notes (TURNS + getD notes (ABOVE + at) 0) 0 ≡ 0 → node.Nothing ≡ parentNoted notes at p
+  unfolding parentNoted
+  parent-unlisted h = rw (eq-eqb _ 0 h)
+
+  -- one that is
+  pub parent-listed : (getD notes (TURNS + getD notes (ABOVE + at) 0) 0 ≡ 0 → ⊥) → node.At p ≡ parentNoted notes at p
+  unfolding parentNoted
+  parent-listed h = rw (ne-eqb _ 0 h)
+
+-- ## What the notes tell
+
+module _ {k : ℕ} {state bytes : List ℕ} {c : Scope} {notes : List ℕ} (some : 0 < k) (told : Told k state bytes c notes) where
   -- a listed node's id
   pub listed-noted : {i : ℕ} → i < c .listed → idNoted c notes (LISTED + i) ≡ here (forest state) (asked bytes c) (listedAt (asked bytes c) i .id)
   unfolding here listedWord
