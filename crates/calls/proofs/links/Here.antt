@@ -122,36 +122,39 @@ module _ {state bytes : List ℕ} {c : Scope} {notes : List ℕ} (told : Told CO
 
   -- the words of the link of child j of listed node i
   module _ {i j : ℕ} (own : Owns (asked bytes c) i j) where
+    -- where its children start
     start-noted : startNoted notes i ≡ namedBefore (asked bytes c) i
     unfolding startNoted namedIds
     start-noted =
         by-test (ltb i 1) (λ t. let first : i ≡ 0 = omega (arith, ltb-true i 1 t) in rw (t, first))
         (λ t. rw t (start-is (omega (arith, ltb-false i 1 t)) (own .listed)))
 
+    -- there is room for its words
     pub named-room : (i < 64) × (startNoted notes i ≤ j)
     named-room =
         (omega (arith, own .listed, told .given .scoped .listed, few-listed state bytes c (told .given)), omega (arith, start-noted, own .start))
 
+    -- and they are the definition's
     pub named-noted : {r : LinkRow} → r ≡ linkRow (some (record { parent = idNoted c notes (LISTED + i); index = j - startNoted notes i })) → r ≡ namedRow state bytes c i j
     unfolding namedLink
     named-noted e =
         e ∙ ap₂ (λ (q : FullNodeId) (k : ℕ). linkRow (some (record { parent = q; index = j - k })))
         (listed-noted (omega arith) told (omega (arith, own .listed, told .given .scoped .listed))) start-noted
 
--- the link at a place after the start, as a number of children before it is taken off
+-- the words of a link whose place is counted from where the children of listed node i start
 module _ (notes : List ℕ) {i : ℕ} (j : ℕ) (p : FullNodeId) {r : LinkRow} where
-  -- of the first node's child
+  -- of the first node
   pub under-first : i < 1 → r ≡ linkRow (some (record { parent = p; index = j })) → r ≡ linkRow (some (record { parent = p; index = j - startNoted notes i }))
   unfolding startNoted
   under-first h e = let all : j ≡ j - 0 = omega arith in rw (lt-ltb i 1 h, ← all) e
 
-  -- of another's
+  -- of another
   pub under-later : 1 ≤ i → r ≡ linkRow (some (record { parent = p; index = j - getD notes (ENDS + (i - 1)) 0 }))
       → r ≡ linkRow (some (record { parent = p; index = j - startNoted notes i }))
   unfolding startNoted
   under-later h e = rw (le-ltb i 1 h) e
 
--- where that is
+-- where those of another than the first start
 pub start-later : (notes : List ℕ) {i j : ℕ} → 1 ≤ i → startNoted notes i ≤ j → getD notes (ENDS + (i - 1)) 0 ≤ j
 unfolding startNoted
 start-later notes {i} h l = rw (le-ltb i 1 h) at l

@@ -28,14 +28,14 @@ use Rattle.calls.proofs.notes.Told.{few-listed}
 
 module _ (state : List ℕ) (c : Scope) (notes : List ℕ) (code : ℕ) {y : FullNodeId} where
   -- of the node in a slot
-  pub code-slot : code < 320 → y ≡ idIn state code → y ≡ codeNoted state c notes code
+  pub noted-slot : code < 320 → y ≡ idIn state code → y ≡ codeNoted state c notes code
   unfolding codeNoted
-  code-slot h e = rw (lt-ltb code 320 h) e
+  noted-slot h e = rw (lt-ltb code 320 h) e
 
   -- of a listed node
-  pub code-listed : 320 ≤ code → y ≡ idNoted c notes (LISTED + (code - 320)) → y ≡ codeNoted state c notes code
+  pub noted-listed : 320 ≤ code → y ≡ idNoted c notes (LISTED + (code - 320)) → y ≡ codeNoted state c notes code
   unfolding codeNoted
-  code-listed h e = rw (le-ltb code 320 h) e
+  noted-listed h e = rw (le-ltb code 320 h) e
 
 -- ## Marks
 
@@ -52,25 +52,25 @@ module _ (notes : List ℕ) (slot : ℕ) where
 
 module _ (notes : List ℕ) (i : ℕ) where
   -- a listed node that does not differ
-  pub clash-same : (getD notes (DIFFERS + i) 0 ≡ 1 → ⊥) → false ≡ clashNoted notes i
+  pub clash-alike : (getD notes (DIFFERS + i) 0 ≡ 1 → ⊥) → false ≡ clashNoted notes i
   unfolding clashNoted
-  clash-same h = rw (ne-eqb _ 1 h)
+  clash-alike h = rw (ne-eqb _ 1 h)
 
   -- one that does
-  pub clash-slot : getD notes (DIFFERS + i) 0 ≡ 1 → eqb (getD notes (FATES + getD notes (LISTED-SLOTS + i) 0) 0) 1 ≡ clashNoted notes i
+  pub clash-differs : getD notes (DIFFERS + i) 0 ≡ 1 → eqb (getD notes (FATES + getD notes (LISTED-SLOTS + i) 0) 0) 1 ≡ clashNoted notes i
   unfolding clashNoted
-  clash-slot h = rw (eq-eqb _ 1 h)
+  clash-differs h = rw (eq-eqb _ 1 h)
 
 module _ (notes : List ℕ) (at : ℕ) (p : FullNodeId) where
   -- a parent that is not listed
-  pub parent-unlisted : getD notes (TURNS + getD notes (ABOVE + at) 0) 0 ≡ 0 → node.Nothing ≡ parentNoted notes at p
+  pub parent-none : getD notes (TURNS + getD notes (ABOVE + at) 0) 0 ≡ 0 → node.Nothing ≡ parentNoted notes at p
   unfolding parentNoted
-  parent-unlisted h = rw (eq-eqb _ 0 h)
+  parent-none h = rw (eq-eqb _ 0 h)
 
   -- one that is
-  pub parent-listed : (getD notes (TURNS + getD notes (ABOVE + at) 0) 0 ≡ 0 → ⊥) → node.At p ≡ parentNoted notes at p
+  pub parent-some : (getD notes (TURNS + getD notes (ABOVE + at) 0) 0 ≡ 0 → ⊥) → node.At p ≡ parentNoted notes at p
   unfolding parentNoted
-  parent-listed h = rw (ne-eqb _ 0 h)
+  parent-some h = rw (ne-eqb _ 0 h)
 
 -- ## What the notes tell
 

@@ -1,6 +1,6 @@
 -- `why_outcome::climb::listed_parent` meets its contract: a law for each way out. Assumes nothing.
 use borrow.Author.Needs.{needs}
-use Rattle.calls.proofs.notes.Noted.{parent-unlisted, parent-listed}
+use Rattle.calls.proofs.notes.Noted.{parent-none, parent-some}
 use Rattle.calls.proofs.why_outcome.climb.listed_parent.Statement.{statement}
 use Rattle.calls.proofs.why_outcome.climb.listed_parent.Tie as tie
 
@@ -10,5 +10,5 @@ listed-parent-spec =
     (tie.spec
     (λ c. search needs) (λ c. search needs) (λ c. search needs)
     (λ c. search needs) (λ c. search needs) (λ c. search needs)
-    (λ c. search parent-unlisted)
-    (λ c. search parent-listed))
+    (λ c. search parent-none)
+    (λ c. search parent-some))
