@@ -6,3 +6,4 @@ pub mod Marks
 pub mod Grafts
 pub mod Kept
 pub mod Told
+pub mod Noted

@@ -11,7 +11,7 @@ use Rattle.record.specs.Batch.{Batch}
 use Rattle.state.specs.State.{ParentAndIndex, Forest, linkAt}
 use Rattle.state_array.specs.View.{slotsOf}
 use Rattle.update.specs.Gone.{Fate, stays, goes, asParent, goesIf, replaced, fateHere, fateElsewhere, fate}
-use Rattle.calls.specs.Layout.{GOES}
+use Rattle.calls.specs.Layout.{FATES}
 use Rattle.calls.specs.declared.notes.Scope.{Scope}
 use Rattle.calls.specs.Setting.{asked, forest, Scoped}
 use Rattle.calls.specs.Codes.{idAt}
@@ -67,7 +67,7 @@ ABOVE-TOLD = 9
 -- what stands where it is to be told of slot j: whether its node goes; or, past the first k, that it fares as its parent does
 abbrev pub Cell : ℕ → List ℕ → List ℕ → Scope → List ℕ → ℕ → Type 0
 Cell k state bytes c notes j =
-    (getD notes (GOES + j) 0 ≡ goesWord state bytes c j) ⊎ ((k ≤ j) × (getD notes (GOES + j) 0 ≡ 2) × (fateWord state bytes c j ≡ 2))
+    (getD notes (FATES + j) 0 ≡ goesWord state bytes c j) ⊎ ((k ≤ j) × (getD notes (FATES + j) 0 ≡ 2) × (fateWord state bytes c j ≡ 2))
 
 -- of the first k slots it is told whether they go
 pub record Fated (k : ℕ) (state bytes : List ℕ) (c : Scope) (notes : List ℕ) : Type 0 where

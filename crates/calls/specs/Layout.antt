@@ -31,8 +31,8 @@ CLAIMS = 1344
 abbrev pub ABOVE : ℕ
 ABOVE = 1408
 
-abbrev pub GOES : ℕ
-GOES = 1728
+abbrev pub FATES : ℕ
+FATES = 1728
 
 abbrev pub DIFFERS : ℕ
 DIFFERS = 2048

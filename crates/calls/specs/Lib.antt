@@ -3,6 +3,7 @@ pub mod Columns
 pub mod Setting
 pub mod Codes
 pub mod Says
+pub mod Noted
 pub mod Reading
 pub mod Causes
 pub mod Steps

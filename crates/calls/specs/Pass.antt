@@ -10,7 +10,7 @@ use Rattle.base.specs.Tests.{any, firstGiven}
 use Rattle.base.specs.Search.{First}
 use Rattle.base.specs.Tables.{row, found, first}
 use Rattle.record.specs.Batch.{Batch, namedIds}
-use Rattle.record_reader.specs.Reader.{noNode, listedAt}
+use Rattle.record_reader.specs.Reader.{noNode}
 use Rattle.state.specs.State.{Forest}
 use Rattle.update.specs.Pass.{pass}
 use Rattle.update.specs.Numbers.{placeless, nowhere}
@@ -34,10 +34,6 @@ PassExplained s b r = Explains s b (passFault s b) r
 
 abbrev pub RowsExplained : Forest → Batch → Cause → Type 0
 RowsExplained s b r = Explains s b (rowReason s b) r
-
--- row 13: the first of k listed nodes that is left without a place, or k
-abbrev pub FirstPlaceless : Forest → Batch → ℕ → ℕ → Type 0
-FirstPlaceless s b k r = First (λ m. placeless s b (listedAt b m)) k r
 
 -- row 14: whether the child of entry j is nowhere; the first of k entries whose child is, or k
 abbrev pub NowhereAt : Forest → Batch → ℕ → Bool → Type 0

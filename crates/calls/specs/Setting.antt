@@ -14,8 +14,8 @@ use Rattle.record.specs.Batch.{fieldsOk, Batch, listedIds, namedIds}
 use Rattle.record.specs.Parse.{wellFormed, batchOf}
 use Rattle.state.specs.State.{ParentAndIndex, Forest, present, linkAt}
 use Rattle.state.specs.Sound as sound
+use Rattle.state_array.specs.Stored.{entriesOf}
 use Rattle.state_array.specs.View.{view}
-use Rattle.state.proofs.Pool.{childTotal}
 use Rattle.update.specs.Words.{known, treeNumber, withTreeData, rootAfter}
 use Rattle.update.specs.Gone.{fares, fate, gone}
 use Rattle.calls.specs.declared.notes.Refusal.{Refusal}
@@ -57,7 +57,7 @@ pub record KeptForest (s : Forest) : Type 0 where
   pub ascending : sound.ascending (s .nodes) ≡ true
   pub few-nodes : length (s .nodes) ≤ 256
   pub few-trees : length (s .trees) ≤ 32
-  pub few-children : childTotal (s .nodes) ≤ 256
+  pub few-children : length (entriesOf (s .nodes)) ≤ 256
   pub fields : all (λ n. fieldsOk (n .body)) (s .nodes) ≡ true
   pub parent-present : (x : FullNodeId) (l : ParentAndIndex) → linkAt (s .nodes) x ≡ some l → present (s .nodes) (l .parent) ≡ true
   pub gone-parent : (b : Batch) (x : FullNodeId) (l : ParentAndIndex) → linkAt (s .nodes) x ≡ some l

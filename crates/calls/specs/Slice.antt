@@ -11,7 +11,7 @@ use Rattle.ids.specs.Ids.{idWords}
 use Rattle.ids.specs.declared.FullNodeId.{FullNodeId}
 use Rattle.state_array.specs.View.{idIn, slotsOf}
 use Rattle.update.specs.Reports.{Changes, changeWords, sliceAfter}
-use Rattle.calls.specs.Layout.{WORDS}
+use Rattle.calls.specs.Layout.{WORDS, FATES, CHANGED}
 use Rattle.calls.specs.declared.reports.Lists.{Lists}
 
 -- ## Marks
@@ -37,6 +37,15 @@ idsAt state slots = map (idIn state) slots
 -- the ids of those slots of a state whose word has the bit
 abbrev pub picked : ℕ → List ℕ → ℕ → List ℕ → List FullNodeId
 picked weight notes start state = idsAt state (slotsWith weight notes start (slotsOf state))
+
+-- the four lists that the marks of the notes pick from a state and the one after it
+abbrev pub changesNoted : List ℕ → List ℕ → List ℕ → Changes
+changesNoted state notes next = record {
+  added = picked 1 notes CHANGED next;
+  updated = picked 2 notes CHANGED next;
+  removed = picked 1 notes FATES state;
+  relinked = picked 4 notes CHANGED next;
+}
 
 -- ## The slice
 

@@ -34,7 +34,8 @@ pub(crate) fn apply<'a, 'b, 'c>(
         return early;
     }
     write(state, batch, scope, notes, next);
-    let clash = rows::updated_and_removed(state, batch, scope, notes);
+    let k = scope.listed;
+    let clash = rows::first_clash(notes, k) < k;
     rows::last_rows(next, clash)
 }
 

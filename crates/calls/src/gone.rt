@@ -73,7 +73,7 @@ fn write_fates<'a>(state: &'a State, batch: &'a [u8], scope: Scope, notes: &mut 
     let mut i = 0usize;
     while i < n {
         let fate = fate_at(state, batch, scope, notes, i);
-        notes[notes::GOES + i] = fate;
+        notes[notes::FATES + i] = fate;
         i += 1;
     }
 }
@@ -189,7 +189,7 @@ fn write_goes<'a>(state: &'a State, batch: &'a [u8], scope: Scope, notes: &mut N
     while i < n {
         let goes = climbed(state, batch, scope, notes, i);
         pass_on(state, batch, scope, notes, i, goes);
-        notes[notes::GOES + i] = goes;
+        notes[notes::FATES + i] = goes;
         i += 1;
     }
 }
@@ -203,7 +203,7 @@ fn climbed<'a>(state: &'a State, batch: &'a [u8], scope: Scope, notes: &'a Notes
     let mut at = i;
     let mut room = state_array::slots(state);
     while 0 < room {
-        let known = notes[notes::GOES + at];
+        let known = notes[notes::FATES + at];
         if known != AS_PARENT {
             return known;
         }
@@ -229,11 +229,11 @@ fn pass_on<'a>(
     let mut at = i;
     let mut room = state_array::slots(state);
     while 0 < room {
-        if notes[notes::GOES + at] != AS_PARENT {
+        if notes[notes::FATES + at] != AS_PARENT {
             return;
         }
         let next = notes[notes::ABOVE + at] as usize;
-        notes[notes::GOES + at] = goes;
+        notes[notes::FATES + at] = goes;
         at = next;
         room -= 1;
     }

@@ -107,11 +107,11 @@ fn updated<'a, 'b, 'c>(state: &'a mut State, batch: &'b [u8], changes: &'c mut [
         return replies::refused(refusal.number);
     }
     reports::write_changed(state, batch, scope, &mut notes, &next);
-    let lists = reports::write_lists(state, batch, scope, &notes, &next, changes);
+    let lists = reports::write_lists(state, &notes, &next, changes);
     if !lists.fit {
         return replies::refused(21);
     }
-    let report = reports::report_update(state, batch, scope, &notes, &next);
+    let report = reports::report_update(state, &notes, &next);
     *state = next;
     answers::accepted(answers::lengths_of(lists), report)
 }

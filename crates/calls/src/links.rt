@@ -1,20 +1,19 @@
 // The parent links after a batch, each worked out once.
 ghost use mathlib.Core.Option.{none, some};
 ghost use mathlib.Core.Path.{_≡_};
-ghost use Prim.Native.Nat.{suc, _+_, _≤_, _<_};
+ghost use Prim.Native.Nat.{suc, _+_, _-_, _≤_, _<_};
 ghost use lib.Dec.{ltb};
 ghost use lib.ListN.{getD};
 ghost use Rattle.base.specs.Tests.{if_then_else_};
 ghost use Rattle.base.specs.Search.{First};
-ghost use Rattle.record_reader.specs.Reader.{listedAt};
 ghost use Rattle.state_array.specs.Stored.{linkRow};
 ghost use Rattle.state_array.specs.View.{slotsOf, linkOf};
-ghost use Rattle.update.specs.Words.{here};
 ghost use Rattle.calls.specs.Layout as at;
 ghost use Rattle.calls.specs.Setting.{asked, forest};
 ghost use Rattle.calls.specs.Codes.{Coded};
 ghost use Rattle.calls.specs.Says.{namingMark, Told, COMPARED};
-ghost use Rattle.calls.specs.Links.{Rises, Owns, NewListed, graftLink, namedRow, LinkHereIs, LinkElsewhereIs, oldRow, newRow, linkWord};
+ghost use Rattle.calls.specs.Noted.{idNoted, startNoted};
+ghost use Rattle.calls.specs.Links.{Rises, NewListed, graftLink, LinkHereIs, LinkElsewhereIs, oldRow, newRow, linkWord};
 use crate::notes;
 use crate::notes::Notes;
 use crate::notes::Scope;
@@ -78,30 +77,10 @@ fn link_of_new<'a>(
     requires { ⌜ NewListed (now state) (now batch) scope i ⌝ }
     ensures { λ r. ⌜ r ≡ newRow (now (state .entry)) (now (batch .entry)) scope i ⌝ }
 {
-    let x = listed_id(state, batch, scope, notes, i);
+    let x = notes::listed_id(scope, notes, i);
     let j = notes::position_in(notes, notes::NAMED, scope.named, x.node.0);
     let naming = mark_of(j, scope.named);
     link_here(state, batch, scope, notes, x, unlinked(), 0, naming)
-}
-
-// The id of listed node i.
-fn listed_id<'a>(
-    state: &'a State,
-    batch: &'a [u8],
-    scope: Scope,
-    notes: &'a Notes,
-    i: usize,
-) -> FullNodeId
-    requires { ⌜ Told COMPARED (now state) (now batch) scope (now notes) ⌝ }
-    requires { ⌜ i < scope .listed ⌝ }
-    ensures { λ r. ⌜ r ≡ here (forest (now (state .entry))) (asked (now (batch .entry)) scope) (listedAt (asked (now (batch .entry)) scope) i .id) ⌝ }
-{
-    let tree = scope.tree;
-    let number = notes[notes::LISTED + i];
-    FullNodeId {
-        tree,
-        node: NodeId(number),
-    }
 }
 
 // One more than a place below k, else 0.
@@ -143,7 +122,7 @@ fn link_here<'a>(
     if cut & ((owner as u64) < turn) {
         return unlinked();
     }
-    named_link(state, batch, scope, notes, owner, j)
+    named_link(scope, notes, owner, j)
 }
 
 // The link under the node that grafts a tree, none where no node does.
@@ -178,19 +157,11 @@ fn owner_of(notes: &Notes, k: usize, j: u64) -> usize
 }
 
 // The link of the child at entry j of those that are named, one of listed node i's.
-fn named_link<'a>(
-    state: &'a State,
-    batch: &'a [u8],
-    scope: Scope,
-    notes: &'a Notes,
-    i: usize,
-    j: u64,
-) -> LinkRow
-    requires { ⌜ Told COMPARED (now state) (now batch) scope (now notes) ⌝ }
-    requires { ⌜ Owns (asked (now batch) scope) i j ⌝ }
-    ensures { λ r. ⌜ r ≡ namedRow (now (state .entry)) (now (batch .entry)) scope i j ⌝ }
+fn named_link(scope: Scope, notes: &Notes, i: usize, j: u64) -> LinkRow
+    requires { ⌜ (i < 64) × (startNoted (now notes) i ≤ j) ⌝ }
+    ensures { λ r. ⌜ r ≡ linkRow (some (record { parent = idNoted scope (now (notes .entry)) (at.LISTED + i); index = j - startNoted (now (notes .entry)) i })) ⌝ }
 {
-    let parent = listed_id(state, batch, scope, notes, i);
+    let parent = notes::listed_id(scope, notes, i);
     if i < 1 {
         return under(parent, j);
     }
@@ -219,7 +190,7 @@ fn link_elsewhere<'a>(
     if k <= i {
         return was;
     }
-    under(listed_id(state, batch, scope, notes, i), 0)
+    under(notes::listed_id(scope, notes, i), 0)
 }
 
 // A link's words as they are stored, whatever words said it.

@@ -1,14 +1,16 @@
-// The notes of an update: its working words, in columns; what its phases are given, and questions about grafts and roots that several of
-// them ask. specs/Layout.antt has the same numbers for contracts, specs/Says.antt what each column says.
+// The notes of an update: its working words, in columns; what its phases are given, and questions about ids, grafts and roots that several
+// of them ask. specs/Layout.antt has the same numbers for contracts, specs/Says.antt what each column says.
 ghost use mathlib.Core.Path.{_≡_};
 ghost use mathlib.Core.Option.{some};
-ghost use Prim.Native.Nat.{_+_, _≤_};
+ghost use Prim.Native.Nat.{_+_, _≤_, _<_};
 ghost use Rattle.base.specs.Tests.{isSome, sameOption};
 ghost use Rattle.ids.specs.Ids.{sameTree, sameId};
 ghost use Rattle.record.specs.Batch.{graft?};
 ghost use Rattle.record.specs.Parse.{batchOf};
 ghost use Rattle.record_reader.specs.Reader.{listedAt};
-ghost use Rattle.calls.specs.Layout.{WORDS};
+ghost use Rattle.state_array.specs.Layout.{SLOTS};
+ghost use Rattle.calls.specs.Layout.{WORDS, LISTED};
+ghost use Rattle.calls.specs.Noted.{idNoted, codeNoted};
 ghost use Rattle.calls.specs.Setting.{rootIn, refusal};
 ghost use Rattle.calls.specs.Says.{graftBelow, ClaimerIs, ClaimedFromIs, PositionIn, HolderIs};
 use ids::FullNodeId;
@@ -38,10 +40,10 @@ pub const TURNS: usize = 704;
 pub const NAMINGS: usize = 1024;
 // Which listed nodes claim a tree (64).
 pub const CLAIMS: usize = 1344;
-// For each slot, the slot of its parent, the number of nodes where it has none; whether it goes.
+// For each slot, the slot of its parent, the number of nodes where it has none; its fate: 1 where it goes, else 0.
 pub const ABOVE: usize = 1408;
 
-pub const GOES: usize = 1728;
+pub const FATES: usize = 1728;
 // Which listed nodes are old and have other data than before (64).
 pub const DIFFERS: usize = 2048;
 // How many nodes the outcome has (1).
@@ -83,6 +85,29 @@ pub(crate) fn refuse(number: u8) -> Refusal
             node: NodeId(0),
         },
     }
+}
+
+// The id of listed node i.
+pub(crate) fn listed_id(scope: Scope, notes: &Notes, i: usize) -> FullNodeId
+    requires { ⌜ i < 64 ⌝ }
+    ensures { λ r. ⌜ r ≡ idNoted scope (now (notes .entry)) (LISTED + i) ⌝ }
+{
+    let tree = scope.tree;
+    FullNodeId {
+        tree,
+        node: NodeId(notes[LISTED + i]),
+    }
+}
+
+// The id that a code stands for.
+pub(crate) fn id_of<'a>(state: &'a State, scope: Scope, notes: &'a Notes, code: usize) -> FullNodeId
+    requires { ⌜ code < SLOTS + 64 ⌝ }
+    ensures { λ r. ⌜ r ≡ codeNoted (now (state .entry)) scope (now (notes .entry)) code ⌝ }
+{
+    if code < state_array::SLOTS {
+        return state_array::id_at(state, code);
+    }
+    listed_id(scope, notes, code - state_array::SLOTS)
 }
 
 // Whether listed node i grafts a tree.

@@ -1,13 +1,15 @@
 // The crate's pass over the nodes, 9 to 12 as it meets them, and rows 13 and 14: the first that holds, and what makes it hold.
 ghost use mathlib.Core.Path.{_≡_};
-ghost use Prim.Native.Nat.{_+_, _<_};
+ghost use Prim.Native.Nat.{_+_, _≤_, _<_};
+ghost use lib.Dec.{ltb};
+ghost use lib.ListN.{getD};
 ghost use Rattle.base.specs.Search.{First};
 ghost use Rattle.record.specs.Parse.{batchOf};
 ghost use Rattle.calls.specs.Setting.{forest, asked, refusal};
 ghost use Rattle.calls.specs.Says.{Told, READ};
 ghost use Rattle.calls.specs.Causes.{causeNumber};
 ghost use Rattle.calls.specs.Steps.{dueOf, Due, DueRoom, Firsts, Prepared, entriesBefore, Standing, Moves, Names, isTaken, PlacedIs};
-ghost use Rattle.calls.specs.Pass.{passNumber, PassExplained, RowsExplained, FirstPlaceless, NowhereAt, FirstNowhere};
+ghost use Rattle.calls.specs.Pass.{passNumber, PassExplained, RowsExplained, NowhereAt, FirstNowhere};
 use crate::notes;
 use crate::notes::Notes;
 use crate::notes::Refusal;
@@ -96,7 +98,7 @@ pub(crate) fn cause_of<'a>(
     if number_of(met) != 0 {
         return met;
     }
-    let i = placeless(state, batch, scope, notes, &due);
+    let i = placeless(scope, &due);
     if i < scope.listed {
         return Cause::WithoutPlace(i);
     }
@@ -362,16 +364,9 @@ fn takes<'a>(batch: &'a [u8], notes: &'a Notes, done: &'a [u8; 65], i: usize, t:
 }
 
 // Row 13: the first listed node that is left without a place, or their number.
-fn placeless<'a>(
-    state: &'a State,
-    batch: &'a [u8],
-    scope: Scope,
-    notes: &'a Notes,
-    due: &'a [usize; 64],
-) -> usize
-    requires { ⌜ Told READ (now state) (now batch) scope (now notes) ⌝ }
-    requires { ⌜ Due (forest (now state)) (asked (now batch) scope) (now due) ⌝ }
-    ensures { λ r. ⌜ FirstPlaceless (forest (now (state .entry))) (asked (now (batch .entry)) scope) (scope .listed) r ⌝ }
+fn placeless(scope: Scope, due: &[usize; 64]) -> usize
+    requires { ⌜ scope .listed ≤ 64 ⌝ }
+    ensures { λ r. ⌜ First (λ i. ltb (scope .named) (getD (now (due .entry)) i 0)) (scope .listed) r ⌝ }
 {
     let k = scope.listed;
     let e = scope.named;

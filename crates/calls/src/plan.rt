@@ -5,15 +5,11 @@ ghost use lib.ListN.{length};
 ghost use Rattle.state_array.specs.Layout.{SLOTS};
 ghost use Rattle.state_array.specs.View.{slotsOf};
 ghost use Rattle.calls.specs.Layout.{WORDS};
-ghost use Rattle.calls.specs.Setting.{asked, forest};
-ghost use Rattle.calls.specs.Codes.{codeId};
 ghost use Rattle.calls.specs.Says.{Told, COMPARED, PLANNED, outcomeCount, sourceWord};
-ghost use Rattle.calls.specs.Plan.{CODED, Valid, PlaceIn, Inserted, Planned};
+ghost use Rattle.calls.specs.Plan.{CODED, PlaceIn, Inserted, Planned};
 use crate::notes;
 use crate::notes::Notes;
 use crate::notes::Scope;
-use ids::FullNodeId;
-use ids::NodeId;
 use state_array::State;
 
 // The phase: the codes of the outcome's nodes in ascending order of their ids, how many there are, and the sources of their data.
@@ -63,7 +59,7 @@ fn keep_slot<'a>(
     requires { ⌜ i < slotsOf (now state) ⌝ }
     ensures { λ r. ⌜ Planned (i + 1) 0 (now (state .entry)) (now (batch .entry)) scope (now (notes .exit)) r ⌝ }
 {
-    if notes[notes::GOES + i] == 1 {
+    if notes[notes::FATES + i] == 1 {
         return count;
     }
     notes[notes::CODES + count] = i as u64;
@@ -127,42 +123,19 @@ fn place_of<'a>(
     requires { ⌜ j < scope .listed ⌝ }
     ensures { λ r. ⌜ PlaceIn (now (state .entry)) (now (batch .entry)) scope (now (notes .entry)) j count r ⌝ }
 {
-    let x = id_of(state, batch, scope, notes, state_array::SLOTS + j);
+    let x = notes::id_of(state, scope, notes, state_array::SLOTS + j);
     let mut low = 0usize;
     let mut high = count;
     while low < high {
         let middle = low + (high - low) / 2;
         let code = notes[notes::CODES + middle] as usize;
-        if ids::is_before(id_of(state, batch, scope, notes, code), x) {
+        if ids::is_before(notes::id_of(state, scope, notes, code), x) {
             low = middle + 1;
         } else {
             high = middle;
         }
     }
     low
-}
-
-// The id that a code stands for.
-fn id_of<'a>(
-    state: &'a State,
-    batch: &'a [u8],
-    scope: Scope,
-    notes: &'a Notes,
-    code: usize,
-) -> FullNodeId
-    requires { ⌜ Told COMPARED (now state) (now batch) scope (now notes) ⌝ }
-    requires { ⌜ Valid (now state) scope code ⌝ }
-    ensures { λ r. ⌜ r ≡ codeId (forest (now (state .entry))) (asked (now (batch .entry)) scope) code ⌝ }
-{
-    if code < state_array::SLOTS {
-        return state_array::id_at(state, code);
-    }
-    let number = notes[notes::LISTED + (code - state_array::SLOTS)];
-    let tree = scope.tree;
-    FullNodeId {
-        tree,
-        node: NodeId(number),
-    }
 }
 
 // Puts a code at a place among `count`, those from there on moved up by one.

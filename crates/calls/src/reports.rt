@@ -1,7 +1,9 @@
 // What a batch reports: what changed of each node, the four change lists in the lent slice, the focus before and after with the extra ids.
 ghost use mathlib.Core.Bool.{true, not};
+ghost use mathlib.Core.List.{_++_};
 ghost use mathlib.Core.Path.{_≡_};
-ghost use Prim.Native.Nat.{_+_, _*_, _<_};
+ghost use Prim.Native.Nat.{_+_, _*_, _≤_, _<_};
+ghost use lib.ListN.{getD};
 ghost use Rattle.base.specs.Tests.{_&&_, isSome, sameOption, has};
 ghost use Rattle.base.specs.Bytes.{bit};
 ghost use Rattle.ids.specs.Ids.{sameId};
@@ -9,16 +11,18 @@ ghost use Rattle.state.specs.State.{sameLink, parentOf};
 ghost use Rattle.state.specs.Sound.{ascending};
 ghost use Rattle.state_array.specs.View.{view, slotsOf, linkOf};
 ghost use Rattle.state_focus.specs.Focus.{foundOf};
-ghost use Rattle.update.proofs.Reports.{dataChanged};
-ghost use Rattle.calls.specs.Setting.{asked, forest};
-ghost use Rattle.calls.specs.Codes.{nodeAt, flag};
-ghost use Rattle.calls.specs.Says.{Told, changedWord, PLANNED, REPORTED};
-ghost use Rattle.calls.specs.Outcomes.{changesIn, Outcomes, PaneRootIs};
-ghost use Rattle.calls.specs.Slice.{Marks, Counted, picked, Room, ListWritten, ListsWritten};
-ghost use Rattle.calls.specs.Reported.{UpdateReported, HostReported, ReportOf, OnlyAfter, unlessBefore, unlessAfter};
+ghost use Rattle.state_array.specs.Layout.{SLOTS};
+ghost use Rattle.update.specs.Reports.{unlessIn};
+ghost use Rattle.calls.specs.Layout.{TURNS, CHANGED};
+ghost use Rattle.calls.specs.Codes.{flag};
+ghost use Rattle.calls.specs.Says.{changedWord, PLANNED, REPORTED};
+ghost use Rattle.calls.specs.Noted.{differNoted};
+ghost use Rattle.calls.specs.Outcomes.{Outcomes, PaneRootIs};
+ghost use Rattle.calls.specs.Slice.{Marks, Counted, picked, changesNoted, Room, ListWritten, ListsWritten};
+ghost use Rattle.calls.specs.Reported.{Reported, HostReported, ReportOf, OnlyAfter, unlessBefore};
 use crate::notes;
 use crate::notes::CHANGED;
-use crate::notes::GOES;
+use crate::notes::FATES;
 use crate::notes::Notes;
 use crate::notes::Scope;
 use ids::FullNodeId;
@@ -26,7 +30,7 @@ use state_array::LinkRow;
 use state_array::State;
 use state_focus::FoundNode;
 
-// The bits of a node's mark in the column CHANGED, and of the mark of an old node in the column GOES.
+// The bits of a node's mark in the column CHANGED, and of the mark of an old node in the column FATES.
 const ADDED: u64 = 1;
 
 const UPDATED: u64 = 2;
@@ -92,23 +96,16 @@ fn change_at<'a>(
     }
     let was = state_array::link_at(state, code);
     let link = state_array::link_at(next, r);
-    let updated = data_differs(state, batch, scope, notes, code)
+    let updated = data_differs(notes, code)
         | link_changed(was, link)
         | is_pane_root(scope, state_array::id_at(next, r));
     change_of(updated, parent_changed(was, link))
 }
 
 // Whether the node in a slot is listed with other data than before.
-fn data_differs<'a>(
-    state: &'a State,
-    batch: &'a [u8],
-    scope: Scope,
-    notes: &'a Notes,
-    slot: usize,
-) -> bool
-    requires { ⌜ Told PLANNED (now state) (now batch) scope (now notes) ⌝ }
-    requires { ⌜ slot < slotsOf (now state) ⌝ }
-    ensures { λ r. ⌜ r ≡ dataChanged (forest (now (state .entry))) (asked (now (batch .entry)) scope) (nodeAt (forest (now (state .entry))) slot) ⌝ }
+fn data_differs(notes: &Notes, slot: usize) -> bool
+    requires { ⌜ (slot < SLOTS) × (getD (now notes) (TURNS + slot) 0 ≤ 64) ⌝ }
+    ensures { λ r. ⌜ r ≡ differNoted (now (notes .entry)) slot ⌝ }
 {
     let turn = notes[notes::TURNS + slot];
     if turn < 1 {
@@ -161,20 +158,17 @@ fn change_of(updated: bool, relinked: bool) -> u64
 // Writes the four lists one after another, if the slice has room for them.
 pub(crate) fn write_lists<'a>(
     state: &'a State,
-    batch: &'a [u8],
-    scope: Scope,
     notes: &'a Notes,
     next: &'a State,
     changes: &mut [u64],
 ) -> Lists
-    requires { ⌜ Outcomes REPORTED (now state) (now batch) scope (now notes) (now next) ⌝ }
-    ensures { λ r. ⌜ ListsWritten (changesIn (now (state .entry)) (now (batch .entry)) scope) (now (changes .entry)) (now (changes .exit)) r ⌝ }
+    ensures { λ r. ⌜ ListsWritten (changesNoted (now (state .entry)) (now (notes .entry)) (now (next .entry))) (now (changes .entry)) (now (changes .exit)) r ⌝ }
 {
     let n = state_array::slots(state);
     let m = state_array::slots(next);
     let added = count_of(notes, CHANGED, m, ADDED);
     let updated = count_of(notes, CHANGED, m, UPDATED);
-    let removed = count_of(notes, GOES, n, REMOVED);
+    let removed = count_of(notes, FATES, n, REMOVED);
     let relinked = count_of(notes, CHANGED, m, RELINKED);
     let words = 2 * (added + updated + removed + relinked);
     let fit = words <= changes.len();
@@ -191,7 +185,7 @@ pub(crate) fn write_lists<'a>(
     }
     let from_updated = write_list(next, notes, CHANGED, ADDED, 0, changes);
     let from_removed = write_list(next, notes, CHANGED, UPDATED, from_updated, changes);
-    let from_relinked = write_list(state, notes, GOES, REMOVED, from_removed, changes);
+    let from_relinked = write_list(state, notes, FATES, REMOVED, from_removed, changes);
     let end = write_list(next, notes, CHANGED, RELINKED, from_relinked, changes);
     lists
 }
@@ -248,20 +242,15 @@ fn write_list<'a>(
 }
 
 // The focus before and after a batch, and the extra ids by the marks.
-pub(crate) fn report_update<'a>(
-    state: &'a State,
-    batch: &'a [u8],
-    scope: Scope,
-    notes: &'a Notes,
-    next: &'a State,
-) -> Report
-    requires { ⌜ Outcomes REPORTED (now state) (now batch) scope (now notes) (now next) ⌝ }
-    ensures { λ r. ⌜ UpdateReported (now (state .entry)) (now (batch .entry)) scope r ⌝ }
+pub(crate) fn report_update<'a>(state: &'a State, notes: &'a Notes, next: &'a State) -> Report
+    requires { ⌜ ascending (view (now state) .forest .nodes) ≡ true ⌝ }
+    requires { ⌜ ascending (view (now next) .forest .nodes) ≡ true ⌝ }
+    ensures { λ r. ⌜ Reported (view (now (state .entry))) (view (now (next .entry))) (changesNoted (now (state .entry)) (now (notes .entry)) (now (next .entry))) r ⌝ }
 {
     let before = state_focus::focus(state);
     let after = state_focus::focus(next);
-    let lost = unless_before(state, batch, scope, notes, next, before);
-    let got = unless_after(state, batch, scope, notes, next, after);
+    let lost = unless_before(state, notes, next, before);
+    let got = unless_after(notes, next, after);
     report_of(before, after, lost, got)
 }
 
@@ -323,35 +312,27 @@ fn same_found(x: FoundNode, y: FoundNode) -> bool
 // A node, unless it is updated or removed.
 fn unless_before<'a>(
     state: &'a State,
-    batch: &'a [u8],
-    scope: Scope,
     notes: &'a Notes,
     next: &'a State,
     found: FoundNode,
 ) -> FoundNode
-    requires { ⌜ Outcomes REPORTED (now state) (now batch) scope (now notes) (now next) ⌝ }
-    ensures { λ r. ⌜ foundOf r ≡ unlessBefore (changesIn (now (state .entry)) (now (batch .entry)) scope) (foundOf found) ⌝ }
+    requires { ⌜ ascending (view (now state) .forest .nodes) ≡ true ⌝ }
+    requires { ⌜ ascending (view (now next) .forest .nodes) ≡ true ⌝ }
+    ensures { λ r. ⌜ foundOf r ≡ unlessBefore (changesNoted (now (state .entry)) (now (notes .entry)) (now (next .entry))) (foundOf found) ⌝ }
 {
     let FoundNode::At(x) = found else {
         return FoundNode::Nothing;
     };
-    if is_marked(next, notes, CHANGED, UPDATED, x) | is_marked(state, notes, GOES, REMOVED, x) {
+    if is_marked(next, notes, CHANGED, UPDATED, x) | is_marked(state, notes, FATES, REMOVED, x) {
         return FoundNode::Nothing;
     }
     found
 }
 
 // A node, unless it is added or updated.
-fn unless_after<'a>(
-    state: &'a State,
-    batch: &'a [u8],
-    scope: Scope,
-    notes: &'a Notes,
-    next: &'a State,
-    found: FoundNode,
-) -> FoundNode
-    requires { ⌜ Outcomes REPORTED (now state) (now batch) scope (now notes) (now next) ⌝ }
-    ensures { λ r. ⌜ foundOf r ≡ unlessAfter (changesIn (now (state .entry)) (now (batch .entry)) scope) (foundOf found) ⌝ }
+fn unless_after<'a>(notes: &'a Notes, next: &'a State, found: FoundNode) -> FoundNode
+    requires { ⌜ ascending (view (now next) .forest .nodes) ≡ true ⌝ }
+    ensures { λ r. ⌜ foundOf r ≡ unlessIn (picked 1 (now (notes .entry)) CHANGED (now (next .entry)) ++ picked 2 (now (notes .entry)) CHANGED (now (next .entry))) (foundOf found) ⌝ }
 {
     let FoundNode::At(x) = found else {
         return FoundNode::Nothing;

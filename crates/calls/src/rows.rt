@@ -1,7 +1,7 @@
 // The rows of document 01's table of numbers but the pass, in the order in which a call asks them, and the scope of a batch.
 ghost use mathlib.Core.Bool.{true, not};
 ghost use mathlib.Core.Path.{_≡_};
-ghost use Prim.Native.Nat.{_≤_, _<_};
+ghost use Prim.Native.Nat.{_+_, _≤_, _<_};
 ghost use lib.Dec.{eqb};
 ghost use lib.ListN.{length, getD};
 ghost use Rattle.base.specs.Tests.{isSome, distinct};
@@ -10,15 +10,16 @@ ghost use Rattle.base.specs.Search.{First};
 ghost use Rattle.ids.specs.Ids.{ROOT, sameTree, sameNode};
 ghost use Rattle.record.specs.Batch.{listedIds, namedIds};
 ghost use Rattle.record.specs.Parse.{wellFormed, batchOf};
-ghost use Rattle.record_reader.specs.Reader.{listedAt};
 ghost use Rattle.state.specs.State.{subtreeOf};
 ghost use Rattle.state.specs.Sound.{graftsDiffer, soundShape};
+ghost use Rattle.state_array.specs.Layout.{SLOTS};
 ghost use Rattle.state_array.specs.View.{view};
-ghost use Rattle.update.specs.Numbers.{updatedAndRemoved, rowsBeforePass};
+ghost use Rattle.update.specs.Numbers.{rowsBeforePass};
 ghost use Rattle.update.specs.Calls.{seed, withoutTreeData};
-ghost use Rattle.calls.specs.Setting.{Scoped, asked, refusal};
-ghost use Rattle.calls.specs.Says.{Told, COMPARED};
-ghost use Rattle.calls.specs.Rows.{firstNumber, startRows, lastNumber, clashes};
+ghost use Rattle.calls.specs.Layout.{LISTED-SLOTS, DIFFERS};
+ghost use Rattle.calls.specs.Setting.{Scoped, refusal};
+ghost use Rattle.calls.specs.Noted.{ClashRoom, clashNoted};
+ghost use Rattle.calls.specs.Rows.{firstNumber, startRows, lastNumber};
 ghost use Rattle.calls.specs.Parts.{ListedAgain, ungrafted, missing, full, RootAfter};
 use crate::notes;
 use crate::notes::Notes;
@@ -100,45 +101,33 @@ pub(crate) fn last_rows(next: &State, clash: bool) -> Refusal
     notes::refuse(last_number(next, clash))
 }
 
-// Row 18: whether a listed node has other data than before, and goes.
-pub(crate) fn updated_and_removed<'a>(
-    state: &'a State,
-    batch: &'a [u8],
-    scope: Scope,
-    notes: &'a Notes,
-) -> bool
-    requires { ⌜ Told COMPARED (now state) (now batch) scope (now notes) ⌝ }
-    ensures { λ r. ⌜ r ≡ clashes (now (state .entry)) (now (batch .entry)) scope ⌝ }
+// Row 18: the first of k listed nodes that has other data than before, so that it is old, and goes; or k.
+pub(crate) fn first_clash(notes: &Notes, k: usize) -> usize
+    requires { ⌜ k ≤ 64 ⌝ }
+    requires { ⌜ ClashRoom (now notes) k ⌝ }
+    ensures { λ r. ⌜ First (clashNoted (now (notes .entry))) k r ⌝ }
 {
-    let k = scope.listed;
     let mut i = 0usize;
     while i < k {
-        if clashes_at(state, batch, scope, notes, i) {
-            return true;
+        if clashes_at(notes, i) {
+            return i;
         }
         i += 1;
     }
-    false
+    k
 }
 
-// Whether listed node i has other data than before, so that it is old, and goes.
-pub(crate) fn clashes_at<'a>(
-    state: &'a State,
-    batch: &'a [u8],
-    scope: Scope,
-    notes: &'a Notes,
-    i: usize,
-) -> bool
-    requires { ⌜ Told COMPARED (now state) (now batch) scope (now notes) ⌝ }
-    requires { ⌜ i < scope .listed ⌝ }
+// Whether listed node i does.
+fn clashes_at(notes: &Notes, i: usize) -> bool
     requires { ⌜ i < 64 ⌝ }
-    ensures { λ r. ⌜ r ≡ updatedAndRemoved (view (now (state .entry)) .forest) (asked (now (batch .entry)) scope) (listedAt (asked (now (batch .entry)) scope) i) ⌝ }
+    requires { ⌜ (getD (now notes) (DIFFERS + i) 0 ≡ 1 → getD (now notes) (LISTED-SLOTS + i) 0 < SLOTS) ⌝ }
+    ensures { λ r. ⌜ r ≡ clashNoted (now (notes .entry)) i ⌝ }
 {
     if notes[notes::DIFFERS + i] != 1 {
         return false;
     }
     let slot = notes[notes::LISTED_SLOTS + i] as usize;
-    notes[notes::GOES + slot] == 1
+    notes[notes::FATES + slot] == 1
 }
 
 // The number of rows 1, 2 and 5 to 8.

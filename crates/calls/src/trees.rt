@@ -139,7 +139,7 @@ fn root_goes<'a>(
     if state_array::slots(state) <= slot {
         return false;
     }
-    notes[notes::GOES + slot] == 1
+    notes[notes::FATES + slot] == 1
 }
 
 // Stores the row of tree k.

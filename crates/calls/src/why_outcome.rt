@@ -16,6 +16,7 @@ ghost use Rattle.calls.specs.Setting.{asked};
 use crate::notes;
 use crate::notes::Notes;
 use crate::notes::Scope;
+use crate::rows;
 use grafts::Regrafted;
 use ids::FullNodeId;
 use ids::TreeId;
@@ -56,7 +57,7 @@ pub(crate) fn removed_why<'a>(
     requires { ⌜ Told PLANNED (now state) (now batch) scope (now notes) ⌝ }
     ensures { λ r. ⌜ r ≡ whyFor (removedReason (view (now (state .entry)) .forest) (asked (now (batch .entry)) scope)) ⌝ }
 {
-    let i = climb::first_removed(state, batch, scope, notes);
+    let i = rows::first_clash(notes, scope.listed);
     if scope.listed <= i {
         return reasons_why::no_reason();
     }

@@ -1,10 +1,15 @@
 // Why rows 9 to 14 refuse a batch: the number of what makes the first of them hold, the ids that the notes have of it, its tree and place.
 ghost use mathlib.Core.Path.{_≡_};
-ghost use Prim.Native.Nat.{_<_};
-ghost use Rattle.reasons_why.specs.Why.{found, whyFor};
+ghost use Prim.Native.Nat.{_+_, _<_};
+ghost use Rattle.record.specs.Parse.{batchOf};
+ghost use Rattle.record_reader.specs.Reader.{listedAt};
+ghost use Rattle.reasons.specs.Reasons.{claimedTwice, withoutPlace};
+ghost use Rattle.reasons_why.specs.Why.{found, whyOf, whyFor};
+ghost use Rattle.calls.specs.Layout.{LISTED, NAMED};
+ghost use Rattle.calls.specs.Noted.{idNoted};
 ghost use Rattle.calls.specs.Setting.{forest, asked};
 ghost use Rattle.calls.specs.Says.{Told, READ};
-ghost use Rattle.calls.specs.Causes.{listedId, childId, causeReason, Within};
+ghost use Rattle.calls.specs.Causes.{causeReason, Within};
 ghost use Rattle.calls.specs.Pass.{rowReason};
 ghost use Rattle.calls.specs.WhyPass.{namerAt, plainNodes};
 use crate::notes;
@@ -44,15 +49,15 @@ fn of_cause<'a>(
         Cause::Nothing => reasons_why::no_reason(),
         Cause::NamedTwice(j) => named_twice(state, batch, scope, notes, j),
         Cause::GraftOverChildren(i) => {
-            let x = listed_id(state, batch, scope, notes, i);
+            let x = notes::listed_id(scope, notes, i);
             of_nodes(10, x, FoundNode::Nothing, FoundNode::Nothing)
         }
         Cause::GraftOfRoot(i) => {
-            let x = listed_id(state, batch, scope, notes, i);
+            let x = notes::listed_id(scope, notes, i);
             of_nodes(11, x, FoundNode::Nothing, FoundNode::Nothing)
         }
-        Cause::ClaimedTwice(i, m) => claimed_twice(state, batch, scope, notes, i, m),
-        Cause::WithoutPlace(i) => without_place(state, batch, scope, notes, i),
+        Cause::ClaimedTwice(i, m) => claimed_twice(batch, scope, notes, i, m),
+        Cause::WithoutPlace(i) => without_place(scope, notes, i),
         Cause::ChildNowhere(j) => child_nowhere(state, batch, scope, notes, j),
     }
 }
@@ -74,29 +79,20 @@ fn named_twice<'a>(
     let first = notes::position_in(notes, notes::NAMED, e, x);
     let next = first + 1;
     let second = next + notes::position_in(notes, notes::NAMED + next, e - next, x);
-    let child = child_id(state, batch, scope, notes, j);
+    let child = child_id(scope, notes, j);
     let by = namer(state, batch, scope, notes, second);
     let also = namer(state, batch, scope, notes, first);
     of_nodes(9, child, by, also)
 }
 
 // 12: listed node i claims the tree that listed node m claimed before.
-fn claimed_twice<'a>(
-    state: &'a State,
-    batch: &'a [u8],
-    scope: Scope,
-    notes: &'a Notes,
-    i: usize,
-    m: usize,
-) -> Why
-    requires { ⌜ Told READ (now state) (now batch) scope (now notes) ⌝ }
-    requires { ⌜ i < scope .listed ⌝ }
-    requires { ⌜ m < scope .listed ⌝ }
-    ensures { λ r. ⌜ r ≡ whyFor (causeReason (forest (now (state .entry))) (asked (now (batch .entry)) scope) (Cause.ClaimedTwice i m)) ⌝ }
+fn claimed_twice<'a>(batch: &'a [u8], scope: Scope, notes: &'a Notes, i: usize, m: usize) -> Why
+    requires { ⌜ (i < 64) × (m < 64) ⌝ }
+    ensures { λ r. ⌜ r ≡ whyOf (claimedTwice (listedAt (batchOf (now (batch .entry))) i .body .graft) (idNoted scope (now (notes .entry)) (LISTED + m)) (idNoted scope (now (notes .entry)) (LISTED + i))) ⌝ }
 {
     let tree = record_reader::graft(batch, i);
-    let x = listed_id(state, batch, scope, notes, i);
-    let y = listed_id(state, batch, scope, notes, m);
+    let x = notes::listed_id(scope, notes, i);
+    let y = notes::listed_id(scope, notes, m);
     Why {
         number: 12,
         rule: 1,
@@ -110,18 +106,11 @@ fn claimed_twice<'a>(
 }
 
 // 13: listed node i.
-fn without_place<'a>(
-    state: &'a State,
-    batch: &'a [u8],
-    scope: Scope,
-    notes: &'a Notes,
-    i: usize,
-) -> Why
-    requires { ⌜ Told READ (now state) (now batch) scope (now notes) ⌝ }
-    requires { ⌜ i < scope .listed ⌝ }
-    ensures { λ r. ⌜ r ≡ whyFor (causeReason (forest (now (state .entry))) (asked (now (batch .entry)) scope) (Cause.WithoutPlace i)) ⌝ }
+fn without_place(scope: Scope, notes: &Notes, i: usize) -> Why
+    requires { ⌜ i < 64 ⌝ }
+    ensures { λ r. ⌜ r ≡ whyOf (withoutPlace (idNoted scope (now (notes .entry)) (LISTED + i)) i) ⌝ }
 {
-    let x = listed_id(state, batch, scope, notes, i);
+    let x = notes::listed_id(scope, notes, i);
     Why {
         number: 13,
         rule: 0,
@@ -146,7 +135,7 @@ fn child_nowhere<'a>(
     requires { ⌜ j < scope .named ⌝ }
     ensures { λ r. ⌜ r ≡ whyFor (causeReason (forest (now (state .entry))) (asked (now (batch .entry)) scope) (Cause.ChildNowhere j)) ⌝ }
 {
-    let child = child_id(state, batch, scope, notes, j);
+    let child = child_id(scope, notes, j);
     let by = namer(state, batch, scope, notes, j);
     of_nodes(14, child, by, FoundNode::Nothing)
 }
@@ -167,36 +156,10 @@ fn of_nodes(number: u8, x: FullNodeId, by: FoundNode, also: FoundNode) -> Why
     }
 }
 
-// The id of listed node i.
-fn listed_id<'a>(
-    state: &'a State,
-    batch: &'a [u8],
-    scope: Scope,
-    notes: &'a Notes,
-    i: usize,
-) -> FullNodeId
-    requires { ⌜ Told READ (now state) (now batch) scope (now notes) ⌝ }
-    requires { ⌜ i < scope .listed ⌝ }
-    ensures { λ r. ⌜ r ≡ listedId (forest (now (state .entry))) (asked (now (batch .entry)) scope) i ⌝ }
-{
-    let tree = scope.tree;
-    FullNodeId {
-        tree,
-        node: NodeId(notes[notes::LISTED + i]),
-    }
-}
-
 // The id of the child of entry j.
-fn child_id<'a>(
-    state: &'a State,
-    batch: &'a [u8],
-    scope: Scope,
-    notes: &'a Notes,
-    j: usize,
-) -> FullNodeId
-    requires { ⌜ Told READ (now state) (now batch) scope (now notes) ⌝ }
-    requires { ⌜ j < scope .named ⌝ }
-    ensures { λ r. ⌜ r ≡ childId (forest (now (state .entry))) (asked (now (batch .entry)) scope) j ⌝ }
+fn child_id(scope: Scope, notes: &Notes, j: usize) -> FullNodeId
+    requires { ⌜ j < 256 ⌝ }
+    ensures { λ r. ⌜ r ≡ idNoted scope (now (notes .entry)) (NAMED + j) ⌝ }
 {
     let tree = scope.tree;
     FullNodeId {
@@ -220,7 +183,7 @@ fn namer<'a>(
     let mut i = 0usize;
     while i < k {
         if j < notes[notes::ENDS + i] as usize {
-            return FoundNode::At(listed_id(state, batch, scope, notes, i));
+            return FoundNode::At(notes::listed_id(scope, notes, i));
         }
         i += 1;
     }

@@ -95,7 +95,7 @@ pub(crate) fn slice_why<'a>(
 {
     reports::write_changed(state, batch, scope, notes, next);
     let mut lent = [0u64; 1];
-    let lists = reports::write_lists(state, batch, scope, notes, next, &mut lent);
+    let lists = reports::write_lists(state, notes, next, &mut lent);
     let most = lists.words;
     if most <= room {
         return reasons_why::no_reason();

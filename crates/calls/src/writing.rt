@@ -5,8 +5,6 @@ ghost use lib.ListN.{length, set};
 ghost use Rattle.base.specs.Regions.{fill};
 ghost use Rattle.state_array.specs.Layout.{blankWords, SLOTS, ENTRIES, NODE-FIELDS, place, TREE, PARENT-TREE};
 ghost use Rattle.state_array.specs.Stored.{headWord, stored};
-ghost use Rattle.calls.specs.Codes.{Coded, codeId};
-ghost use Rattle.calls.specs.Setting.{asked, forest};
 ghost use Rattle.calls.specs.Says.{Told, PLANNED};
 ghost use Rattle.calls.specs.Written.{nodesAfter, nodesWritten, idPair, linkWords, wordsPut, bodyPut, sourceChildren, slotChild, kidWord, runWritten, childrenWritten, hostWord};
 ghost use Rattle.calls.specs.Says.{outcomeState};
@@ -16,7 +14,6 @@ use crate::notes::Notes;
 use crate::notes::Scope;
 use crate::trees;
 use ids::FullNodeId;
-use ids::NodeId;
 use state_array::Body;
 use state_array::LinkRow;
 use state_array::State;
@@ -54,7 +51,7 @@ fn write_nodes<'a>(
     let mut r = 0usize;
     while r < count {
         let code = notes[notes::CODES + r] as usize;
-        let x = id_of(state, batch, scope, notes, code);
+        let x = notes::id_of(state, scope, notes, code);
         let l = links::link_of(state, batch, scope, notes, code);
         let source = notes[notes::SOURCES + r] as usize;
         let body = update_bodies::body_of(state, batch, source);
@@ -63,26 +60,6 @@ fn write_nodes<'a>(
         put_body(next, r, body);
         r += 1;
     }
-}
-
-// The id of a code.
-fn id_of<'a>(
-    state: &'a State,
-    batch: &'a [u8],
-    scope: Scope,
-    notes: &'a Notes,
-    code: usize,
-) -> FullNodeId
-    requires { ⌜ Told PLANNED (now state) (now batch) scope (now notes) ⌝ }
-    requires { ⌜ Coded (forest (now state)) (asked (now batch) scope) code ⌝ }
-    ensures { λ r. ⌜ r ≡ codeId (forest (now (state .entry))) (asked (now (batch .entry)) scope) code ⌝ }
-{
-    if code < state_array::SLOTS {
-        return state_array::id_at(state, code);
-    }
-    let tree = scope.tree;
-    let node = NodeId(notes[notes::LISTED + (code - state_array::SLOTS)]);
-    FullNodeId { tree, node }
 }
 
 // Stores the id of slot r.

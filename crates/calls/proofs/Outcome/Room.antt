@@ -83,7 +83,7 @@ length-entries (n ∷ ns) = rw (length-append (n .body .children) (entriesOf ns)
 
 module _ (s : Forest) (b : Batch) (kept : KeptForest s) where
   pub entries-few : length (namedIds (b .nodes)) ≤ 256 → length (entriesOf (outcome s b .nodes)) ≤ 512
-  entries-few few = omega (arith, length-entries (outcome s b .nodes), child-count-outcome s b, kept .few-children)
+  entries-few few = omega (arith, length-entries (outcome s b .nodes), length-entries (s .nodes), child-count-outcome s b, kept .few-children)
 
   -- ## Nodes and trees
 

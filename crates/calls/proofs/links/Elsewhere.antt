@@ -27,7 +27,9 @@ use Rattle.calls.proofs.notes.Grafts.{graft-slot, claimed-from-is}
 use Rattle.calls.proofs.notes.Told.{batched}
 use Rattle.calls.proofs.links.Here.{link-after-here, link-after-elsewhere}
 use lib.ListN.{getD}
-use Rattle.calls.specs.Layout.{TURNS, NAMINGS, ABOVE}
+use Rattle.calls.specs.Layout.{LISTED, TURNS, NAMINGS, ABOVE}
+use Rattle.calls.specs.Noted.{idNoted}
+use Rattle.calls.proofs.notes.Noted.{listed-noted}
 use Rattle.calls.specs.Codes.{nodeAt, idAt}
 use Rattle.calls.proofs.notes.Places.{present-at, forest-id, forest-link}
 use Rattle.update_focus.proofs.Numbers.{forest-length}
@@ -100,11 +102,11 @@ module _ {state bytes : List ℕ} {c : Scope} {notes : List ℕ} (told : Told CO
     elsewhere-kept h o e above = e ∙ ap linkRow (link-elsewhere-claimed x told found o e above other (le-ltb i (c .listed) h))
 
     -- under the claimer
-    pub elsewhere-claimed : {g : FullNodeId} {r : LinkRow} → i < c .listed → g ≡ here (forest state) (asked bytes c) (listedAt (asked bytes c) i .id)
+    pub elsewhere-claimed : {g : FullNodeId} {r : LinkRow} → i < c .listed → g ≡ idNoted c notes (LISTED + i)
         → r ≡ linkRow (some (record { parent = g; index = 0 })) → LinkElsewhereIs state bytes c slot x was r
     unfolding underGraft
     elsewhere-claimed h id q o e above =
-        q ∙ ap (λ (g : FullNodeId). linkRow (underGraft g)) id ∙ ap linkRow (link-elsewhere-claimed x told found o e above other (lt-ltb i (c .listed) h))
+        q ∙ ap (λ (g : FullNodeId). linkRow (underGraft g)) (id ∙ listed-noted (omega arith) told h) ∙ ap linkRow (link-elsewhere-claimed x told found o e above other (lt-ltb i (c .listed) h))
 
 module _ {state bytes : List ℕ} {c : Scope} {notes : List ℕ} (told : Told COMPARED state bytes c notes) {i : ℕ} (h : i < slotsOf state) where
   -- it is old

@@ -30,11 +30,15 @@ use Rattle.calls.specs.Layout.{LISTED, NAMED, ENDS}
 use Rattle.calls.specs.declared.notes.Scope.{Scope}
 use Rattle.calls.specs.Setting.{rootIn, Scoped, asked, forest}
 use Rattle.calls.specs.Codes.{nodeAt, idAt}
-use Rattle.calls.specs.Says.{turnMark, namingMark, HolderIs, PositionIn, listedWord, namedWord, Told, COMPARED, endWord}
+use Rattle.calls.specs.Says.{turnMark, namingMark, HolderIs, PositionIn, namedWord, Told, COMPARED, endWord}
 use Rattle.calls.proofs.notes.Positions.{first-unique, first-cong, position-first, has-position, first-given-at}
 use Rattle.calls.proofs.notes.Places.{forest-node, forest-id}
 use Rattle.update_focus.proofs.Numbers.{forest-length}
 use Rattle.calls.proofs.notes.Marks.{here-mine, turn-self, naming-none, naming-link}
+use Rattle.calls.proofs.notes.Told.{few-listed}
+use Rattle.calls.proofs.notes.Noted.{listed-noted}
+use Rattle.calls.specs.Noted.{idNoted, startNoted}
+use Rattle.base.proofs.Cases.{by-test}
 use Rattle.calls.specs.Links.{namedLink, cutMark, graftLink, LinkHereIs, namedRow, namedBefore, Rises, Owns, NewListed, newRow}
 use native.Mathlib.Decide.{decLt}
 use native.Mathlib.Numerals.{add-one}
@@ -117,23 +121,43 @@ module _ {state bytes : List ℕ} {c : Scope} {notes : List ℕ} (told : Told CO
     owner-names = owner-there .1
 
   -- the words of the link of child j of listed node i
-  module _ (i j : ℕ) {p : FullNodeId} (parent : p ≡ here (forest state) (asked bytes c) (listedAt (asked bytes c) i .id)) where
-    -- the first node's
-    pub named-from-first : {r : LinkRow} → i < 1 → r ≡ linkRow (some (record { parent = p; index = j })) → r ≡ namedRow state bytes c i j
-    unfolding namedLink namedIds
-    named-from-first h e =
-        let first : i ≡ 0 = omega arith in
-        let index : j ≡ j - namedBefore (asked bytes c) i = rw first (omega arith) in
-        e ∙ ap₂ (λ (q : FullNodeId) (k : ℕ). linkRow (some (record { parent = q; index = k }))) parent index
+  module _ {i j : ℕ} (own : Owns (asked bytes c) i j) where
+    -- where its children start
+    start-noted : startNoted notes i ≡ namedBefore (asked bytes c) i
+    unfolding startNoted namedIds
+    start-noted =
+        by-test (ltb i 1) (λ t. let first : i ≡ 0 = omega (arith, ltb-true i 1 t) in rw (t, first))
+        (λ t. rw t (start-is (omega (arith, ltb-false i 1 t)) (own .listed)))
 
-    -- another's
-    module _ (h : 1 ≤ i) (own : Owns (asked bytes c) i j) where
-      pub starts-before : getD notes (ENDS + (i - 1)) 0 ≤ j
-      starts-before = omega (arith, start-is h (own .listed), own .start)
+    -- there is room for its words
+    pub named-room : (i < 64) × (startNoted notes i ≤ j)
+    named-room =
+        (omega (arith, own .listed, told .given .scoped .listed, few-listed state bytes c (told .given)), omega (arith, start-noted, own .start))
 
-      pub named-from-later : {r : LinkRow} → r ≡ linkRow (some (record { parent = p; index = j - getD notes (ENDS + (i - 1)) 0 })) → r ≡ namedRow state bytes c i j
-      unfolding namedLink
-      named-from-later e = e ∙ ap₂ (λ (q : FullNodeId) (k : ℕ). linkRow (some (record { parent = q; index = j - k }))) parent (start-is h (own .listed))
+    -- and they are the definition's
+    pub named-noted : {r : LinkRow} → r ≡ linkRow (some (record { parent = idNoted c notes (LISTED + i); index = j - startNoted notes i })) → r ≡ namedRow state bytes c i j
+    unfolding namedLink
+    named-noted e =
+        e ∙ ap₂ (λ (q : FullNodeId) (k : ℕ). linkRow (some (record { parent = q; index = j - k })))
+        (listed-noted (omega arith) told (omega (arith, own .listed, told .given .scoped .listed))) start-noted
+
+-- the words of a link whose place is counted from where the children of listed node i start
+module _ (notes : List ℕ) {i : ℕ} (j : ℕ) (p : FullNodeId) {r : LinkRow} where
+  -- of the first node
+  pub under-first : i < 1 → r ≡ linkRow (some (record { parent = p; index = j })) → r ≡ linkRow (some (record { parent = p; index = j - startNoted notes i }))
+  unfolding startNoted
+  under-first h e = let all : j ≡ j - 0 = omega arith in rw (lt-ltb i 1 h, ← all) e
+
+  -- of another
+  pub under-later : 1 ≤ i → r ≡ linkRow (some (record { parent = p; index = j - getD notes (ENDS + (i - 1)) 0 }))
+      → r ≡ linkRow (some (record { parent = p; index = j - startNoted notes i }))
+  unfolding startNoted
+  under-later h e = rw (le-ltb i 1 h) e
+
+-- where those of another than the first start
+pub start-later : (notes : List ℕ) {i j : ℕ} → 1 ≤ i → startNoted notes i ≤ j → getD notes (ENDS + (i - 1)) 0 ≤ j
+unfolding startNoted
+start-later notes {i} h l = rw (le-ltb i 1 h) at l
 
 -- ## A cut
 
@@ -273,10 +297,11 @@ module _ {state bytes : List ℕ} {c : Scope} {notes : List ℕ} (told : Told CO
       here-cut-after t q o is cut new =
           q ∙ ap linkRow (link-here-named (told .given .scoped) x root-is o e cut (told .given .once) owner (naming - 1) (owner-owns told x mark h first .listed) (owner-names told x mark h first) t)
 
-      pub here-named : bool._&&_ (bool._&&_ root (c .«is_root_tree»)) (ltb owner turn) ≡ false → r ≡ namedRow state bytes c owner (naming - 1)
+      pub here-named : bool._&&_ (bool._&&_ root (c .«is_root_tree»)) (ltb owner turn) ≡ false
+          → r ≡ linkRow (some (record { parent = idNoted c notes (LISTED + owner); index = naming - 1 - startNoted notes owner }))
           → LinkHereIs state bytes c x was turn r
       here-named t q o is cut new =
-          q ∙ ap linkRow (link-here-named (told .given .scoped) x root-is o e cut (told .given .once) owner (naming - 1) (owner-owns told x mark h first .listed) (owner-names told x mark h first) t)
+          named-noted told (owner-owns told x mark h first) q ∙ ap linkRow (link-here-named (told .given .scoped) x root-is o e cut (told .given .once) owner (naming - 1) (owner-owns told x mark h first .listed) (owner-names told x mark h first) t)
 
 -- ## Of the batch's tree or of another
 
@@ -310,14 +335,6 @@ naming-mark-here s b n k r count first = rw (here-mine s b n, has-position sameN
     same = first-unique _ (length ids) _ r (position-first sameNode n noNode ids) (rw count at (first-cong _ _ k r (λ i _. turned (getD ids i noNode .0)) first))
 
 module _ {state bytes : List ℕ} {c : Scope} {notes : List ℕ} (told : Told COMPARED state bytes c notes) where
-  -- the id of listed node i
-  pub listed-is : {i : ℕ} → i < c .listed
-      → _≡_ {A = FullNodeId} (record { tree = c .tree; node = record { 0 = getD notes (LISTED + i) 0 } })
-      (here (forest state) (asked bytes c) (listedAt (asked bytes c) i .id))
-  unfolding here listedWord
-  listed-is {i} h =
-      ap₂ (λ (t : TreeIndex) (n : ℕ). record { tree = t; node = record { 0 = n } }) (told .given .scoped .tree) (told .written 0 (omega arith) i h)
-
   -- the naming of a number
   naming-is : (n : NodeId) (r : ℕ) → PositionIn notes NAMED (c .named) (n .0) r
       → (if ltb r (c .named) then suc r else 0) ≡ namingMark (forest state) (asked bytes c) (here (forest state) (asked bytes c) n)
@@ -328,7 +345,11 @@ module _ {state bytes : List ℕ} {c : Scope} {notes : List ℕ} (told : Told CO
 
   -- ## A listed node that is new
 
-  module _ (i : ℕ) {x : FullNodeId} (id : x ≡ here (forest state) (asked bytes c) (listedAt (asked bytes c) i .id)) where
+  module _ {i : ℕ} (new : NewListed state bytes c i) {x : FullNodeId} (noted : x ≡ idNoted c notes (LISTED + i)) where
+    -- its id
+    id : x ≡ here (forest state) (asked bytes c) (listedAt (asked bytes c) i .id)
+    id = noted ∙ listed-noted (omega arith) told (omega (arith, new .listed, told .given .scoped .listed))
+
     -- its naming, from a search
     pub new-naming : {j r : ℕ} → PositionIn notes NAMED (c .named) (x .node .0) j → r ≡ (if ltb j (c .named) then suc j else 0)
         → r ≡ namingMark (forest state) (asked bytes c) x
@@ -336,8 +357,8 @@ module _ {state bytes : List ℕ} {c : Scope} {notes : List ℕ} (told : Told CO
     new-naming {j} found e = e ∙ rw id (naming-is (listedAt (asked bytes c) i .id) j (rw id at found))
 
     -- its link
-    pub new-row : {was r : LinkRow} → NewListed state bytes c i → was ≡ linkRow none → LinkHereIs state bytes c x was 0 r → r ≡ newRow state bytes c i
+    pub new-row : {was r : LinkRow} → was ≡ linkRow none → LinkHereIs state bytes c x was 0 r → r ≡ newRow state bytes c i
     unfolding here cutMark
-    new-row new none-before f =
+    new-row none-before f =
         (rw id at f) none none-before (rw (new .new)) (λ _. refl)
         ∙ ap linkRow (link-after-here (told .given .scoped) _ none (ap (λ (t : TreeIndex). t .0) (sym (told .given .scoped .tree))))

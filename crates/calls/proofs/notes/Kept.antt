@@ -11,6 +11,7 @@ use Rattle.state.proofs.Family.{parent-present}
 use Rattle.state.proofs.Pool.{children-few}
 use Rattle.update.proofs.Gone.{gone-parent}
 use Rattle.calls.specs.Setting.{KeptForest}
+use Rattle.calls.proofs.Outcome.Room.{length-entries}
 
 -- a sound forest
 pub kept-sound : (s : Forest) → sound.sound s ≡ true → KeptForest s
@@ -22,7 +23,7 @@ kept-sound s e =
       ascending = h .ordered;
       few-nodes = nodes;
       few-trees = leb-true (length (s .trees)) 32 (p .few-trees);
-      few-children = omega (arith, children-few s h);
+      few-children = omega (arith, children-few s h, length-entries (s .nodes));
       fields = p .fields;
       parent-present = parent-present s h;
       gone-parent = λ b x l q. gone-parent s b h x l q;

@@ -182,12 +182,6 @@ module _ {state bytes : List ℕ} {c : Scope} {notes : List ℕ} (told : Told RE
   unfolding listedWord
   listed-word i h = told .written 0 (omega arith) i h
 
-  -- its id
-  pub listed-here : {i : ℕ} → i < c .listed
-      → record { tree = c .tree; node = record { 0 = getD notes (LISTED + i) 0 } } ≡ here (forest state) (asked bytes c) (listedAt (asked bytes c) i .id)
-  unfolding here
-  listed-here {i} h = ap₂ (λ t w. record { tree = t; node = record { 0 = w } }) (told .given .scoped .tree) (listed-word i h)
-
   -- where its children end
   pub end-word : (i : ℕ) → i < c .listed → getD notes (ENDS + i) 0 ≡ entriesBefore (asked bytes c) (i + 1)
   unfolding endWord

@@ -11,7 +11,6 @@ use borrow.Author.Tests.{lt-ltb, le-ltb, eq-eqb, ne-eqb, eqb-true, eqb-false}
 use Rattle.base.specs.Tests.{_&&_, if_then_else_, has, position}
 use Rattle.base.specs.Search.{First}
 use Rattle.base.proofs.Tests.{and-false}
-use Rattle.base.proofs.Loops.{Passing, passing-cong, passing-hit, passing-ends}
 use Rattle.ids.specs.Ids.{sameNode}
 use Rattle.ids.specs.declared.NodeId.{NodeId}
 use Rattle.record.specs.Batch.{Batch, listedIds, namedIds}
@@ -190,14 +189,10 @@ module _ {state bytes : List ℕ} {c : Scope} {notes : List ℕ} (told : Told RE
     placeless-column m h =
         ap (ltb (c .named)) (dues m (omega (arith, told .given .scoped .listed))) ∙ placeless-is (forest state) (asked bytes c) m (c .named) (told .given .scoped .named)
 
-    module _ {i : ℕ} (g : Passing (λ m. ltb (c .named) (getD due m 0)) (c .listed) i) where
-      -- the first node of row 13, or none
-      pub placeless-found : i < c .listed → c .named < getD due i 0
-          → First (λ m. placeless (forest state) (asked bytes c) (listedAt (asked bytes c) m)) (c .listed) i
-      placeless-found h l = passing-hit (passing-cong g _ placeless-column) h (sym (placeless-column i h) ∙ lt-ltb (c .named) (getD due i 0) l)
-
-      pub placeless-none : c .listed ≤ i → First (λ m. placeless (forest state) (asked bytes c) (listedAt (asked bytes c) m)) (c .listed) (c .listed)
-      placeless-none h = passing-ends (passing-cong g _ placeless-column) h
+    -- the first node of row 13, or none
+    pub placeless-first : {r : ℕ} → First (λ m. ltb (c .named) (getD due m 0)) (c .listed) r
+        → First (λ m. placeless (forest state) (asked bytes c) (listedAt (asked bytes c) m)) (c .listed) r
+    placeless-first {r} f = first-cong _ _ (c .listed) r placeless-column f
 
   -- a child that is old, or not
   module _ {j n : ℕ} (h : j < c .named) (e : n ≡ slotsOf state) where

@@ -3,7 +3,7 @@ use mathlib.Core.Bool.{Bool, true, false, true≢false}
 use mathlib.Core.List.{List}
 use mathlib.Core.Logic.{inl, inr, _⊎_}
 use mathlib.Core.Path.{_≡_, refl, sym, _∙_, ap}
-use Prim.Native.Nat.{ℕ, _+_, _≤_, _<_, _-_}
+use Prim.Native.Nat.{ℕ, _+_, _≤_, _<_}
 use native.Mathlib.Omega.{arith}
 use lib.Dec.{ltb}
 use lib.ListN.{length, getD, set}
@@ -12,17 +12,19 @@ use Rattle.ids.specs.declared.FullNodeId.{FullNodeId}
 use Rattle.record.specs.Batch.{Batch, listedIds}
 use Rattle.record_reader.specs.Reader.{listedAt}
 use Rattle.state.specs.State.{Forest, present}
-use Rattle.state_array.specs.View.{slotsOf, idIn}
+use Rattle.state_array.specs.View.{slotsOf}
 use Rattle.update.specs.Words.{here, old, turn}
 use Rattle.update.specs.Gone.{gone}
-use Rattle.calls.specs.Layout.{LISTED-SLOTS, GOES, CODES, LISTED}
+use Rattle.calls.specs.Layout.{LISTED-SLOTS, FATES, CODES}
 use Rattle.calls.specs.declared.notes.Scope.{Scope}
 use Rattle.calls.specs.Setting.{asked, forest, KeptForest, Given}
 use Rattle.calls.specs.Codes.{idAt, slotAt, flag, codeId}
-use Rattle.calls.specs.Says.{goesWord, listedSlot, Told, COMPARED, listedWord}
-use Rattle.calls.proofs.notes.Places.{slot-old, present-at, forest-id}
+use Rattle.calls.specs.Says.{goesWord, listedSlot, Told, COMPARED}
+use Rattle.calls.proofs.notes.Places.{slot-old, present-at}
 use Rattle.update_focus.proofs.Numbers.{forest-length}
 use Rattle.calls.proofs.notes.Told.{told-set, told-below}
+use Rattle.calls.proofs.notes.Noted.{code-noted, code-room}
+use Rattle.calls.specs.Noted.{codeNoted}
 use Rattle.calls.specs.Plan.{Codes, Among, PlaceIn, Inserted, Planned, codeIn, New, PlaceOf, Valid}
 use native.Mathlib.Nat.{eq-or-lt-of-le, le-of-suc-le-suc}
 use native.Mathlib.Numerals.{add-one}
@@ -30,7 +32,7 @@ use Rattle.base.specs.Tests.{distinct}
 use Rattle.ids.specs.Ids.{sameNode, sameId, before}
 use Rattle.ids.proofs.Ids.{same-id→≡, before-total}
 use Rattle.calls.proofs.notes.Marks.{turn-self}
-use Rattle.calls.proofs.Outcome.Codes.{code-old, code-listed, code-new}
+use Rattle.calls.proofs.Outcome.Codes.{code-old, code-listed}
 use Rattle.calls.proofs.plan.Codes.{codes-alike, codes-insert, insert-end}
 use Rattle.calls.proofs.plan.Outcome.{ascending-pair}
 
@@ -178,12 +180,12 @@ flag-false false e = refl
 -- ## Old nodes
 
 module _ {state bytes : List ℕ} {c : Scope} {notes : List ℕ} {i count : ℕ} (h : Planned i 0 state bytes c notes count) (l : i < slotsOf state) where
-  goes-at : getD notes (GOES + i) 0 ≡ flag (gone (forest state) (asked bytes c) (idAt (forest state) i))
+  goes-at : getD notes (FATES + i) 0 ≡ flag (gone (forest state) (asked bytes c) (idAt (forest state) i))
   unfolding goesWord
   goes-at = h .told .written 9 (omega arith) i l
 
   -- the node in slot i goes
-  pub plan-goes : getD notes (GOES + i) 0 ≡ 1 → Planned (i + 1) 0 state bytes c notes count
+  pub plan-goes : getD notes (FATES + i) 0 ≡ 1 → Planned (i + 1) 0 state bytes c notes count
   plan-goes e = record {
     told = h .told;
     few = omega (arith, h .few);
@@ -191,7 +193,7 @@ module _ {state bytes : List ℕ} {c : Scope} {notes : List ℕ} {i count : ℕ}
   }
 
   -- it stays
-  pub plan-stays : (getD notes (GOES + i) 0 ≡ 1 → ⊥) → Planned (i + 1) 0 state bytes c (set notes (CODES + count) i) (count + 1)
+  pub plan-stays : (getD notes (FATES + i) 0 ≡ 1 → ⊥) → Planned (i + 1) 0 state bytes c (set notes (CODES + count) i) (count + 1)
   plan-stays e = record {
     told = told-set state bytes c notes COMPARED (h .told) (CODES + count) i (omega arith);
     few = omega (arith, h .few);
@@ -241,21 +243,24 @@ module _ {state bytes : List ℕ} {c : Scope} {notes : List ℕ} {j count : ℕ}
         (add-more s b (h .told .given .kept) j count notes codes (h .told .given .once) (omega (arith, h .told .given .scoped .listed)) (old-at ∙ le-ltb _ _ e) at col place put);
   }
 
-module _ {state bytes : List ℕ} {c : Scope} {notes : List ℕ} (told : Told COMPARED state bytes c notes) {code : ℕ} (valid : Valid state c code) where
-  -- of a slot
-  pub id-old : {y : FullNodeId} → code < 320 → y ≡ idIn state code → y ≡ codeId (forest state) (asked bytes c) code
-  id-old l e = e ∙ sym (code-old (forest state) (asked bytes c) code l ∙ forest-id state code (valid .0 l))
-
-  -- of a listed node
-  pub id-new : 320 ≤ code → _≡_ {A = FullNodeId} (record { tree = c .tree; node = record { 0 = getD notes (LISTED + (code - 320)) 0 } }) (codeId (forest state) (asked bytes c) code)
-  unfolding listedWord here
-  id-new l =
-      let number-is : getD notes (LISTED + (code - 320)) 0 ≡ listedAt (asked bytes c) (code - 320) .id .0 = told .written 0 (omega arith) (code - 320) (valid .1 l) in
-      let tree-is = told .given .scoped .tree in
-      (λ i. record { tree = tree-is i; node = record { 0 = number-is i } }) ∙ sym (code-new (forest state) (asked bytes c) code l)
-
 module _ (state bytes : List ℕ) (c : Scope) (j : ℕ) (l : j < c .listed) where
   -- the codes that are planned before listed node j are valid
-  pub among-valid : (code : ℕ) → Among (forest state) (asked bytes c) (slotsOf state) j code → Valid state c code
+  among-valid : (code : ℕ) → Among (forest state) (asked bytes c) (slotsOf state) j code → Valid state c code
   among-valid code (inl p) = (λ m. p .0, λ m. absurd (omega (arith, p .0)))
   among-valid code (inr p) = (λ m. absurd (omega (arith, p .2)), λ m. omega (arith, p .1, p .2))
+
+module _ {state bytes : List ℕ} {c : Scope} {notes : List ℕ} {j count : ℕ} (h : Planned (slotsOf state) j state bytes c notes count) (l : j < c .listed) where
+  -- the id of listed node j by its code
+  pub new-noted : {y : FullNodeId} → y ≡ codeNoted state c notes (320 + j) → y ≡ codeId (forest state) (asked bytes c) (320 + j)
+  new-noted e = e ∙ code-noted (omega arith) (h .told) (λ m. absurd (omega arith), λ m. omega arith)
+
+  -- the codes that are planned, and their ids
+  module _ {r : ℕ} (m : r < count) where
+    valid : Valid state c (codeIn notes r)
+    valid = among-valid state bytes c j l (codeIn notes r) (h .codes .are r m)
+
+    pub planned-room : codeIn notes r < 384
+    planned-room = code-room (omega arith) (h .told) valid
+
+    pub planned-noted : {y : FullNodeId} → y ≡ codeNoted state c notes (codeIn notes r) → y ≡ codeId (forest state) (asked bytes c) (codeIn notes r)
+    planned-noted e = e ∙ code-noted (omega arith) (h .told) valid

@@ -7,7 +7,7 @@ use Prim.Native.Nat.{ℕ, zero, suc, _+_, _-_, _*_, _≤_, _<_}
 use native.Mathlib.Omega.{arith}
 use lib.Dec.{eqb, ltb}
 use lib.ListN.{length, getD}
-use borrow.Author.Tests.{lt-ltb, ltb-true, eq-eqb, ne-eqb}
+use borrow.Author.Tests.{lt-ltb, ltb-true, ltb-false, eq-eqb, ne-eqb}
 use Rattle.base.specs.Tests.{_&&_, if_then_else_, isSome, all, sameOption, distinct}
 use Rattle.base.proofs.Tests.{both, bit-is}
 use Rattle.ids.specs.Ids.{sameNode, sameId}
@@ -27,6 +27,9 @@ use Rattle.update.proofs.Outcome.{nodeAfter, find-old-outcome, ascending-outcom
 use Rattle.update.proofs.Reports.{dataChanged, linkChanged, updated-is, relinked-is}
 use Rattle.calls.specs.declared.notes.Scope.{Scope}
 use Rattle.calls.specs.Layout.{TURNS, DIFFERS, CODES}
+use Rattle.calls.specs.Noted.{differNoted}
+use Rattle.calls.proofs.notes.Told.{few-listed}
+use Rattle.base.proofs.Cases.{by-test, by-order}
 use Rattle.calls.specs.Setting.{asked, forest, KeptForest}
 use Rattle.calls.specs.Codes.{nodeAt, idAt, slotAt, flag, differs, codeOf, changeOf}
 use Rattle.calls.specs.Says.{turnMark, turnWord, differWord, codeWord, changedWord, outcomeCount, Told, PLANNED}
@@ -129,7 +132,7 @@ module _ {state bytes : List ℕ} {c : Scope} {notes : List ℕ} (told : Told PL
   turn-word = told .written 5 (omega arith) i h
 
   -- a node without a turn
-  pub data-unlisted : getD notes (TURNS + i) 0 < 1 → false ≡ dataChanged (forest state) (asked bytes c) (nodeAt (forest state) i)
+  data-unlisted : getD notes (TURNS + i) 0 < 1 → false ≡ dataChanged (forest state) (asked bytes c) (nodeAt (forest state) i)
   data-unlisted e = sym (data-none (forest state) (asked bytes c) (told .given .kept) i within (omega (arith, turn-word)))
 
   module _ (e : 1 ≤ getD notes (TURNS + i) 0) where
@@ -137,15 +140,25 @@ module _ {state bytes : List ℕ} {c : Scope} {notes : List ℕ} (told : Told PL
     turn-is = omega (arith, turn-word)
 
     -- the turn of a node that is listed
-    pub turn-below : getD notes (TURNS + i) 0 - 1 < c .listed
+    turn-below : getD notes (TURNS + i) 0 - 1 < c .listed
     turn-below = omega (arith, turn-within (forest state) (asked bytes c) (idAt (forest state) i) _ turn-is, told .given .scoped .listed)
 
-    pub data-listed : eqb (getD notes (DIFFERS + (getD notes (TURNS + i) 0 - 1)) 0) 1 ≡ dataChanged (forest state) (asked bytes c) (nodeAt (forest state) i)
+    data-listed : eqb (getD notes (DIFFERS + (getD notes (TURNS + i) 0 - 1)) 0) 1 ≡ dataChanged (forest state) (asked bytes c) (nodeAt (forest state) i)
     unfolding differWord
     data-listed =
         ap (λ (m : ℕ). eqb m 1) (told .written 10 (omega arith) (getD notes (TURNS + i) 0 - 1) turn-below)
         ∙ bit-is (differs (forest state) (asked bytes c) (listedAt (asked bytes c) (getD notes (TURNS + i) 0 - 1)))
         ∙ data-at (forest state) (asked bytes c) (told .given .kept) i within (getD notes (TURNS + i) 0 - 1) turn-is
+
+  -- by the notes
+  data-noted : differNoted notes i ≡ dataChanged (forest state) (asked bytes c) (nodeAt (forest state) i)
+  unfolding differNoted
+  data-noted =
+      by-test (ltb (getD notes (TURNS + i) 0) 1) (λ t. rw t (data-unlisted (ltb-true _ 1 t))) (λ t. rw t (data-listed (ltb-false _ 1 t)))
+
+  -- the turn is low
+  turn-low : getD notes (TURNS + i) 0 ≤ 64
+  turn-low = by-order (getD notes (TURNS + i) 0) 1 (λ l. omega arith) (λ l. omega (arith, turn-below l, few-listed state bytes c (told .given)))
 
 -- ## Codes
 
@@ -242,9 +255,13 @@ module _ {state bytes : List ℕ} {c : Scope} {notes next : List ℕ} (given : O
     pub slot-below : getD notes (CODES + r) 0 < slotsOf state
     slot-below = omega (arith, is-old .1, here, forest-length state)
 
+    -- and its turn
+    pub turn-few : getD notes (TURNS + getD notes (CODES + r) 0) 0 ≤ 64
+    turn-few = turn-low (given .told) slot-below
+
     -- an old one
     pub changed-old : (before after : LinkRow) {v : ℕ} {other link pane parent : Bool} {x : FullNodeId} → v ≡ 2 * flag (other || link || pane) + 4 * flag parent
-        → other ≡ dataChanged s b (nodeAt s (getD notes (CODES + r) 0))
+        → other ≡ differNoted notes (getD notes (CODES + r) 0)
         → link ≡ (isSome (linkOf after) && not (sameOption sameLink (linkOf before) (linkOf after)))
         → x ≡ idIn next r → PaneRootIs c x pane
         → parent ≡ not (sameOption sameId (parentOf (linkOf before)) (parentOf (linkOf after)))
@@ -260,5 +277,5 @@ module _ {state bytes : List ℕ} {c : Scope} {notes next : List ℕ} (given : O
         ap linkOf after-is ∙ sym (forest-link next r h) ∙ ap (λ (f : Forest). nodeAt f r .parentAndIndex) (shows given) in
         let id-is : idIn next r ≡ idAt (outcome s b) r = sym (forest-id next r h) ∙ ap (λ (f : Forest). idAt f r) (shows given) in
         says
-        ∙ rw (d, l, p, m, old-link, new-link, id-is, ← is-old .1, is-old .0)
+        ∙ rw (d, data-noted (given .told) slot-below, l, p, m, old-link, new-link, id-is, ← is-old .1, is-old .0)
         (ap₂ (λ (t u : Bool). 2 * flag t + 4 * flag u) (sym (updated-by s b kept once r below here)) (sym (relinked-by s b kept once r below here)))

@@ -2,7 +2,7 @@
 use mathlib.Core.Bool.{Bool, true, false, not, _||_, false≢true}
 use mathlib.Core.List.{List, [], _∷_, _++_}
 use mathlib.Core.Option.{Option, none, some}
-use mathlib.Core.Path.{_≡_, refl, sym, ap, ap₂, _∙_}
+use mathlib.Core.Path.{_≡_, refl, sym, ap, ap₂, _∙_, subst}
 use Prim.Native.Nat.{ℕ, _+_, _*_, _<_}
 use native.Mathlib.Omega.{arith}
 use lib.Dec.{ltb}
@@ -20,7 +20,7 @@ use Rattle.state.specs.State.{NodeState, idsOf, Forest, find, present, State}
 use Rattle.state.specs.Sound.{ascending}
 use Rattle.state.proofs.State.{present-has}
 use Rattle.state.proofs.Order.{find-none, ascending-keep}
-use Rattle.state_array.specs.View.{slotsOf}
+use Rattle.state_array.specs.View.{slotsOf, view}
 use Rattle.update.specs.Words.{old}
 use Rattle.update.specs.Gone.{gone}
 use Rattle.update.specs.Outcome.{paneRoot, outcome}
@@ -31,15 +31,16 @@ use Rattle.state_focus.specs.Focus.{foundOf}
 use Rattle.state_focus.specs.declared.FoundNode.{FoundNode}
 use Rattle.state_focus.specs.declared.FoundNode.the-variants as node
 use Rattle.calls.specs.declared.notes.Scope.{Scope}
-use Rattle.calls.specs.Reported.{unlessBefore, unlessAfter, Reported, ReportOf}
-use Rattle.calls.specs.Layout.{GOES, CHANGED}
+use Rattle.calls.specs.Reported.{unlessBefore, unlessAfter, Reported, UpdateReported, ReportOf}
+use Rattle.calls.specs.Layout.{FATES, CHANGED}
 use Rattle.calls.specs.Setting.{asked, forest}
 use Rattle.calls.specs.Codes.{nodeAt, idAt, slotAt, flag, changeOf}
-use Rattle.calls.specs.Says.{goesWord, changedWord, REPORTED}
+use Rattle.calls.specs.Says.{goesWord, changedWord, outcomeState, REPORTED}
 use Rattle.calls.proofs.notes.Places.{slot-found, slot-present, slot-id, present-at}
 use Rattle.update_focus.proofs.Numbers.{forest-length}
 use Rattle.calls.specs.Outcomes.{changesIn, Outcomes}
-use Rattle.calls.specs.Slice.{picked}
+use Rattle.calls.specs.Slice.{picked, changesNoted, ListsWritten}
+use Rattle.calls.specs.declared.reports.Lists.{Lists}
 use Rattle.calls.proofs.reports.Changed.{shows, counted}
 use Rattle.calls.proofs.reports.Slice.{picked-ids}
 use Rattle.state.specs.Focus.{stateFocus}
@@ -202,61 +203,57 @@ module _ {state bytes : List ℕ} {c : Scope} {notes next : List ℕ} (given : O
   unfolding changedWord
   mark r h = given .told .written 14 (omega arith) r (omega (arith, counted given))
 
-  pub picked-added : picked 1 notes CHANGED next ≡ changesIn state bytes c .added
+  picked-added : picked 1 notes CHANGED next ≡ changesIn state bytes c .added
   unfolding changesOf changesWith added old
   picked-added =
       picked-ids 1 notes CHANGED next (outcome (forest state) (asked bytes c)) (shows given) (λ x. not (present (forest state .nodes) x))
       (λ r h. ap (bit 1) (mark r h) ∙ marks (forest state) (asked bytes c) (idAt (outcome (forest state) (asked bytes c)) r) .0)
 
-  pub picked-updated : picked 2 notes CHANGED next ≡ changesIn state bytes c .updated
+  picked-updated : picked 2 notes CHANGED next ≡ changesIn state bytes c .updated
   unfolding changesOf changesWith
   picked-updated =
       picked-ids 2 notes CHANGED next (outcome (forest state) (asked bytes c)) (shows given) (wasUpdated (forest state) (asked bytes c))
       (λ r h. ap (bit 2) (mark r h) ∙ marks (forest state) (asked bytes c) (idAt (outcome (forest state) (asked bytes c)) r) .1)
       ∙ updated-among (forest state) (asked bytes c) (given .told .given .kept .ascending)
 
-  pub picked-removed : picked 1 notes GOES state ≡ changesIn state bytes c .removed
+  picked-removed : picked 1 notes FATES state ≡ changesIn state bytes c .removed
   unfolding changesOf changesWith removed goesWord
   picked-removed =
-      picked-ids 1 notes GOES state (forest state) refl (λ x. not (present (outcome (forest state) (asked bytes c) .nodes) x))
+      picked-ids 1 notes FATES state (forest state) refl (λ x. not (present (outcome (forest state) (asked bytes c) .nodes) x))
       (λ i h. ap (bit 1) (given .told .written 9 (omega arith) i h)
       ∙ bit-flag (gone (forest state) (asked bytes c) (idAt (forest state) i))
       ∙ sym (removed-is (forest state) (asked bytes c) (idAt (forest state) i) (present-at (forest state) i (omega (arith, forest-length state)))))
 
-  pub picked-relinked : picked 4 notes CHANGED next ≡ changesIn state bytes c .relinked
+  picked-relinked : picked 4 notes CHANGED next ≡ changesIn state bytes c .relinked
   unfolding changesOf changesWith
   picked-relinked =
       picked-ids 4 notes CHANGED next (outcome (forest state) (asked bytes c)) (shows given) (wasRelinked (forest state) (asked bytes c))
       (λ r h. ap (bit 4) (mark r h) ∙ marks (forest state) (asked bytes c) (idAt (outcome (forest state) (asked bytes c)) r) .2)
       ∙ relinked-among (forest state) (asked bytes c) (given .told .given .kept .ascending)
 
-  -- ## A node by its marks
+  -- all of them
+  changes-noted : changesNoted state notes next ≡ changesIn state bytes c
+  unfolding changesOf changesWith
+  changes-noted = λ k. record { added = picked-added k; updated = picked-updated k; removed = picked-removed k; relinked = picked-relinked k }
 
-  module _ (found : FoundNode) {x : FullNodeId} (is : found ≡ node.At x) {t u : Bool} where
-    module _ (p : t ≡ has sameId (picked 2 notes CHANGED next) x) (q : u ≡ has sameId (picked 1 notes GOES state) x) where
-      marked-before : (t || u) ≡ has sameId (changesIn state bytes c .updated ++ changesIn state bytes c .removed) x
-      marked-before =
-          ap₂ _||_ (p ∙ ap (λ l. has sameId l x) picked-updated) (q ∙ ap (λ l. has sameId l x) picked-removed)
-          ∙ sym (any-append (sameId x) (changesIn state bytes c .updated) (changesIn state bytes c .removed))
+  pub lists-noted : {before after : List ℕ} {l : Lists} → ListsWritten (changesNoted state notes next) before after l → ListsWritten (changesIn state bytes c) before after l
+  lists-noted {before} {after} {l} w = subst (λ d. ListsWritten d before after l) changes-noted w
 
-      -- it is updated or removed, or neither
-      pub before-marked : (t || u) ≡ true → foundOf node.Nothing ≡ unlessBefore (changesIn state bytes c) (foundOf found)
-      unfolding foundOf
-      before-marked e = rw is (unless-there _ x (sym marked-before ∙ e))
+  pub report-noted : {r : Report} → Reported (view state) (view next) (changesNoted state notes next) r → UpdateReported state bytes c r
+  report-noted {r} w =
+      subst (λ d. Reported (view state) (outcomeState state bytes c) d r) changes-noted
+      (subst (λ n. Reported (view state) n (changesNoted state notes next) r) (given .next-is) w)
 
-      pub before-unmarked : (t || u) ≡ false → some x ≡ unlessBefore (changesIn state bytes c) (some x)
-      before-unmarked e = unless-absent _ x (sym marked-before ∙ e)
+-- ## A node by its marks
 
-    module _ (p : t ≡ has sameId (picked 1 notes CHANGED next) x) (q : u ≡ has sameId (picked 2 notes CHANGED next) x) where
-      marked-after : (t || u) ≡ has sameId (changesIn state bytes c .added ++ changesIn state bytes c .updated) x
-      marked-after =
-          ap₂ _||_ (p ∙ ap (λ l. has sameId l x) picked-added) (q ∙ ap (λ l. has sameId l x) picked-updated)
-          ∙ sym (any-append (sameId x) (changesIn state bytes c .added) (changesIn state bytes c .updated))
+module _ (xs ys : List FullNodeId) (found : FoundNode) {x : FullNodeId} (is : found ≡ node.At x) {t u : Bool} (p : t ≡ has sameId xs x) (q : u ≡ has sameId ys x) where
+  marked : (t || u) ≡ has sameId (xs ++ ys) x
+  marked = ap₂ _||_ p q ∙ sym (any-append (sameId x) xs ys)
 
-      -- it is added or updated, or neither
-      pub after-marked : (t || u) ≡ true → foundOf node.Nothing ≡ unlessAfter (changesIn state bytes c) (foundOf found)
-      unfolding foundOf
-      after-marked e = rw is (unless-there _ x (sym marked-after ∙ e))
+  -- it stands in one of two lists, or in neither
+  pub unless-marked : (t || u) ≡ true → foundOf node.Nothing ≡ unlessIn (xs ++ ys) (foundOf found)
+  unfolding foundOf
+  unless-marked e = rw is (unless-there _ x (sym marked ∙ e))
 
-      pub after-unmarked : (t || u) ≡ false → some x ≡ unlessAfter (changesIn state bytes c) (some x)
-      after-unmarked e = unless-absent _ x (sym marked-after ∙ e)
+  pub unless-unmarked : (t || u) ≡ false → some x ≡ unlessIn (xs ++ ys) (some x)
+  unless-unmarked e = unless-absent _ x (sym marked ∙ e)

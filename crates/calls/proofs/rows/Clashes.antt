@@ -3,6 +3,9 @@ use borrow.Author.Count.{below-more}
 use native.Mathlib.Nat.{zero-add}
 use Rattle.base.proofs.Regions.{fill-put}
 use Rattle.base.specs.Search.{First}
+use Rattle.base.proofs.Search.{first-any}
+use Rattle.calls.specs.Noted.{ClashRoom, clashNoted}
+use Rattle.calls.proofs.notes.Positions.{first-cong}
 use Rattle.calls.proofs.notes.Setting.{batched-facts}
 use Rattle.record.specs.Parse.{wellFormed, batchOf}
 use mathlib.Core.Bool.{Bool, true, false, not, false≢true}
@@ -13,12 +16,12 @@ use Prim.Native.Nat.{ℕ, _+_, _≤_, _<_}
 use native.Mathlib.Omega.{arith}
 use lib.Dec.{eqb, ltb}
 use lib.ListN.{length, getD, set, replicate, length-replicate}
-use borrow.Author.Tests.{ltb-true, ltb-false, eq-eqb, ne-eqb}
-use Rattle.base.specs.Tests.{_&&_, isSome, distinct}
+use borrow.Author.Tests.{ltb-true, ltb-false, eqb-true, eqb-false, eq-eqb, ne-eqb}
+use Rattle.base.specs.Tests.{_&&_, isSome, any, distinct}
 use Rattle.base.proofs.Cases.{by-test}
 use Rattle.base.proofs.Tests.{and-false, and-right, bit-is}
 use Rattle.record.specs.Batch.{sameData, Listed, Batch, listedIds}
-use Rattle.base.proofs.Loops.{Passing, any-at, any-passed, Filling, filling-begins, filling-goes}
+use Rattle.base.proofs.Loops.{Filling, filling-begins, filling-goes}
 use Rattle.calls.specs.Rows.{clashes}
 use Rattle.calls.specs.Parts.{ListedAgain}
 use Rattle.calls.specs.declared.rows.Again.{Again}
@@ -29,7 +32,7 @@ use Rattle.state_array.specs.View.{slotsOf}
 use Rattle.update.specs.Words.{here}
 use Rattle.update.specs.Gone.{gone}
 use Rattle.update.specs.Numbers.{updatedAndRemoved}
-use Rattle.calls.specs.Layout.{LISTED-SLOTS, GOES, DIFFERS}
+use Rattle.calls.specs.Layout.{LISTED-SLOTS, FATES, DIFFERS}
 use Rattle.calls.specs.declared.notes.Scope.{Scope}
 use Rattle.calls.specs.Setting.{asked, forest}
 use Rattle.calls.specs.Codes.{slotAt, idAt, differs}
@@ -149,7 +152,7 @@ module _ {state bytes : List ℕ} {c : Scope} {notes : List ℕ} (told : Told CO
   differs-is = ap (λ (m : ℕ). eqb m 1) (told .written 10 (omega arith) i h) ∙ bit-is (differs s b (listedAt b i))
 
   -- one that does not differ
-  pub clash-same : (getD notes (DIFFERS + i) 0 ≡ 1 → ⊥) → false ≡ updatedAndRemoved s b (listedAt b i)
+  clash-same : (getD notes (DIFFERS + i) 0 ≡ 1 → ⊥) → false ≡ updatedAndRemoved s b (listedAt b i)
   clash-same e = sym (clash-is s b (listedAt b i) ∙ rw (sym differs-is ∙ ne-eqb _ _ e) (and-false _))
 
   module _ (e : getD notes (DIFFERS + i) 0 ≡ 1) where
@@ -164,13 +167,13 @@ module _ {state bytes : List ℕ} {c : Scope} {notes : List ℕ} (told : Told CO
     slot-is = told .written 3 (omega arith) i h
 
     -- it has a slot
-    pub clash-within : getD notes (LISTED-SLOTS + i) 0 < slotsOf state
+    clash-within : getD notes (LISTED-SLOTS + i) 0 < slotsOf state
     clash-within =
         let within = ltb-true (slotAt s x) (length (s .nodes)) (sym (slot-present s x) ∙ differs-old s b (listedAt b i) other) in
         omega (arith, slot-is, forest-length state)
 
     -- whose mark says whether it goes
-    pub clash-goes : eqb (getD notes (GOES + getD notes (LISTED-SLOTS + i) 0) 0) 1 ≡ updatedAndRemoved s b (listedAt b i)
+    clash-goes : eqb (getD notes (FATES + getD notes (LISTED-SLOTS + i) 0) 0) 1 ≡ updatedAndRemoved s b (listedAt b i)
     unfolding goesWord
     clash-goes =
         ap (λ (m : ℕ). eqb m 1) (told .written 9 (omega arith) (getD notes (LISTED-SLOTS + i) 0) clash-within)
@@ -179,15 +182,29 @@ module _ {state bytes : List ℕ} {c : Scope} {notes : List ℕ} (told : Told CO
         ∙ ap (gone s b) (slot-id s x (omega (arith, clash-within, slot-is, forest-length state)))
         ∙ sym (clash-is s b (listedAt b i) ∙ rw other (and-right _))
 
+  -- by the notes
+  clash-noted : clashNoted notes i ≡ updatedAndRemoved s b (listedAt b i)
+  unfolding clashNoted
+  clash-noted =
+      by-test (eqb (getD notes (DIFFERS + i) 0) 1) (λ t. rw t (clash-goes (eqb-true (getD notes (DIFFERS + i) 0) 1 t)))
+      (λ t. rw t (clash-same (eqb-false (getD notes (DIFFERS + i) 0) 1 t)))
+
 -- ## All of them
 
-module _ {state bytes : List ℕ} {c : Scope} {notes : List ℕ} (told : Told COMPARED state bytes c notes) {i : ℕ} where
-  -- one does
-  pub clashes-some : {r : Bool} → i < c .listed → r ≡ updatedAndRemoved (forest state) (asked bytes c) (listedAt (asked bytes c) i) → r ≡ true → true ≡ clashes state bytes c
-  unfolding listedAt
-  clashes-some h e q = any-at _ (asked bytes c .nodes) noListed (told .given .scoped .listed) h e q
+module _ {state bytes : List ℕ} {c : Scope} {notes : List ℕ} (told : Told COMPARED state bytes c notes) where
+  -- those that differ have slots
+  pub clash-room : ClashRoom notes (c .listed)
+  clash-room i h e = omega (arith, clash-within told h e)
 
-  -- none does
-  pub clashes-none : Passing (λ j. updatedAndRemoved (forest state) (asked bytes c) (listedAt (asked bytes c) j)) (c .listed) i → c .listed ≤ i → false ≡ clashes state bytes c
+  -- the first that does
+  pub clash-first : {r : ℕ} → First (clashNoted notes) (c .listed) r → First (λ i. updatedAndRemoved (forest state) (asked bytes c) (listedAt (asked bytes c) i)) (c .listed) r
+  clash-first {r} f = first-cong _ _ (c .listed) r (λ i h. clash-noted told h) f
+
+  -- whether one does
+  pub clash-any : {r : ℕ} → First (clashNoted notes) (c .listed) r → ltb r (c .listed) ≡ clashes state bytes c
   unfolding listedAt
-  clashes-none g h = any-passed _ (asked bytes c .nodes) noListed g (told .given .scoped .listed) h
+  clash-any {r} f =
+      let at : ℕ → Listed = λ i. getD (asked bytes c .nodes) i noListed in
+      first-any (updatedAndRemoved (forest state) (asked bytes c)) (c .listed) at r (clash-first f)
+      ∙ ap (any (updatedAndRemoved (forest state) (asked bytes c)))
+      (ap (λ n. listOf n at) (told .given .scoped .listed) ∙ list-of-each noListed (asked bytes c .nodes) at (λ i l. refl))

@@ -12,7 +12,7 @@ use Rattle.record.specs.Batch.{Batch, Listed, namedIds}
 use Rattle.record_reader.specs.Reader.{noListed, listedAt, fieldAt, rootOrZero}
 use Rattle.state.specs.State.{Forest, find, linkAt, TreeEntry, SubtreeState, subtreeState, subtreeFrom, subtreeOf}
 use Rattle.state.specs.Sound as sound
-use Rattle.state.proofs.Pool.{childTotal}
+use Rattle.state_array.specs.Stored.{entriesOf}
 use Rattle.state_array.specs.View.{view}
 use Rattle.update.specs.Words.{withTreeData, treeNumber, here, rootAfter}
 use Rattle.update.specs.Calls.{seed, withoutTreeData}
@@ -147,7 +147,7 @@ asked-start s bytes c h = let b = batchOf bytes in ap (λ (t : Bool). withRoot b
 
 -- a start's forest, which has no node
 kept-seed : (b : Batch) → KeptForest (seed b)
-unfolding seed sound.ascending childTotal linkAt find
+unfolding seed sound.ascending entriesOf linkAt find
 kept-seed b = record {
   ascending = refl;
   few-nodes = omega arith;

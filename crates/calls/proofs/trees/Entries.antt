@@ -35,7 +35,7 @@ use Rattle.calls.specs.declared.notes.Scope.{Scope}
 use Rattle.calls.specs.Setting.{rootIn, asked, forest, Given}
 use Rattle.calls.proofs.notes.Positions.{first-cong, position-first, has-position}
 use Rattle.calls.specs.Trees.{treesAfter, treeAfter, ownEntry}
-use Rattle.calls.specs.Layout.{GOES}
+use Rattle.calls.specs.Layout.{FATES}
 use Rattle.calls.specs.Codes.{idAt, slotAt}
 use Rattle.calls.specs.Says.{Told, PLANNED, goesWord}
 use Rattle.calls.proofs.Outcome.Codes.{gone-absent}
@@ -240,7 +240,7 @@ module _ {state bytes : List ℕ} {c : Scope} {notes : List ℕ} (told : Told PL
       (slot-present (forest state) x ∙ le-ltb (slotAt (forest state) x) (length (forest state .nodes)) (omega (arith, slot, forest-length state))))
 
   -- of a node with one the mark tells
-  pub mark-tells : i < n → eqb (getD notes (GOES + i) 0) 1 ≡ gone (forest state) (asked bytes c) x
+  pub mark-tells : i < n → eqb (getD notes (FATES + i) 0) 1 ≡ gone (forest state) (asked bytes c) x
   unfolding goesWord
   mark-tells h =
       ap (λ (w : ℕ). eqb w 1) (told .written 9 (omega arith) i (omega arith))

@@ -4,9 +4,10 @@ use mathlib.Core.Option.{Option, none, some}
 use mathlib.Core.Path.{_≡_, refl, sym, ap, _∙_, subst}
 use Prim.Native.Nat.{ℕ, suc, _+_, _-_, _≤_, _<_}
 use native.Mathlib.Omega.{arith}
-use lib.Dec.{ltb}
+use lib.Dec.{eqb, ltb}
 use lib.ListN.{length, getD}
-use borrow.Author.Tests.{lt-ltb, le-ltb}
+use borrow.Author.Tests.{lt-ltb, le-ltb, eqb-true, eqb-false}
+use Rattle.base.proofs.Cases.{by-test}
 use Rattle.base.specs.Tests.{if_then_else_}
 use Rattle.base.specs.Search.{First}
 use Rattle.base.proofs.Tests.{both}
@@ -38,7 +39,8 @@ use Rattle.calls.proofs.notes.Positions.{first-given-at}
 use Rattle.calls.proofs.notes.Places.{find-at, forest-id, forest-link}
 use Rattle.update_focus.proofs.Numbers.{forest-length}
 use Rattle.calls.proofs.notes.Marks.{turn-listed, turn-none}
-use Rattle.calls.proofs.rows.Clashes.{differs-old, clash-is}
+use Rattle.calls.specs.Noted.{clashNoted, parentNoted}
+use Rattle.calls.proofs.rows.Clashes.{differs-old, clash-is, clash-first}
 use Rattle.calls.specs.declared.why_outcome.climb.Lost.{Lost}
 use Rattle.calls.specs.Climbs.{lostOf, droppedFrom, droppedAt, removedAt}
 
@@ -106,7 +108,7 @@ module _ {state bytes : List ℕ} {c : Scope} {notes : List ℕ} (told : Told PL
     link = record { parent = linkIn state at .parent; index = linkIn state at .index }
 
     -- the slot of its parent
-    pub above-within : getD notes (ABOVE + at) 0 < slotsOf state
+    above-within : getD notes (ABOVE + at) 0 < slotsOf state
     above-within = parent-there (told-fewer (omega arith) told) within linked
 
     above-id : idAt s (getD notes (ABOVE + at) 0) ≡ linkIn state at .parent
@@ -117,16 +119,13 @@ module _ {state bytes : List ℕ} {c : Scope} {notes : List ℕ} (told : Told PL
     above-turn = turn-at (told-fewer (omega arith) told) (getD notes (ABOVE + at) 0) above-within ∙ ap (turnMark s b) above-id
 
     -- it is listed, or not
-    module _ {l : LinkRow} (is : l ≡ linkIn state at) where
-      pub parent-unlisted : getD notes (TURNS + getD notes (ABOVE + at) 0) 0 ≡ 0 → node.Nothing ≡ found (dropper s b (linkIn state at .parent))
-      unfolding found dropper
-      parent-unlisted e = sym (rw (turn-none s b (linkIn state at .parent) (sym above-turn ∙ e)))
-
-      pub parent-listed : (getD notes (TURNS + getD notes (ABOVE + at) 0) 0 ≡ 0 → ⊥) → node.At (l .parent) ≡ found (dropper s b (linkIn state at .parent))
-      unfolding found dropper
-      parent-listed e =
-          let mark : 0 < turnMark s b (linkIn state at .parent) = omega (arith, above-turn) in
-          rw is (sym (rw (turn-listed s b (linkIn state at .parent) ∙ lt-ltb 0 _ mark)))
+    parent-noted : parentNoted notes at (linkIn state at .parent) ≡ found (dropper s b (linkIn state at .parent))
+    unfolding parentNoted found dropper
+    parent-noted =
+        let p = linkIn state at .parent in
+        let turn = getD notes (TURNS + getD notes (ABOVE + at) 0) 0 in
+        by-test (eqb turn 0) (λ t. rw (t, turn-none s b p (sym above-turn ∙ eqb-true turn 0 t)))
+        (λ t. let listed-there = eqb-false turn 0 t in let mark : 0 < turnMark s b p = omega (arith, above-turn) in rw (t, turn-listed s b p ∙ lt-ltb 0 _ mark))
 
     -- its fate
     under : {k : ℕ} → fateWord state bytes c at ≡ k → fateCode (fate s b x link) ≡ k
@@ -190,16 +189,17 @@ module _ {state bytes : List ℕ} {c : Scope} {notes : List ℕ} (told : Told PL
       here-stays h = sym (ap lostOf (dropped-here ∙ dropped-not (rw is at linked) (λ e. h (fares ∙ e))))
 
       -- it goes
-      pub here-goes : {p : FoundNode} → k ≡ 1 → p ≡ found (dropper s b (linkIn state at .parent))
+      pub here-goes : {p : FoundNode} → k ≡ 1 → p ≡ parentNoted notes at (l .parent)
           → record { node = node.At y; by = p } ≡ lostOf (droppedAt state bytes c at)
       unfolding lostOf found droppedNode droppedBy
       here-goes e by =
-          rw (id, by, ← forest-id state at within)
+          rw (id, by, is, parent-noted (rw is at linked), ← forest-id state at within)
           (sym (ap lostOf (dropped-here ∙ dropped-goes (rw is at linked) 0 (sym fares ∙ e))))
 
--- a row's link is the slot's
-pub still-linked : (state : List ℕ) (at : ℕ) {l : LinkRow} → (l .linked ≡ 0 → ⊥) → l ≡ linkIn state at → linkIn state at .linked ≡ 0 → ⊥
-still-linked state at h is = rw is at h
+-- the slot of its parent, as the code finds its link
+pub parent-room : {state bytes : List ℕ} {c : Scope} {notes : List ℕ} → Told PLANNED state bytes c notes → {at : ℕ} → at < slotsOf state
+    → {l : LinkRow} → l ≡ linkIn state at → (l .linked ≡ 0 → ⊥) → getD notes (ABOVE + at) 0 < 320
+parent-room told within is h = omega (arith, above-within told within (rw is at h))
 
 -- ## The climb
 
@@ -266,7 +266,10 @@ abbrev listedId : List ℕ → List ℕ → Scope → ℕ → FullNodeId
 listedId state bytes c i = here (forest state) (asked bytes c) (listedAt (asked bytes c) i .id)
 
 module _ {state bytes : List ℕ} {c : Scope} {notes : List ℕ} (told : Told PLANNED state bytes c notes) {i : ℕ}
-    (first : First (removedAt state bytes c) (c .listed) i) where
+    (noted : First (clashNoted notes) (c .listed) i) where
+  first : First (removedAt state bytes c) (c .listed) i
+  first = clash-first (told-fewer (omega arith) told) noted
+
   count : c .listed ≡ length (asked bytes c .nodes)
   count = told .given .scoped .listed
 

@@ -11,8 +11,11 @@ use Rattle.ids.specs.Ids.{ROOT}
 use Rattle.ids.specs.declared.TreeId.{TreeId}
 use Rattle.record.specs.Batch.{Batch, listedIds}
 use Rattle.state.specs.State.{Forest}
-use Rattle.update.specs.Reports.{changesOf, changeWords}
-use Rattle.calls.specs.Slice.{ListsWritten}
+use Rattle.update.specs.Reports.{changeWords}
+use Rattle.calls.specs.Outcomes.{changesIn, Outcomes}
+use Rattle.calls.specs.Says.{REPORTED}
+use Rattle.calls.specs.Slice.{ListsWritten, changesNoted}
+use Rattle.calls.proofs.reports.Picked.{lists-noted}
 use Rattle.calls.specs.declared.reports.Lists.{Lists}
 use Rattle.reasons.specs.Reasons.{Reason, accepted, notGrafted, notExisting, noNumberLeft}
 use Rattle.reasons.specs.Pass.{repeatedAfter}
@@ -22,7 +25,7 @@ use Rattle.reasons_why.proofs.Numbers.{proper, first-found, first-passed}
 use Rattle.calls.specs.Parts.{ungrafted, missing, full}
 use Rattle.record.specs.Parse.{batchOf}
 use Rattle.calls.specs.declared.notes.Scope.{Scope}
-use Rattle.calls.specs.Setting.{Scoped}
+use Rattle.calls.specs.Setting.{Scoped, asked, forest}
 use Rattle.calls.specs.WhyRows.{AgainIs}
 use Rattle.reasons_why.specs.declared.Why.{Why}
 use Rattle.reasons_why.specs.Why.{why, ofTree, whyOf, whyFor}
@@ -78,11 +81,15 @@ module _ (s : Forest) (bytes : List ℕ) {c : Scope} (scoped : Scoped s (batchOf
 -- ## Row 21
 
 -- the lists fit, or take more elements than are lent
-module _ (s : Forest) (b : Batch) (room : ℕ) {before after : List ℕ} {l : Lists} (h : ListsWritten (changesOf s b) before after l) where
-  pub slice-fits : {w : Why} → l .words ≤ room → w ≡ whyOf accepted → w ≡ whyFor (sliceReason s b room)
-  unfolding whyFor sliceReason
-  slice-fits fit e = rw (le-ltb room (length (changeWords (changesOf s b))) (rw (← h .words-are) fit)) e
+module _ {state bytes : List ℕ} {c : Scope} {notes next : List ℕ} (given : Outcomes REPORTED state bytes c notes next) (room : ℕ)
+    {before after : List ℕ} {l : Lists} (h : ListsWritten (changesNoted state notes next) before after l) where
+  words-are : l .words ≡ length (changeWords (changesIn state bytes c))
+  words-are = lists-noted given h .words-are
 
-  pub slice-short : room < l .words → why 21 0 (l .words) room ROOT none none none ≡ whyFor (sliceReason s b room)
+  pub slice-fits : {w : Why} → l .words ≤ room → w ≡ whyOf accepted → w ≡ whyFor (sliceReason (forest state) (asked bytes c) room)
+  unfolding whyFor sliceReason
+  slice-fits fit e = rw (le-ltb room (length (changeWords (changesIn state bytes c))) (rw (← words-are) fit)) e
+
+  pub slice-short : room < l .words → why 21 0 (l .words) room ROOT none none none ≡ whyFor (sliceReason (forest state) (asked bytes c) room)
   unfolding whyFor whyOf sliceReason
-  slice-short short = rw (lt-ltb room (length (changeWords (changesOf s b))) (rw (← h .words-are) short), h .words-are)
+  slice-short short = rw (lt-ltb room (length (changeWords (changesIn state bytes c))) (rw (← words-are) short), words-are)

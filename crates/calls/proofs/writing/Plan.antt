@@ -1,26 +1,26 @@
 -- What the notes say to the writer, of node r its code, its id, its link, its data; and the whole outcome. Assumes nothing.
-use Rattle.ids.specs.declared.FullNodeId.{FullNodeId}
 use mathlib.Core.List.{List}
 use mathlib.Core.Path.{_≡_, sym, _∙_, ap}
 use Prim.Native.Nat.{ℕ, _+_, _-_, _≤_, _<_}
 use native.Mathlib.Omega.{arith}
 use lib.ListN.{length, getD, replicate}
 use Rattle.record.specs.Batch.{Batch, NodeData, fieldsOk}
-use Rattle.record_reader.specs.Reader.{listedAt}
 use Rattle.state.specs.State.{Forest, NodeState}
-use Rattle.state_array.specs.View.{idIn, nodeIn}
+use Rattle.state_array.specs.View.{nodeIn}
 use Rattle.state_array.specs.Stored.{noState, entriesOf, bodyOf, headWord, stored}
-use Rattle.update.specs.Words.{here}
 use Rattle.update.specs.Outcome.{linkAfter, outcome}
 use Rattle.calls.specs.declared.notes.Scope.{Scope}
-use Rattle.calls.specs.Layout.{LISTED, COUNT, CODES, SOURCES}
+use Rattle.calls.specs.Layout.{COUNT, CODES, SOURCES}
 use Rattle.calls.specs.Setting.{asked, forest}
 use Rattle.calls.specs.Codes.{idAt, codeId, codeLink, Coded, SourceOf, codeOf, sourceOf, nodeAt}
-use Rattle.calls.specs.Says.{Told, COMPARED, PLANNED, listedWord, codeWord, sourceWord, outcomeState}
-use Rattle.calls.proofs.notes.Places.{forest-id, forest-node}
+use Rattle.calls.specs.Says.{Told, COMPARED, PLANNED, codeWord, sourceWord, outcomeState}
+use Rattle.calls.specs.Noted.{codeNoted}
+use Rattle.calls.specs.Plan.{Valid}
+use Rattle.calls.proofs.notes.Places.{forest-node}
+use Rattle.calls.proofs.notes.Noted.{code-noted, code-room}
 use Rattle.update_focus.proofs.Numbers.{forest-length}
 use Rattle.calls.proofs.notes.Told.{few-listed, few-named, few-after, batched}
-use Rattle.calls.proofs.Outcome.Codes.{code-old, code-new, coded, code-id}
+use Rattle.calls.proofs.Outcome.Codes.{coded, code-id}
 use Rattle.calls.proofs.Outcome.Nodes.{code-link, source-of}
 use Rattle.calls.proofs.Outcome.Room.{entries-few, trees-few}
 use Rattle.calls.specs.Written.{nodesAfter, nodesWritten, childrenWritten}
@@ -79,8 +79,17 @@ module _ {state bytes : List ℕ} {c : Scope} {notes : List ℕ} (told : Told PL
     pub code-there : Coded (forest state) (asked bytes c) (getD notes (CODES + r) 0)
     code-there = rw code-told (coded s b (told .given .kept) listed-room (told .given .once) r l)
 
-    pub id-there : codeId (forest state) (asked bytes c) (getD notes (CODES + r) 0) ≡ getD (nodesAfter state bytes c) r noState .id
-    id-there = rw code-told (code-id s b (told .given .kept) listed-room (told .given .once) r l)
+    code-valid : Valid state c (getD notes (CODES + r) 0)
+    code-valid = (
+      λ h. omega (arith, code-there .stays h .0, forest-length state),
+      λ h. omega (arith, code-there .new h .0, told .given .scoped .listed),
+    )
+
+    pub code-few : getD notes (CODES + r) 0 < 384
+    code-few = code-room (omega arith) told code-valid
+
+    pub id-there : codeNoted state c notes (getD notes (CODES + r) 0) ≡ getD (nodesAfter state bytes c) r noState .id
+    id-there = code-noted (omega arith) told code-valid ∙ rw code-told (code-id s b (told .given .kept) listed-room (told .given .once) r l)
 
     pub link-there : linkAfter (forest state) (asked bytes c) (codeId (forest state) (asked bytes c) (getD notes (CODES + r) 0)) (codeLink (forest state) (asked bytes c) (getD notes (CODES + r) 0))
         ≡ getD (nodesAfter state bytes c) r noState .parentAndIndex
@@ -89,22 +98,6 @@ module _ {state bytes : List ℕ} {c : Scope} {notes : List ℕ} (told : Told PL
     -- where its data comes from
     pub source-there : SourceOf (forest state) (asked bytes c) (getD notes (SOURCES + r) 0) (getD (nodesAfter state bytes c) r noState .body)
     source-there = rw source-told (source-of s b (told .given .kept) listed-room (told .given .once) r l)
-
-  -- ## The id of a code
-
-  module _ {code : ℕ} (there : Coded (forest state) (asked bytes c) code) where
-    pub slot-id : {y : FullNodeId} → code < 320 → y ≡ idIn state code → y ≡ codeId (forest state) (asked bytes c) code
-    slot-id h e = e ∙ sym (code-old s b code h ∙ forest-id state code (rw (forest-length state) at (there .stays h .0)))
-
-    -- a listed node's place
-    pub listed-place : 320 ≤ code → code - 320 < 64
-    listed-place h = omega (arith, there .new h .0, listed-room)
-
-    pub listed-id : 320 ≤ code → record { tree = c .tree; node = record { 0 = getD notes (LISTED + (code - 320)) 0 } } ≡ codeId (forest state) (asked bytes c) code
-    unfolding here listedWord
-    listed-id h =
-        let word : getD notes (LISTED + (code - 320)) 0 ≡ listedAt b (code - 320) .id .0 = told .written 0 (omega arith) (code - 320) (omega (arith, there .new h .0, told .given .scoped .listed)) in
-        (λ z. record { tree = told .given .scoped .tree z; node = record { 0 = word z } }) ∙ sym (code-new s b code h)
 
 module _ {state bytes : List ℕ} {c : Scope} {notes : List ℕ} (told : Told PLANNED state bytes c notes) {r : ℕ} (l : r < length (nodesAfter state bytes c)) where
   pub body-there : {d : Body} → BodyIs state bytes (getD notes (SOURCES + r) 0) d → d ≡ bodyOf (getD (nodesAfter state bytes c) r noState .body)

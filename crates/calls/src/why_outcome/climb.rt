@@ -1,18 +1,18 @@
-// A listed node that is updated and removed, and the climb by the old links to the node whose own fate it is to go.
+// The climb by the old links from a node that goes to the node whose own fate it is to go.
 ghost use mathlib.Core.Path.{_≡_};
-ghost use Prim.Native.Nat.{_<_};
-ghost use Rattle.base.specs.Search.{First};
-ghost use Rattle.reasons.specs.Outcome.{dropper};
-ghost use Rattle.reasons_why.specs.Why.{found};
-ghost use Rattle.calls.specs.Climbs.{lostOf, removedAt, droppedFrom, droppedAt};
-ghost use Rattle.state_array.specs.View.{slotsOf, linkIn, view};
+ghost use Prim.Native.Nat.{_+_, _<_};
+ghost use lib.ListN.{getD};
+ghost use Rattle.state_array.specs.Layout.{SLOTS};
+ghost use Rattle.state_array.specs.View.{slotsOf};
+ghost use Rattle.calls.specs.Layout.{ABOVE};
+ghost use Rattle.calls.specs.Climbs.{lostOf, droppedFrom, droppedAt};
+ghost use Rattle.calls.specs.Noted.{parentNoted};
 ghost use Rattle.calls.specs.Says.{Told, PLANNED};
-ghost use Rattle.calls.specs.Setting.{asked};
 use crate::gone;
 use crate::notes;
 use crate::notes::Notes;
 use crate::notes::Scope;
-use crate::rows;
+use ids::FullNodeId;
 use state_array::State;
 use state_focus::FoundNode;
 
@@ -20,27 +20,6 @@ use state_focus::FoundNode;
 pub(crate) struct Lost {
     pub node: FoundNode,
     pub by: FoundNode,
-}
-
-// The first listed node that is updated and removed, or their number.
-pub(crate) fn first_removed<'a>(
-    state: &'a State,
-    batch: &'a [u8],
-    scope: Scope,
-    notes: &'a Notes,
-) -> usize
-    requires { ⌜ Told PLANNED (now state) (now batch) scope (now notes) ⌝ }
-    ensures { λ r. ⌜ First (removedAt (now (state .entry)) (now (batch .entry)) scope) (scope .listed) r ⌝ }
-{
-    let k = scope.listed;
-    let mut i = 0usize;
-    while i < k {
-        if rows::clashes_at(state, batch, scope, notes, i) {
-            return i;
-        }
-        i += 1;
-    }
-    k
 }
 
 // Climbing from the node in a slot: the node that lost its place, and by whom.
@@ -112,25 +91,15 @@ fn dropped_here<'a>(
     }
     Lost {
         node: FoundNode::At(x),
-        by: listed_parent(state, batch, scope, notes, at),
+        by: listed_parent(notes, at, l.parent),
     }
 }
 
-// The parent of the node in a slot, if it is listed.
-fn listed_parent<'a>(
-    state: &'a State,
-    batch: &'a [u8],
-    scope: Scope,
-    notes: &'a Notes,
-    at: usize,
-) -> FoundNode
-    requires { ⌜ Told PLANNED (now state) (now batch) scope (now notes) ⌝ }
-    requires { ⌜ at < slotsOf (now state) ⌝ }
-    requires { ⌜ (linkIn (now state) at .linked ≡ 0 → ⊥) ⌝ }
-    ensures { λ r. ⌜ r ≡ found (dropper (view (now (state .entry)) .forest) (asked (now (batch .entry)) scope) (linkIn (now (state .entry)) at .parent)) ⌝ }
+// The parent p of the node in a slot, if it is listed.
+fn listed_parent(notes: &Notes, at: usize, p: FullNodeId) -> FoundNode
+    requires { ⌜ (at < SLOTS) × (getD (now notes) (ABOVE + at) 0 < SLOTS) ⌝ }
+    ensures { λ r. ⌜ r ≡ parentNoted (now (notes .entry)) at p ⌝ }
 {
-    let l = state_array::link_at(state, at);
-    let p = l.parent;
     let above = notes[notes::ABOVE + at] as usize;
     if notes[notes::TURNS + above] == 0 {
         return FoundNode::Nothing;

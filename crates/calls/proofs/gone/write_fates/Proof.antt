@@ -1,6 +1,6 @@
 -- `gone::write_fates` meets its contract. Assumes nothing.
 use Prim.Native.Nat.{_-_}
-use Rattle.calls.specs.Layout.{GOES}
+use Rattle.calls.specs.Layout.{FATES}
 use Rattle.calls.proofs.notes.Columns.{holds-fill}
 use Rattle.calls.proofs.notes.Told.{told-fill}
 use Rattle.calls.specs.Fates.{fateWord, ABOVE-TOLD}
@@ -15,18 +15,18 @@ abbrev μ-loop : tie.MeasureT-loop
 μ-loop state batch scope notes₀ n i₀ notes i = n - i
 
 abbrev Inv-loop : tie.InvT-loop
-Inv-loop state batch scope notes₀ n i₀ notes i = Filling GOES n n (fateWord state batch scope) notes₀ i notes
+Inv-loop state batch scope notes₀ n i₀ notes i = Filling FATES n n (fateWord state batch scope) notes₀ i notes
 
 fate-at-requires : tie.Need-fate-at-requires Inv-loop μ-loop
 fate-at-requires c κs =
     let told = c .before .before .before .before .before .pre in
-    (rw (c .before .before .loop .inv .filled) (told-fill _ _ _ _ ABOVE-TOLD told GOES _ _ (omega arith)), omega (arith, c .before .before .before .slots .ensures))
+    (rw (c .before .before .loop .inv .filled) (told-fill _ _ _ _ ABOVE-TOLD told FATES _ _ (omega arith)), omega (arith, c .before .before .before .slots .ensures))
 
 returns : tie.Need-returns Inv-loop μ-loop
 returns c =
     let told = c .before .before .before .before .pre in
     rw (filling-ends (c .before .loop .inv) (c .loop-test .left), c .before .before .slots .ensures)
-    (fated _ _ _ _ (told-fill _ _ _ _ ABOVE-TOLD told GOES _ _ (omega arith)) (holds-fill GOES _ _ _ (omega (arith, told .long))))
+    (fated _ _ _ _ (told-fill _ _ _ _ ABOVE-TOLD told FATES _ _ (omega arith)) (holds-fill FATES _ _ _ (omega (arith, told .long))))
 
 pub write-fates-spec : {M : Type 1} → statement M
 write-fates-spec =

@@ -2,6 +2,7 @@
 use Rattle.calls.proofs.notes.Told.{few-listed}
 use Rattle.calls.proofs.links.Elsewhere.{elsewhere-own, elsewhere-kept, elsewhere-claimed}
 use borrow.Author.Needs.{needs}
+use native.Mathlib.Omega.{arith}
 use Rattle.calls.proofs.links.link_elsewhere.Statement.{statement}
 use Rattle.calls.proofs.links.link_elsewhere.Tie as tie
 
@@ -12,5 +13,6 @@ link-elsewhere-spec =
     (λ c. search elsewhere-own)
     (λ c κs. search few-listed)
     (λ c. search elsewhere-kept)
-    (λ c κs. search needs) (λ c κs. search needs)
+    (λ c κs. omega (arith, few-listed))
+    (λ c κs. search needs)
     (λ c. search elsewhere-claimed))

@@ -1,12 +1,12 @@
 -- `plan::place_of` meets its contract: codes below `low` come before the listed node, and those from `high` on do not. Assumes nothing.
-use Prim.Native.Nat.{_+_, _-_, _/_}
+use Prim.Native.Nat.{_-_}
 use Rattle.ids.specs.Ids.{before}
 use Rattle.calls.specs.Setting.{asked, forest}
 use Rattle.calls.specs.Codes.{codeId}
 use Rattle.calls.proofs.notes.Told.{few-listed}
 use Rattle.calls.specs.Plan.{codeIn}
 use Rattle.calls.proofs.plan.Codes.{Between, between-all, between-above, between-below, between-ends}
-use Rattle.calls.proofs.plan.Planned.{among-valid}
+use Rattle.calls.proofs.plan.Planned.{new-noted, planned-room, planned-noted}
 use borrow.Author.Needs.{needs}
 use native.Mathlib.Omega.{arith}
 use Rattle.calls.proofs.plan.place_of.Statement.{statement}
@@ -20,19 +20,17 @@ Inv-loop state batch scope notes j count x low₀ high₀ low high = Between (λ
 
 id-of-requires-2 : tie.Need-id-of-requires-2 Inv-loop μ-loop
 id-of-requires-2 c κs =
-    let s = c .before .before .before .before .before in
-    let l = c .before .before .loop in
-    (s .pre .0 .told, among-valid _ _ _ _ (s .pre .1) _ (s .pre .0 .codes .are (l .low + (l .high - l .low) / 2) (omega arith)))
+    let s = c .before .before .before .before .before in planned-room (s .pre .0) (s .pre .1) (omega arith)
 
 loop-again : tie.Need-loop-again Inv-loop μ-loop
 loop-again c =
     let s = c .before .before .before .before .before .before .before .before in
-    between-above _ (s .pre .0 .codes .up) (c .before .before .before .before .before .loop .inv) _ (omega arith) (omega arith) (c .before .before .id-of2 .ensures) (c .before .is-before .ensures) (c .if1 .taken)
+    between-above _ (s .pre .0 .codes .up) (c .before .before .before .before .before .loop .inv) _ (omega arith) (omega arith) (planned-noted (s .pre .0) (s .pre .1) (omega arith) (c .before .before .id-of2 .ensures)) (c .before .is-before .ensures) (c .if1 .taken)
 
 loop-again-2 : tie.Need-loop-again-2 Inv-loop μ-loop
 loop-again-2 c =
     let s = c .before .before .before .before .before .before .before .before in
-    between-below _ (s .pre .0 .codes .up) (c .before .before .before .before .before .loop .inv) _ (omega arith) (omega arith) (c .before .before .id-of2 .ensures) (c .before .is-before .ensures) (c .if1 .left)
+    between-below _ (s .pre .0 .codes .up) (c .before .before .before .before .before .loop .inv) _ (omega arith) (omega arith) (planned-noted (s .pre .0) (s .pre .1) (omega arith) (c .before .before .id-of2 .ensures)) (c .before .is-before .ensures) (c .if1 .left)
 
 pub place-of-spec : {M : Type 1} → statement M
 place-of-spec =
@@ -41,7 +39,7 @@ place-of-spec =
     Inv-loop
     μ-loop
     (λ c. omega (arith, few-listed))
-    (λ c κs. (c .before .pre .0 .told, omega arith))
+    (λ c κs. omega (arith, few-listed))
     (λ c. between-all _ _ _)
     (λ c. omega (arith, few-listed)) (λ c. omega (arith, few-listed)) (λ c. omega (arith, few-listed)) (λ c. omega (arith, few-listed))
     (λ c. omega (arith, few-listed))
@@ -52,4 +50,4 @@ place-of-spec =
     loop-again
     (λ c. search needs)
     loop-again-2
-    (λ c. search between-ends))
+    (λ c. search (between-ends, new-noted)))

@@ -1,5 +1,5 @@
 -- `reports::change_at` meets its contract: by the node's code, its data, its links and whether it is marked. Assumes nothing.
-use Rattle.calls.proofs.reports.Changed.{changed-new, slot-below, changed-old}
+use Rattle.calls.proofs.reports.Changed.{changed-new, turn-few, changed-old}
 use borrow.Author.Needs.{needs}
 use Rattle.calls.proofs.reports.change_at.Statement.{statement}
 use Rattle.calls.proofs.reports.change_at.Tie as tie
@@ -11,6 +11,6 @@ change-at-spec =
     (λ c. search needs) (λ c. search needs) (λ c. search needs)
     (λ c. search changed-new)
     (λ c κs. search needs) (λ c κs. search needs)
-    (λ c κs. search slot-below)
+    (λ c κs. search turn-few)
     (λ c κs. search needs) (λ c κs. search needs) (λ c κs. search needs) (λ c κs. search needs) (λ c κs. search needs)
     (λ c. search changed-old))

@@ -1,7 +1,5 @@
 -- `reports::data_differs` meets its contract: by the turn of the node, and the mark of the node listed there. Assumes nothing.
-use native.Mathlib.Omega.{arith}
-use Rattle.calls.proofs.notes.Told.{few-listed}
-use Rattle.calls.proofs.reports.Changed.{data-unlisted, turn-below, data-listed}
+use Rattle.calls.proofs.notes.Noted.{differ-unlisted, differ-listed}
 use borrow.Author.Needs.{needs}
 use Rattle.calls.proofs.reports.data_differs.Statement.{statement}
 use Rattle.calls.proofs.reports.data_differs.Tie as tie
@@ -11,8 +9,6 @@ data-differs-spec =
     tie.close
     (tie.spec
     (λ c. search needs) (λ c. search needs) (λ c. search needs)
-    (λ c. search data-unlisted)
-    (λ c. omega (arith, few-listed, turn-below (c .before .before .pre .0) (c .before .before .pre .1) (c .if1 .left)))
-    (λ c. omega (arith, few-listed, turn-below (c .before .before .pre .0) (c .before .before .pre .1) (c .if1 .left)))
-    (λ c. omega (arith, few-listed, turn-below (c .before .before .pre .0) (c .before .before .pre .1) (c .if1 .left)))
-    (λ c. search data-listed))
+    (λ c. search differ-unlisted)
+    (λ c. search needs) (λ c. search needs) (λ c. search needs)
+    (λ c. search differ-listed))

@@ -1,8 +1,6 @@
 -- `reports::unless_before` meets its contract: the marks pick the updated and the removed nodes. Assumes nothing.
 use Rattle.state_focus.specs.Focus.{foundOf}
-use Rattle.calls.proofs.reports.Picked.{before-marked, before-unmarked, unless-none}
-use Rattle.calls.proofs.reports.Changed.{ascending-next}
-use native.Mathlib.Omega.{arith}
+use Rattle.calls.proofs.reports.Picked.{unless-marked, unless-unmarked, unless-none}
 use borrow.Author.Needs.{needs}
 use Rattle.calls.proofs.reports.unless_before.Statement.{statement}
 use Rattle.calls.proofs.reports.unless_before.Tie as tie
@@ -13,7 +11,7 @@ unless-before-spec =
     (tie.spec
     (λ c. search needs) (λ c. search needs)
     (λ c. unfold foundOf in (rw (c .enum-told .given .1) (unless-none _)))
-    (λ c κs. (record { within = omega arith; some = omega arith }, search ascending-next))
     (λ c κs. search needs)
-    (λ c. search before-marked)
-    (λ c. unfold foundOf in (rw (c .before .before .before .before .found .given .1) (search before-unmarked))))
+    (λ c κs. search needs)
+    (λ c. search unless-marked)
+    (λ c. unfold foundOf in (rw (c .before .before .before .before .found .given .1) (search unless-unmarked))))

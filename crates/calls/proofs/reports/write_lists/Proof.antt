@@ -1,15 +1,13 @@
 -- `reports::write_lists` meets its contract: the lists one after another, if there is room. Assumes nothing.
 use denote.Ref.{now}
-use mathlib.Core.Path.{_≡_, refl, ap, _∙_}
+use mathlib.Core.Path.{_≡_, refl}
 use Prim.Native.Nat.{_+_, _*_, _≤_}
 use lib.ListN.{length}
 use borrow.Author.Tests.{leb-true}
 use native.Mathlib.Omega.{arith}
 use Rattle.base.proofs.Tests.{not-true, not-false}
-use Rattle.calls.specs.Layout.{GOES, CHANGED}
-use Rattle.calls.specs.Outcomes.{changesIn}
-use Rattle.calls.specs.Slice.{picked}
-use Rattle.calls.proofs.reports.Picked.{picked-added, picked-updated, picked-removed, picked-relinked}
+use Rattle.calls.specs.Layout.{FATES, CHANGED}
+use Rattle.calls.specs.Slice.{picked, changesNoted}
 use Rattle.calls.proofs.reports.Slice.{picked-count, lists-short, lists-slice-after}
 use borrow.Author.Needs.{needs}
 use Rattle.calls.proofs.reports.write_lists.Statement.{statement}
@@ -17,43 +15,38 @@ use Rattle.calls.proofs.reports.write_lists.Tie as tie
 
 -- the counts are the lengths of what is picked
 counts : (c : tie.After-count-of4)
-    → let a = c .before .before .before .before .before .before .before .before .args in
+    → let a = c .before .before .before .before .before .before .before .args in
     (c .before .before .before .count-of .result ≡ length (picked 1 (now (a .notes)) CHANGED (now (a .next))))
     × (c .before .before .count-of2 .result ≡ length (picked 2 (now (a .notes)) CHANGED (now (a .next))))
-    × (c .before .count-of3 .result ≡ length (picked 1 (now (a .notes)) GOES (now (a .state))))
+    × (c .before .count-of3 .result ≡ length (picked 1 (now (a .notes)) FATES (now (a .state))))
     × (c .count-of4 .result ≡ length (picked 4 (now (a .notes)) CHANGED (now (a .next))))
 counts c =
-    let a = c .before .before .before .before .before .before .before .before .args in
+    let a = c .before .before .before .before .before .before .before .args in
     let m = c .before .before .before .before .slots2 .ensures in
     let n = c .before .before .before .before .before .slots .ensures in (
       picked-count 1 (now (a .notes)) CHANGED (now (a .next)) _ _ (c .before .before .before .count-of .ensures) m,
       picked-count 2 (now (a .notes)) CHANGED (now (a .next)) _ _ (c .before .before .count-of2 .ensures) m,
-      picked-count 1 (now (a .notes)) GOES (now (a .state)) _ _ (c .before .count-of3 .ensures) n,
+      picked-count 1 (now (a .notes)) FATES (now (a .state)) _ _ (c .before .count-of3 .ensures) n,
       picked-count 4 (now (a .notes)) CHANGED (now (a .next)) _ _ (c .count-of4 .ensures) m,
     )
 
 -- so there is room for all that is picked
 fits : (c : tie.Else1)
-    → let a = c .before .before .before .before .before .before .before .before .before .args in
+    → let a = c .before .before .before .before .before .before .before .before .args in
     2
     * (length (picked 1 (now (a .notes)) CHANGED (now (a .next)))
     + length (picked 2 (now (a .notes)) CHANGED (now (a .next)))
-    + length (picked 1 (now (a .notes)) GOES (now (a .state)))
+    + length (picked 1 (now (a .notes)) FATES (now (a .state)))
     + length (picked 4 (now (a .notes)) CHANGED (now (a .next))))
     ≤ length (now (a .changes))
 fits c = let k = counts (c .before) in rw (← k .0, ← k .1, ← k .2, ← k .3) (leb-true _ _ (not-false (c .if1 .left)))
 
 returns : tie.Need-returns
 returns c =
-    let s = c .before .before .before .before .before .before .before .before .before in
+    let s = c .before .before .before .before .before .before .before .before in
     let a = s .args in
     let k = counts (c .before) in
-    lists-short (changesIn (now (a .state)) (now (a .batch)) (a .scope)) (now (a .changes)) _
-    (k .0 ∙ ap length (picked-added (s .pre)))
-    (k .1 ∙ ap length (picked-updated (s .pre)))
-    (k .2 ∙ ap length (picked-removed (s .pre)))
-    (k .3 ∙ ap length (picked-relinked (s .pre)))
-    refl refl (not-true (c .if1 .taken))
+    lists-short (changesNoted (now (a .state)) (now (a .notes)) (now (a .next))) (now (a .changes)) _ (k .0) (k .1) (k .2) (k .3) refl refl (not-true (c .if1 .taken))
 
 returns-2 : tie.Need-returns-2
 returns-2 c =
@@ -62,16 +55,11 @@ returns-2 c =
     let two = three .before .before .before .before in
     let one = two .before .before .before .before in
     let e = one .before .before in
-    let s = e .before .before .before .before .before .before .before .before .before in
+    let s = e .before .before .before .before .before .before .before .before in
     let a = s .args in
     let k = counts (e .before) in
-    let added = picked-added (s .pre) in
-    let updated = picked-updated (s .pre) in
-    let removed = picked-removed (s .pre) in
-    let relinked = picked-relinked (s .pre) in
-    lists-slice-after (changesIn (now (a .state)) (now (a .batch)) (a .scope)) (now (a .changes)) _ (k .0 ∙ ap length added) (k .1 ∙ ap length updated)
-    (k .2 ∙ ap length removed) (k .3 ∙ ap length relinked) refl refl (not-false (e .if1 .left)) _ _ _ _ _ _ _ _ (rw added at (one .write-list .ensures))
-    (rw updated at (two .write-list2 .ensures)) (rw removed at (three .write-list3 .ensures)) (rw relinked at (four .write-list4 .ensures))
+    lists-slice-after (changesNoted (now (a .state)) (now (a .notes)) (now (a .next))) (now (a .changes)) _ (k .0) (k .1) (k .2) (k .3) refl refl (not-false (e .if1 .left))
+    _ _ _ _ _ _ _ _ (one .write-list .ensures) (two .write-list2 .ensures) (three .write-list3 .ensures) (four .write-list4 .ensures)
 
 pub write-lists-spec : {M : Type 1} → statement M
 write-lists-spec =

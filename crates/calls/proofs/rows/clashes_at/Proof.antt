@@ -1,5 +1,5 @@
 -- `rows::clashes_at` meets its contract: a node that differs has a slot, whose mark says whether it goes. Assumes nothing.
-use Rattle.calls.proofs.rows.Clashes.{clash-same, clash-within, clash-goes}
+use Rattle.calls.proofs.notes.Noted.{clash-alike, clash-differs}
 use borrow.Author.Needs.{needs}
 use native.Mathlib.Omega.{arith}
 use Rattle.calls.proofs.rows.clashes_at.Statement.{statement}
@@ -10,9 +10,9 @@ clashes-at-spec =
     tie.close
     (tie.spec
     (λ c. search needs) (λ c. search needs) (λ c. search needs)
-    (λ c. search clash-same)
+    (λ c. search clash-alike)
     (λ c. search needs) (λ c. search needs) (λ c. search needs)
-    (λ c. omega (arith, clash-within (c .before .before .before .pre .0) (c .before .before .before .pre .1 .0) (c .before .if1 .left)))
-    (λ c. omega (arith, clash-within (c .before .before .before .pre .0) (c .before .before .before .pre .1 .0) (c .before .if1 .left)))
-    (λ c. omega (arith, clash-within (c .before .before .before .pre .0) (c .before .before .before .pre .1 .0) (c .before .if1 .left)))
-    (λ c. search clash-goes))
+    (λ c. omega (arith, c .before .before .before .pre .1 (c .before .if1 .left)))
+    (λ c. omega (arith, c .before .before .before .pre .1 (c .before .if1 .left)))
+    (λ c. omega (arith, c .before .before .before .pre .1 (c .before .if1 .left)))
+    (λ c. search clash-differs))

@@ -16,5 +16,6 @@ named-twice-spec =
     (λ c. omega (arith, first-within (c .before .before .before .pre .0) (c .before .before .before .args .j) (c .position-in .ensures)))
     (λ c κs. omega (arith, few-named, first-within (c .before .before .before .pre .0) (c .before .before .before .args .j) (c .position-in .ensures)))
     (λ c. omega (arith, few-named))
-    (λ c κs. search needs) (λ c κs. search needs) (λ c κs. search needs) (λ c κs. search needs)
+    (λ c κs. omega (arith, few-named))
+    (λ c κs. search needs) (λ c κs. search needs) (λ c κs. search needs)
     (λ c. search why-named))

@@ -26,7 +26,7 @@ namer-spec =
     μ-loop
     (λ c. search passing-begins)
     (λ c. omega (arith, few-listed)) (λ c. omega (arith, few-listed)) (λ c. omega (arith, few-listed))
-    (λ c κs. search needs)
+    (λ c κs. omega (arith, few-listed))
     (λ c. search namer-here)
     (λ c. search needs) (λ c. search needs)
     (λ c. search (passing-goes, le-ltb))

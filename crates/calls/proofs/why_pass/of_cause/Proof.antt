@@ -3,7 +3,8 @@ use native.Mathlib.Omega.{arith}
 use borrow.Author.Needs.{needs}
 use Rattle.reasons_why.specs.Why.{whyFor}
 use Rattle.calls.specs.Causes.{causeReason, Within}
-use Rattle.calls.proofs.why_pass.Words.{why-crowded, why-root}
+use Rattle.calls.proofs.notes.Told.{few-listed}
+use Rattle.calls.proofs.why_pass.Words.{within-crowded, within-root, within-claimed, within-placeless, why-crowded, why-root, why-claimed, why-placeless}
 use Rattle.calls.proofs.why_pass.of_cause.Statement.{statement}
 use Rattle.calls.proofs.why_pass.of_cause.Tie as tie
 
@@ -14,29 +15,25 @@ named-twice-requires c κs =
     (p .0, omega (arith, rw (c .before .cause .given .1) at (p .1), p .0 .given .scoped .named))
 
 listed-id-requires : tie.Need-listed-id-requires
-unfolding Within
 listed-id-requires c κs =
     let p = c .before .before .before .before .pre in
-    (p .0, omega (arith, rw (c .before .cause2 .given .1) at (p .1), p .0 .given .scoped .listed))
+    omega (arith, few-listed, within-crowded (p .0) (p .1) (c .before .cause2 .given .1))
 
 listed-id-requires-2 : tie.Need-listed-id-requires-2
-unfolding Within
 listed-id-requires-2 c κs =
     let p = c .before .before .before .before .pre in
-    (p .0, omega (arith, rw (c .before .cause3 .given .1) at (p .1), p .0 .given .scoped .listed))
+    omega (arith, few-listed, within-root (p .0) (p .1) (c .before .cause3 .given .1))
 
 claimed-twice-requires : tie.Need-claimed-twice-requires
-unfolding Within
 claimed-twice-requires c κs =
     let p = c .before .before .before .before .pre in
-    let w = rw (c .before .cause4 .given .1) at (p .1) in
-    (p .0, (omega (arith, w .0, p .0 .given .scoped .listed), omega (arith, w .1, p .0 .given .scoped .listed)))
+    let w = within-claimed (p .0) (p .1) (c .before .cause4 .given .1) in
+    (omega (arith, few-listed, w .0), omega (arith, few-listed, w .1))
 
 without-place-requires : tie.Need-without-place-requires
-unfolding Within
 without-place-requires c κs =
     let p = c .before .before .before .before .pre in
-    (p .0, omega (arith, rw (c .before .cause5 .given .1) at (p .1), p .0 .given .scoped .listed))
+    omega (arith, few-listed, within-placeless (p .0) (p .1) (c .before .cause5 .given .1))
 
 child-nowhere-requires : tie.Need-child-nowhere-requires
 unfolding Within
@@ -53,19 +50,28 @@ returns-2 c = rw (c .before .before .cause .given .1) (c .named-twice .ensures)
 
 returns-3 : tie.Need-returns-3
 returns-3 c =
-    rw (c .before .before .before .cause2 .given .1)
-    (why-crowded (c .before .before .before .before .before .before .pre .0) _ (c .before .listed-id .ensures) (c .of-nodes .ensures))
+    let p = c .before .before .before .before .before .before .pre in
+    let e = c .before .before .before .cause2 .given .1 in
+    rw e (why-crowded (p .0) (within-crowded (p .0) (p .1) e) (c .before .listed-id .ensures) (c .of-nodes .ensures))
 
 returns-4 : tie.Need-returns-4
 returns-4 c =
-    rw (c .before .before .before .cause3 .given .1)
-    (why-root (c .before .before .before .before .before .before .pre .0) _ (c .before .listed-id2 .ensures) (c .of-nodes2 .ensures))
+    let p = c .before .before .before .before .before .before .pre in
+    let e = c .before .before .before .cause3 .given .1 in
+    rw e (why-root (p .0) (within-root (p .0) (p .1) e) (c .before .listed-id2 .ensures) (c .of-nodes2 .ensures))
 
 returns-5 : tie.Need-returns-5
-returns-5 c = rw (c .before .before .cause4 .given .1) (c .claimed-twice .ensures)
+returns-5 c =
+    let p = c .before .before .before .before .before .pre in
+    let e = c .before .before .cause4 .given .1 in
+    let w = within-claimed (p .0) (p .1) e in
+    rw e (why-claimed (p .0) (w .0) (w .1) (c .claimed-twice .ensures))
 
 returns-6 : tie.Need-returns-6
-returns-6 c = rw (c .before .before .cause5 .given .1) (c .without-place .ensures)
+returns-6 c =
+    let p = c .before .before .before .before .before .pre in
+    let e = c .before .before .cause5 .given .1 in
+    rw e (why-placeless (p .0) (within-placeless (p .0) (p .1) e) (c .without-place .ensures))
 
 returns-7 : tie.Need-returns-7
 returns-7 c = rw (c .before .before .cause6 .given .1) (c .child-nowhere .ensures)

@@ -8,7 +8,7 @@ use Rattle.base.proofs.Regions.{fills-none}
 use Rattle.state_array.specs.Stored.{linkRow}
 use Rattle.calls.specs.Links.{linkWord}
 use Rattle.calls.specs.Written.{nodesAfter, nodesRegions}
-use Rattle.calls.proofs.writing.Plan.{count-told, nodes-room, told-compared, code-there, id-there, link-there, body-there}
+use Rattle.calls.proofs.writing.Plan.{count-told, nodes-room, told-compared, code-there, code-few, id-there, link-there, body-there}
 use Rattle.calls.proofs.writing.Kids.{node-more}
 use borrow.Author.Needs.{needs}
 use native.Mathlib.Omega.{arith}
@@ -25,7 +25,7 @@ loop-holds : tie.Need-loop-holds Inv-loop μ-loop
 loop-holds c = let all = count-told (c .before .before .pre) in (all, omega (arith, all, nodes-room (c .before .before .pre)), omega arith, search fills-none)
 
 id-of-requires : tie.Need-id-of-requires Inv-loop μ-loop
-id-of-requires c κs = let told = c .before .before .before .before .before .pre in (told, code-there told (omega (arith, c .before .before .loop .inv .0)))
+id-of-requires c κs = code-few (c .before .before .before .before .before .pre) (omega (arith, c .before .before .loop .inv .0))
 
 link-of-requires : tie.Need-link-of-requires Inv-loop μ-loop
 link-of-requires c κs =
