@@ -4,7 +4,7 @@ use mathlib.Core.Bool.{true}
 use mathlib.Core.List.{List, [], _∷_, _++_, map}
 use mathlib.Core.Option.{Option, none, some}
 use mathlib.Core.Path.{_≡_}
-use Prim.Native.Nat.{ℕ, _*_, _≤_, _<_}
+use Prim.Native.Nat.{ℕ, _+_, _*_, _≤_, _<_}
 use lib.Dec.{ltb}
 use lib.Ieee.{Float, fits, ofBits, toBits, binary64}
 use lib.ListN.{length, getD}
@@ -15,8 +15,8 @@ use Rattle.ids.specs.Ids.{ROOT}
 use Rattle.ids.specs.declared.NodeId.{NodeId}
 use Rattle.record.specs.Batch.{NodeData, fieldsOk}
 use Rattle.state.specs.State.{ParentAndIndex, NodeState, TreeEntry, State}
-use Rattle.state_array.specs.Layout.{HEAD, TREES, TREE-FIELDS, SLOTS, NODE-FIELDS, ENTRIES}
-use Rattle.state_array.specs.View.{bodyIn}
+use Rattle.state_array.specs.Layout.{HEAD, TREES, TREE-FIELDS, SLOTS, NODE-FIELDS, ENTRIES, word, GRAFT-HIGH, GRAFT-LOW, FLAGS, CHILD-COUNT, ACTIVE, ROLE, LABEL-LENGTH, FLOATS}
+use Rattle.state_array.specs.View.{labelIn}
 use Rattle.state_array.specs.declared.LinkRow.{LinkRow}
 use Rattle.state_array.specs.declared.TreeRow.{TreeRow}
 use Rattle.state_array.specs.declared.Body.{Body}
@@ -77,13 +77,22 @@ bodyOf d = record {
   floats = map (toBits binary64) (floatsOf d);
 }
 
--- the data of slot i of any array of words as an image holds them, where they obey the record's rules
-abbrev pub BodyAt : List ℕ → ℕ → Body → Type 0
-BodyAt s i r = fieldsOk (bodyIn s i) ≡ true → r ≡ bodyOf (bodyIn s i)
+-- the ten floats of slot i of any words: the words that stand there
+unfoldable pub floatWords : List ℕ → ℕ → List ℕ
+floatWords s i = listOf 10 (λ k. word s (FLOATS + k) i)
 
--- so its floats
-abbrev pub FloatsAt : List ℕ → ℕ → List ℕ → Type 0
-FloatsAt s i r = fieldsOk (bodyIn s i) ≡ true → r ≡ map (toBits binary64) (floatsOf (bodyIn s i))
+-- the data of slot i of any words as it stands there, its children aside and without what stands past the label's end
+unfoldable pub bodyWords : List ℕ → ℕ → Body
+bodyWords s i = record {
+  graft = record { high = word s GRAFT-HIGH i; low = word s GRAFT-LOW i };
+  flags = word s FLAGS i;
+  «child_count» = word s CHILD-COUNT i;
+  «active_descendant» = record { 0 = word s ACTIVE i };
+  role = word s ROLE i;
+  «label_length» = word s LABEL-LENGTH i;
+  label = listOf 4 (labelWord (labelIn s i));
+  floats = floatWords s i;
+}
 
 -- how many children the nodes before node i have
 abbrev pub childrenBefore : List NodeState → ℕ → ℕ

@@ -1,17 +1,14 @@
 // The state in memory: one array of words, nodes in ascending order of id. Any words are a value; specs/View says what they stand for.
 // It is lent whole, so a function takes one argument for it, and no call copies it.
-ghost use mathlib.Core.Bool.{true};
 ghost use mathlib.Core.Path.{_≡_};
 ghost use Prim.Native.Nat.{_+_, _<_, _%_, _^_, min};
-ghost use lib.Ieee.{toBits, binary64};
 ghost use lib.ListN.{length};
 ghost use Rattle.base.specs.Bytes.{bit, listOf};
-ghost use Rattle.base.specs.Floats.{isFinite};
 ghost use Rattle.state.specs.State.{blank};
 ghost use Rattle.state_array.specs.Layout as at;
 ghost use Rattle.state_array.specs.Layout.{blankWords, hostOf, entry, word, child};
 ghost use Rattle.state_array.specs.View.{view, slotsOf, treesOf, idIn, linkIn, shapeIn, labelByte, labelIn, floatIn, boundsIn, transformIn, treeIn};
-ghost use Rattle.state_array.specs.Stored.{labelWord, BodyAt, FloatsAt};
+ghost use Rattle.state_array.specs.Stored.{labelWord, floatWords, bodyWords};
 use geometry::Affine;
 use geometry::Rect;
 use ids::FullNodeId;
@@ -323,9 +320,9 @@ pub fn transform_at(state: &State, i: usize) -> Affine
     }
 }
 
-// A node's data as an image holds them: where the fields obey the record's rules, nothing but what they say. Bytes past the label's end are 0.
+// A node's data as it stands in memory, bytes past the label's end as 0. Where the fields obey the record's rules it is as an image holds it.
 pub fn body_at(state: &State, i: usize) -> Body
-    ensures { λ r. ⌜ BodyAt (now (state .entry)) i r ⌝ }
+    ensures { λ r. ⌜ r ≡ bodyWords (now (state .entry)) i ⌝ }
 {
     Body {
         graft: TreeId {
@@ -376,7 +373,7 @@ fn low_bytes(w: u64, n: u64) -> u64
 
 // The ten floats of a node as bit patterns: the bounds, then the transform.
 fn floats_at(state: &State, i: usize) -> [u64; 10]
-    ensures { λ r. ⌜ FloatsAt (now (state .entry)) i r ⌝ }
+    ensures { λ r. ⌜ r ≡ floatWords (now (state .entry)) i ⌝ }
 {
     [
         pattern_at(state, i, 0),
@@ -392,10 +389,10 @@ fn floats_at(state: &State, i: usize) -> [u64; 10]
     ]
 }
 
-// The bit pattern of number k of the ten: that of its value where the number is finite.
+// The bit pattern of number k of the ten.
 fn pattern_at(state: &State, i: usize, k: usize) -> u64
     requires { ⌜ k < 10 ⌝ }
-    ensures { λ r. ⌜ (isFinite (floatIn (now (state .entry)) i k) ≡ true → r ≡ toBits binary64 (floatIn (now (state .entry)) i k)) ⌝ }
+    ensures { λ r. ⌜ r ≡ word (now (state .entry)) (at.FLOATS + k) i ⌝ }
 {
     word_at(state, FLOATS + k, i)
 }

@@ -1,57 +1,48 @@
 -- Laws of the data of a listed node and of a slot, and of the bit patterns of floats. Assumes nothing.
+use denote.Array.{each}
+use denote.Laws.{Is}
+use denote.Plain.{UInt}
+use denote.Shadow.{shadow}
+use denote.Struct.Declared.{row}
 use mathlib.Core.Bool.{Bool, true, false}
 use mathlib.Core.List.{List, map, [], _∷_}
-use mathlib.Core.Path.{_≡_, refl, sym, ap, _∙_, ap₂}
-use Prim.Native.Nat.{ℕ, _+_, _*_, _/_, _%_, _^_, _<_}
+use mathlib.Core.Path.{_≡_, refl, sym, ap, _∙_}
+use mir.Syntax.{w64}
+use mir.Val.{Val}
+use Prim.Native.Nat.{ℕ, _+_, _*_, _/_, _%_, _^_, _-_, _≤_, _<_}
 use native.Mathlib.Nat.{mod-lt}
 use native.Mathlib.Omega.{arith}
 use lib.Dec.{ltb}
-use lib.Ieee.{ofBits, toBits, binary64, fits}
+use lib.Ieee.{ofBits, toBits, binary64}
 use lib.ListN.{length, drop}
-use borrow.Author.Tests.{lt-ltb, ltb-true}
-use Rattle.base.specs.Tests.{if_then_else_, all}
+use borrow.Author.Tests.{lt-ltb, le-ltb}
+use Rattle.base.specs.Tests.{if_then_else_}
 use Rattle.base.specs.Bytes.{le, listOf}
 use Rattle.base.proofs.Bytes.{all-list-of}
 use Rattle.base.proofs.Indexed.{list-of-cong}
+use Rattle.base.proofs.Lists.{all-take, all-drop}
+use Rattle.base.proofs.Tests.{joined}
 use Rattle.record.specs.Batch.{fieldsOk, NodeData}
 use Rattle.record.specs.Layout.{nodeCount, recordAt, labelAt, labelStart, labelLength}
 use Rattle.record.specs.Parse.{nodeOf, wellFormed, batchOf}
 use Rattle.record.proofs.Parse.{record-facts}
 use Rattle.record_reader.specs.Reader.{listedAt}
 use Rattle.record_reader.proofs.Reader.{node-count-is, listed-here, field-here}
-use Rattle.state_array.specs.Layout.{word, LABEL, FLOATS}
-use Rattle.state_array.specs.View.{labelByte, labelIn, boundsIn, transformIn, bodyIn}
-use Rattle.state_array.specs.Stored.{labelWord, floatsOf, bodyOf, DataFits}
+use Rattle.state_array.specs.Layout.{SLOTS, word, LABEL}
+use Rattle.state_array.specs.View.{labelByte, labelIn, bodyIn, nodeIn}
+use Rattle.state_array.specs.Stored.{floatsOf, bodyOf, floatWords, bodyWords, DataFits}
 use Rattle.state_array.specs.declared.Body.{Body}
-use Rattle.state_array.proofs.Labels.{areBytes, le-below, float-back, float-fits}
-use Rattle.base.proofs.Lists.{all-take, all-drop}
-use Rattle.update_bodies.specs.Bodies.{Bodied, patternsIn}
-use Rattle.base.specs.Floats.{isFinite}
-use Rattle.base.proofs.Tests.{both, joined, and-true}
-use Rattle.geometry.specs.Geometry.{rectTest, affineTest}
-use Rattle.record.proofs.Batch.{field-rules}
+use Rattle.state_array.proofs.Body.{the-type}
+use Rattle.state_array.proofs.Labels.{areBytes, le-below}
+use Rattle.state_array.proofs.Bodies.{areWords, patterns-fit, patterns-back, floats-finite, slot-floats, body-words}
+use Rattle.update_bodies.specs.Bodies.{patternsIn, listedBody, codeBody}
 
--- what is read of patterns fits
-pub patterns-fit : (ws : List ℕ) → all (fits binary64) (map (ofBits binary64) ws) ≡ true
-patterns-fit [] = refl
-patterns-fit (w ∷ ws) = joined (float-fits w) (patterns-fit ws)
+-- r is the image of the data d, which fits
+pub record Bodied (d : NodeData) (r : Body) : Type 0 where
+  pub is : r ≡ bodyOf d
+  pub fits : DataFits d
 
--- patterns of finite numbers are written back as they were
-pub patterns-back : (ws : List ℕ) → all (λ w. ltb w (2 ^ 64)) ws ≡ true → all isFinite (map (ofBits binary64) ws) ≡ true
-    → map (toBits binary64) (map (ofBits binary64) ws) ≡ ws
-patterns-back [] small finite = refl
-patterns-back (w ∷ ws) small finite =
-    ap₂ {A = ℕ} {B = List ℕ} {C = List ℕ} (λ x xs. x ∷ xs) (float-back w (ltb-true w (2 ^ 64) (both small .0)) (both finite .0))
-    (patterns-back ws (both small .1) (both finite .1))
-
--- the floats of data that obeys the rules are finite
-pub floats-finite : (d : NodeData) → fieldsOk d ≡ true → all isFinite (floatsOf d) ≡ true
-unfolding floatsOf rectTest affineTest
-floats-finite d h =
-    let r = field-rules d h in
-    let p = simp and-true at (r .finite-bounds) in
-    let q = simp and-true at (r .finite-transform) in
-    simp and-true (p .0 .0 .0, (p .0 .0 .1, (p .0 .1, (p .1, (q .0 .0 .0 .0 .0, (q .0 .0 .0 .0 .1, (q .0 .0 .0 .1, (q .0 .0 .1, (q .0 .1, (q .1, refl))))))))))
+-- ## A listed node of a record
 
 module _ (bytes : List ℕ) (byte : areBytes bytes ≡ true) (formed : wellFormed bytes ≡ true) (i : ℕ) (h : i < length (batchOf bytes .nodes)) where
   within : i < nodeCount bytes
@@ -74,7 +65,7 @@ module _ (bytes : List ℕ) (byte : areBytes bytes ≡ true) (formed : wellForme
   from = labelAt bytes (labelStart bytes (recordAt i))
 
   -- it fits
-  pub listed-fits : DataFits (listedAt (batchOf bytes) i .body)
+  listed-fits : DataFits (listedAt (batchOf bytes) i .body)
   listed-fits = rw said (record {
     fields = record-facts bytes formed i within .fields;
     bytes = all-take _ (labelLength bytes (recordAt i)) (drop from bytes) (all-drop _ from bytes byte);
@@ -82,7 +73,7 @@ module _ (bytes : List ℕ) (byte : areBytes bytes ≡ true) (formed : wellForme
   })
 
   -- the patterns that are read are those of its floats
-  pub listed-floats : patternsIn bytes i ≡ map (toBits binary64) (floatsOf (listedAt (batchOf bytes) i .body))
+  listed-floats : patternsIn bytes i ≡ map (toBits binary64) (floatsOf (listedAt (batchOf bytes) i .body))
   unfolding patternsIn listOf
   listed-floats =
       let finite = rw floats-are at (floats-finite (nodeOf bytes i .body) (record-facts bytes formed i within .fields)) in
@@ -92,31 +83,10 @@ module _ (bytes : List ℕ) (byte : areBytes bytes ≡ true) (formed : wellForme
       read : patternsIn bytes i ≡ patterns
       read = list-of-cong 10 _ _ (λ k l. field-here bytes i 8 (48 + 8 * k) refl within)
 
-  -- so what is read is the data
-  pub listed-body : (r : Body) → r .graft ≡ listedAt (batchOf bytes) i .body .graft → r .flags ≡ listedAt (batchOf bytes) i .body .flags
-      → r .«child_count» ≡ length (listedAt (batchOf bytes) i .body .children)
-      → r .«active_descendant» ≡ listedAt (batchOf bytes) i .body .activeDescendant
-      → r .role ≡ listedAt (batchOf bytes) i .body .role
-      → r .«label_length» ≡ length (listedAt (batchOf bytes) i .body .label)
-      → r .label ≡ listOf 4 (labelWord (listedAt (batchOf bytes) i .body .label))
-      → r .floats ≡ patternsIn bytes i
-      → Bodied (listedAt (batchOf bytes) i .body) r
-  unfolding bodyOf
-  listed-body r graft flags count active role long label floats =
-      let patterns-are = floats ∙ listed-floats in
-      record {
-        is = λ z. record {
-          graft = graft z;
-          flags = flags z;
-          «child_count» = count z;
-          «active_descendant» = active z;
-          role = role z;
-          «label_length» = long z;
-          label = label z;
-          floats = patterns-are z;
-        };
-        fits = listed-fits;
-      }
+  -- what the bytes say is the data of a node that obeys the rules
+  pub listed-body : listedBody bytes i ≡ bodyOf (listedAt (batchOf bytes) i .body)
+  unfolding listedBody bodyOf
+  listed-body = rw listed-floats refl
 
 -- ## The data of a slot
 
@@ -134,10 +104,34 @@ module _ (s : List ℕ) (i : ℕ) where
   unfolding bodyIn labelIn
   slot-bytes = all-list-of (λ x. ltb x 256) _ (labelByte s i) (λ j l. lt-ltb _ _ (byte-below j))
 
-  slot-floats : floatsOf (bodyIn s i) ≡ map (ofBits binary64) (listOf 10 (λ k. word s (FLOATS + k) i))
-  unfolding floatsOf listOf bodyIn boundsIn transformIn
-  slot-floats = refl
-
   -- it fits where it obeys the rules
-  pub slot-fits : fieldsOk (bodyIn s i) ≡ true → DataFits (bodyIn s i)
-  slot-fits h = record { fields = h; bytes = slot-bytes; floats = rw slot-floats (patterns-fit (listOf 10 (λ k. word s (FLOATS + k) i))) }
+  slot-fits : fieldsOk (bodyIn s i) ≡ true → DataFits (bodyIn s i)
+  slot-fits h = record { fields = h; bytes = slot-bytes; floats = rw (slot-floats s i) (patterns-fit (floatWords s i)) }
+
+-- ## The data of a code
+
+-- the elements of an array in memory are words
+words-fit : (ws : List ℕ) (us : List Val) → shadow (each ℕ (UInt w64 .own) (map (λ w. w) ws) us) → areWords ws ≡ true
+words-fit [] us h = refl
+words-fit (w ∷ ws) [] h = absurd h
+words-fit (w ∷ ws) (u ∷ us) h = joined (lt-ltb w (2 ^ 64) (h .0 .1)) (words-fit ws us (h .1))
+
+-- so are the floats of what a call answers: `Is ..` is its `.ok`
+pub floats-fit : (r : Body) (vs : List Val) → Is (row the-type) r vs → areWords (r .floats) ≡ true
+floats-fit r vs h = let floats = h .1 .1 .1 .1 .1 .1 .1 .1 .1 .0 in words-fit (r .floats) (floats .0) (floats .1 .1)
+
+module _ (state bytes : List ℕ) (code : ℕ) {r : Body} (is : r ≡ codeBody state bytes code) where
+  -- a slot's, where its fields obey the rules
+  pub code-kept : areWords (r .floats) ≡ true → code < SLOTS → fieldsOk (nodeIn state code .body) ≡ true → Bodied (nodeIn state code .body) r
+  unfolding codeBody nodeIn
+  code-kept words l fields =
+      let here : r ≡ bodyWords state code = is ∙ rw (lt-ltb code SLOTS l) in
+      record { is = here ∙ body-words state code (rw here at words) fields; fits = slot-fits state code fields }
+
+  -- a listed node's of a record
+  pub code-listed : areBytes bytes ≡ true → SLOTS ≤ code → wellFormed bytes ≡ true → code - SLOTS < length (batchOf bytes .nodes)
+      → Bodied (listedAt (batchOf bytes) (code - SLOTS) .body) r
+  unfolding codeBody
+  code-listed byte l formed h =
+      let here : r ≡ listedBody bytes (code - SLOTS) = is ∙ rw (le-ltb code SLOTS l) in
+      record { is = here ∙ listed-body bytes byte formed (code - SLOTS) h; fits = listed-fits bytes byte formed (code - SLOTS) h }

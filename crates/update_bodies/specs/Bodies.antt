@@ -1,45 +1,47 @@
 -- A node's data as its words, read from a record or from a slot, and the comparison of two by value: document 01, "equal by value".
 -- Assumes nothing.
-use mathlib.Core.Bool.{Bool, true}
+use mathlib.Core.Bool.{Bool}
 use mathlib.Core.List.{List}
-use mathlib.Core.Path.{_≡_}
-use Prim.Native.Nat.{ℕ, _+_, _*_, _-_, _≤_, _<_}
-use lib.Dec.{eqb}
+use Prim.Native.Nat.{ℕ, _+_, _*_, _-_}
+use lib.Dec.{eqb, ltb}
 use lib.Ieee.{Float, ofBits, binary64}
 use lib.ListN.{length, getD}
-use Rattle.base.specs.Tests.{_&&_}
+use Rattle.base.specs.Tests.{_&&_, if_then_else_}
 use Rattle.base.specs.Bytes.{allBelow, listOf}
 use Rattle.ids.specs.Ids.{sameTree, sameNode}
 use Rattle.geometry.specs.Geometry.{sameRect, sameAffine}
 use Rattle.geometry.specs.declared.Rect.{Rect}
 use Rattle.geometry.specs.declared.Affine.{Affine}
-use Rattle.record.specs.Batch.{NodeData, fieldsOk}
-use Rattle.record.specs.Parse.{wellFormed, batchOf}
+use Rattle.record.specs.Parse.{batchOf}
 use Rattle.record_reader.specs.Reader.{listedAt, fieldAt}
 use Rattle.state_array.specs.Layout.{SLOTS}
-use Rattle.state_array.specs.View.{nodeIn}
-use Rattle.state_array.specs.Stored.{bodyOf, DataFits}
+use Rattle.state_array.specs.Stored.{labelWord, bodyWords}
 use Rattle.state_array.specs.declared.Body.{Body}
 
 -- ## A node's data
 
--- r is the data d, which fits
-pub record Bodied (d : NodeData) (r : Body) : Type 0 where
-  pub is : r ≡ bodyOf d
-  pub fits : DataFits d
-
--- the ten bit patterns of listed node i
+-- the ten bit patterns of listed node i of any bytes
 unfoldable pub patternsIn : List ℕ → ℕ → List ℕ
 patternsIn bytes i = listOf 10 (λ k. fieldAt 8 bytes i (48 + 8 * k))
 
--- of a record, r is the data of listed node i
-abbrev pub ListedBodyIs : List ℕ → ℕ → Body → Type 0
-ListedBodyIs bytes i r = wellFormed bytes ≡ true → i < length (batchOf bytes .nodes) → Bodied (listedAt (batchOf bytes) i .body) r
+-- the data of listed node i of any bytes: what the batch says, and its floats as the patterns that stand there
+unfoldable pub listedBody : List ℕ → ℕ → Body
+listedBody bytes i =
+    let d = listedAt (batchOf bytes) i .body in
+    record {
+      graft = d .graft;
+      flags = d .flags;
+      «child_count» = length (d .children);
+      «active_descendant» = d .activeDescendant;
+      role = d .role;
+      «label_length» = length (d .label);
+      label = listOf 4 (labelWord (d .label));
+      floats = patternsIn bytes i;
+    }
 
--- r is the data that a code names: a slot's whose fields obey the rules, or a listed node's
-pub record BodyIs (state bytes : List ℕ) (code : ℕ) (r : Body) : Type 0 where
-  pub kept : code < SLOTS → fieldsOk (nodeIn state code .body) ≡ true → Bodied (nodeIn state code .body) r
-  pub read : SLOTS ≤ code → ListedBodyIs bytes (code - SLOTS) r
+-- the data that a code names: below 320 a slot's, from 320 on a listed node's
+unfoldable pub codeBody : List ℕ → List ℕ → ℕ → Body
+codeBody state bytes code = if ltb code SLOTS then bodyWords state code else listedBody bytes (code - SLOTS)
 
 -- ## By value
 

@@ -7,7 +7,7 @@ ghost use Rattle.base.specs.Bytes.{listOf};
 ghost use Rattle.geometry.specs.Geometry.{sameRect, sameAffine};
 ghost use Rattle.record_reader.specs.Reader.{fieldAt};
 ghost use Rattle.state_array.specs.Stored.{labelWord};
-ghost use Rattle.update_bodies.specs.Bodies.{patternsIn, ListedBodyIs, BodyIs, boundsOf, transformOf, sameRun, sameBody};
+ghost use Rattle.update_bodies.specs.Bodies.{patternsIn, listedBody, codeBody, boundsOf, transformOf, sameRun, sameBody};
 use state_array::Body;
 use state_array::State;
 
@@ -20,7 +20,7 @@ const FLOATS: usize = 48;
 
 // The data that a code names: below 320 a slot's, from 320 on a listed node's.
 pub fn body_of<'a>(state: &'a State, batch: &'a [u8], code: usize) -> Body
-    ensures { λ r. ⌜ BodyIs (now (state .entry)) (now (batch .entry)) code r ⌝ }
+    ensures { λ r. ⌜ r ≡ codeBody (now (state .entry)) (now (batch .entry)) code ⌝ }
 {
     if code < state_array::SLOTS {
         return state_array::body_at(state, code);
@@ -30,7 +30,7 @@ pub fn body_of<'a>(state: &'a State, batch: &'a [u8], code: usize) -> Body
 
 // The data of listed node i.
 fn listed_body(batch: &[u8], i: usize) -> Body
-    ensures { λ r. ⌜ ListedBodyIs (now (batch .entry)) i r ⌝ }
+    ensures { λ r. ⌜ r ≡ listedBody (now (batch .entry)) i ⌝ }
 {
     let text = record_reader::label(batch, i);
     let label = label_words(text);

@@ -39,7 +39,10 @@ use Rattle.calls.proofs.notes.Places.{slot-found, forest-node}
 use Rattle.update_focus.proofs.Numbers.{forest-length}
 use Rattle.calls.proofs.notes.Setting.{batched-at}
 use Rattle.calls.proofs.notes.Told.{batched, few-named}
-use Rattle.update_bodies.specs.Bodies.{Bodied, BodyIs, sameRun, sameBody}
+use Rattle.state_array.proofs.Labels.{areBytes}
+use Rattle.state_array.proofs.Bodies.{areWords}
+use Rattle.update_bodies.specs.Bodies.{codeBody, sameRun, sameBody}
+use Rattle.update_bodies.proofs.Bodies.{Bodied, code-kept, code-listed}
 use Rattle.update_bodies.proofs.Same.{list-run, data-by-children, children-counted, data-differs}
 
 -- ## A node of a state
@@ -155,14 +158,15 @@ module _ {state bytes : List ℕ} {c : Scope} {notes : List ℕ} (told : Told GO
 
   -- ## The data
 
-  module _ {slot : ℕ} (there : slot < slotsOf state) {old new : Body} (kept : BodyIs state bytes slot old) (read : BodyIs state bytes (320 + i) new) where
+  module _ {slot : ℕ} (there : slot < slotsOf state) {old new : Body}
+      (kept : old ≡ codeBody state bytes slot) (words : areWords (old .floats) ≡ true) (read : new ≡ codeBody state bytes (320 + i)) (byte : areBytes bytes ≡ true) where
     old-is : Bodied (nodeIn state slot .body) old
-    old-is = kept .kept (omega arith) (slot-fields state bytes c (told .given) slot there)
+    old-is = code-kept state bytes slot kept words (omega arith) (slot-fields state bytes c (told .given) slot there)
 
     new-is : Bodied (listedAt (batchOf bytes) i .body) new
     new-is =
         let e : 320 + i - 320 ≡ i = omega arith in
-        (rw e at (read .read (omega arith))) (told .given .formed) in-batch
+        (rw e at (code-listed state bytes (320 + i) read byte (omega arith) (told .given .formed))) in-batch
 
     images : sameBody old new ≡ sameBody (bodyOf (nodeIn state slot .body)) (bodyOf (listedAt (batchOf bytes) i .body))
     images = ap₂ sameBody (old-is .is) (new-is .is)

@@ -1,4 +1,5 @@
 -- What the notes say to the writer, of node r its code, its id, its link, its data; and the whole outcome. Assumes nothing.
+use mathlib.Core.Bool.{true}
 use mathlib.Core.List.{List}
 use mathlib.Core.Path.{_≡_, sym, _∙_, ap}
 use Prim.Native.Nat.{ℕ, _+_, _-_, _≤_, _<_}
@@ -28,7 +29,10 @@ use native.Mathlib.Decide.{decLt}
 use Rattle.state_array.specs.declared.Body.{Body}
 use Rattle.calls.proofs.notes.Setting.{batched-at}
 use Rattle.base.proofs.Lists.{all-at}
-use Rattle.update_bodies.specs.Bodies.{BodyIs}
+use Rattle.state_array.proofs.Labels.{areBytes}
+use Rattle.state_array.proofs.Bodies.{areWords}
+use Rattle.update_bodies.specs.Bodies.{codeBody}
+use Rattle.update_bodies.proofs.Bodies.{code-kept, code-listed}
 use Rattle.base.specs.Regions.{fill}
 use Rattle.state_array.proofs.Filled.{filled-stored}
 use Rattle.calls.specs.Trees.{treesAfter, treesWritten}
@@ -100,8 +104,9 @@ module _ {state bytes : List ℕ} {c : Scope} {notes : List ℕ} (told : Told PL
     source-there = rw source-told (source-of s b (told .given .kept) listed-room (told .given .once) r l)
 
 module _ {state bytes : List ℕ} {c : Scope} {notes : List ℕ} (told : Told PLANNED state bytes c notes) {r : ℕ} (l : r < length (nodesAfter state bytes c)) where
-  pub body-there : {d : Body} → BodyIs state bytes (getD notes (SOURCES + r) 0) d → d ≡ bodyOf (getD (nodesAfter state bytes c) r noState .body)
-  body-there {d} is = go (decLt source 320)
+  pub body-there : {d : Body} → d ≡ codeBody state bytes (getD notes (SOURCES + r) 0) → areWords (d .floats) ≡ true → areBytes bytes ≡ true
+      → d ≡ bodyOf (getD (nodesAfter state bytes c) r noState .body)
+  body-there {d} is words byte = go (decLt source 320)
     where
       source : ℕ
       source = getD notes (SOURCES + r) 0
@@ -114,12 +119,12 @@ module _ {state bytes : List ℕ} {c : Scope} {notes : List ℕ} (told : Told PL
           let from = source-there told l .kept h in
           let node : nodeAt (forest state) source ≡ nodeIn state source = forest-node state source (rw (forest-length state) at (from .0)) in
           let fields = all-at (λ n. fieldsOk (n .body)) (forest state .nodes) noState (told .given .kept .fields) source (from .0) in
-          is .kept h (rw node at fields) .is ∙ ap (λ (n : NodeState). bodyOf (n .body)) (sym node) ∙ ap bodyOf (from .1)
+          code-kept state bytes source is words h (rw node at fields) .is ∙ ap (λ (n : NodeState). bodyOf (n .body)) (sym node) ∙ ap bodyOf (from .1)
       go (no h) =
           let past : 320 ≤ source = omega arith in
           let from = source-there told l .read past in
           let record-of = batched state bytes c (told .given) in
-          is .read past (told .given .formed) (rw (record-of .nodes) at (from .0)) .is
+          code-listed state bytes source is byte past (told .given .formed) (rw (record-of .nodes) at (from .0)) .is
           ∙ rw (batched-at bytes (asked bytes c) record-of (source - 320)) (ap bodyOf (from .1))
 
 pub outcome-written : {state bytes : List ℕ} {c : Scope} {notes : List ℕ} → Told PLANNED state bytes c notes → {blank nodes children trees end : List ℕ}

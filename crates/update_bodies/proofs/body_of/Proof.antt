@@ -1,20 +1,18 @@
 -- `update_bodies::body_of` meets its contract. Assumes nothing.
 use native.Mathlib.Omega.{arith}
-use Rattle.state_array.specs.View.{nodeIn}
-use Rattle.update_bodies.proofs.Bodies.{slot-fits}
 use borrow.Author.Needs.{needs}
+use borrow.Author.Tests.{lt-ltb, le-ltb}
+use Rattle.state_array.specs.Layout.{SLOTS}
+use Rattle.update_bodies.specs.Bodies.{codeBody}
 use Rattle.update_bodies.proofs.body_of.Statement.{statement}
 use Rattle.update_bodies.proofs.body_of.Tie as tie
 
-returns : tie.Need-returns
-unfolding nodeIn
-returns c = record { kept = λ l h. record { is = c .body-at .ensures h; fits = slot-fits _ _ h }; read = λ l. absurd (omega arith) }
-
 pub body-of-spec : {M : Type 1} → statement M
+unfolding codeBody
 body-of-spec =
     tie.close
     (tie.spec
     (λ c κs. search needs)
-    returns
+    (λ c. rw (c .body-at .ensures, lt-ltb _ _ (c .before .if1 .taken)))
     (λ c κs. search needs)
-    (λ c. record { kept = λ l h. absurd (omega arith); read = λ l. c .listed-body .ensures }))
+    (λ c. rw (c .listed-body .ensures, le-ltb (c .before .before .before .args .code) SLOTS (omega arith))))

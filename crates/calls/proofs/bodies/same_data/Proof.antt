@@ -3,6 +3,8 @@ use denote.Ref.{now}
 use mathlib.Core.Path.{_≡_}
 use lib.ListN.{length}
 use native.Mathlib.Omega.{arith}
+use Rattle.update_bodies.proofs.Bodies.{floats-fit}
+use Rattle.update_bodies.proofs.Same.{bytes-all}
 use Rattle.calls.proofs.notes.Told.{few-listed, few-named}
 use Rattle.calls.proofs.bodies.Differs.{run-within, other-data, same-data}
 use borrow.Author.Needs.{needs}
@@ -12,12 +14,20 @@ use Rattle.calls.proofs.bodies.same_data.Tie as tie
 add-to : tie.Need-add-to
 add-to c = let s = c .before .before .before .before .before .before .before .before .before in omega (arith, run-within (s .pre .0) (s .pre .1 .0), few-named, c .first-child .ensures)
 
+returns : tie.Need-returns
+returns c =
+    let s = c .before .before .before .before .before in
+    let bodies = c .before .before in
+    other-data (s .pre .0) (s .pre .1 .0) (s .pre .1 .1) (bodies .before .body-of .ensures) (floats-fit (bodies .before .body-of .result) _ (bodies .before .body-of .ok)) (bodies .body-of2 .ensures)
+    (bytes-all (now (s .args .batch)) (λ k. omega (arith, bodies .before .before .shared-slice-known .given k))) (c .before .same-body .ensures) (c .if1 .taken)
+
 returns-2 : tie.Need-returns-2
 returns-2 c =
     let s = c .before .before .before .before .before .before .before .before .before .before .before .before in
     let long : length (now (s .args .state)) ≡ 9640 = omega arith in
     let bodies = c .before .before .before .before .before .before .before .before .before in
-    same-data (s .pre .0) (s .pre .1 .0) (s .pre .1 .1) (bodies .before .body-of .ensures) (bodies .body-of2 .ensures) long
+    same-data (s .pre .0) (s .pre .1 .0) (s .pre .1 .1) (bodies .before .body-of .ensures) (floats-fit (bodies .before .body-of .result) _ (bodies .before .body-of .ok)) (bodies .body-of2 .ensures)
+    (bytes-all (now (s .args .batch)) (λ k. omega (arith, bodies .before .before .shared-slice-known .given k))) long
     (c .before .before .before .before .before .before .before .before .same-body .ensures) (c .before .before .before .before .before .before .before .if1 .left)
     (c .before .before .before .before .before .before .id-at .ensures) (c .before .before .before .before .before .shape-at .ensures)
     (c .before .before .before .before .first-entry .ensures) (c .before .before .before .first-child .ensures) (c .same-run .ensures)
@@ -29,7 +39,7 @@ same-data-spec =
     (λ c κs. search needs)
     (λ c. omega (arith, few-listed))
     (λ c κs. search needs) (λ c κs. search needs)
-    (λ c. search other-data)
+    returns
     (λ c κs. search needs) (λ c κs. search needs) (λ c κs. search needs)
     (λ c. search needs)
     (λ c κs. search needs)

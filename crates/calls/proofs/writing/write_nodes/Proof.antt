@@ -6,6 +6,8 @@ use lib.ListN.{length}
 use Rattle.base.specs.Regions.{fills}
 use Rattle.base.proofs.Regions.{fills-none}
 use Rattle.state_array.specs.Stored.{linkRow}
+use Rattle.update_bodies.proofs.Bodies.{floats-fit}
+use Rattle.update_bodies.proofs.Same.{bytes-all}
 use Rattle.calls.specs.Links.{linkWord}
 use Rattle.calls.specs.Written.{nodesAfter, nodesRegions}
 use Rattle.calls.proofs.writing.Plan.{count-told, nodes-room, told-compared, code-there, code-few, id-there, link-there, body-there}
@@ -39,13 +41,14 @@ loop-again c =
     let read = stored .before .before in
     let at = read .before .before in
     let l = at .before .before .before .before .loop in
-    let s = at .before .before .before .before .before .before .before in
+    let slice = at .before .before .before .before .before .before in
+    let s = slice .before in
     let among : l .r < length (nodesAfter (now (s .args .state)) (now (s .args .batch)) (s .args .scope)) = omega (arith, l .inv .0) in (
       l .inv .0,
       l .inv .1,
       omega arith,
       node-more _ (l .r) (omega arith) _ (l .inv .3) (at .before .id-of .ensures ∙ id-there (s .pre) among) (at .link-of .ensures ∙ ap linkRow (link-there (s .pre) among))
-          (body-there (s .pre) among (read .body-of .ensures)) (stored .put-id .ensures) (c .before .before .put-link .ensures) (c .put-body .ensures),
+          (body-there (s .pre) among (read .body-of .ensures) (floats-fit (read .body-of .result) _ (read .body-of .ok)) (bytes-all (now (s .args .batch)) (λ k. omega (arith, slice .shared-slice-known .given k)))) (stored .put-id .ensures) (c .before .before .put-link .ensures) (c .put-body .ensures),
     )
 
 returns : tie.Need-returns Inv-loop μ-loop
