@@ -83,7 +83,7 @@ fn own_filter_at(state: &State, focused: usize, i: usize) -> FilterResult
 }
 
 // `common_filter_without_parent_checks`
-pub(crate) fn without_parent_checks_at(
+pub(crate) fn common_filter_without_parent_checks(
     state: &State,
     parents: &[u16],
     focused: usize,

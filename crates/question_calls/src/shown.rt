@@ -187,7 +187,12 @@ fn included_from(state: &State, parents: &[u16], focused: usize, from: usize) ->
     let n = state_array::slots(state);
     let mut p = from;
     while p < n {
-        if plain::is_include(plain::without_parent_checks_at(state, parents, focused, p)) {
+        if plain::is_include(plain::common_filter_without_parent_checks(
+            state,
+            parents,
+            focused,
+            p,
+        )) {
             return p;
         }
         p = links::parent_slot(state, parents, p);

@@ -6,7 +6,7 @@ use Rattle.question_calls.proofs.filters.known_at.Statement.{statement}
 use Rattle.question_calls.proofs.filters.known_at.Tie as tie
 
 returns-2 : tie.Need-returns-2
-returns-2 c = λ l. c .is-exclude-subtree .ensures ∙ ap isExcludeSubtree (c .before .common-filter-at .ensures (c .before .before .before .before .before .pre .0) l)
+returns-2 c = λ l. c .is-exclude-subtree .ensures ∙ ap isExcludeSubtree (c .before .common-filter-or-hidden .ensures (c .before .before .before .before .before .pre .0) l)
 
 pub known-at-spec : {M : Type 1} → statement M
 known-at-spec = tie.close (tie.spec (λ c κs. search needs) (λ c κs. search needs) (λ c. c .nothing-known .ensures) (λ c κs. search needs) (λ c κs. search needs) returns-2)
