@@ -175,7 +175,7 @@ pub struct Known {
 }
 
 // What is known where nothing is.
-fn nothing_known(state: &State) -> Known
+pub(crate) fn nothing_known(state: &State) -> Known
     ensures { λ r. ⌜ Knows (now (state .entry)) r ⌝ }
 {
     Known {
@@ -184,7 +184,8 @@ fn nothing_known(state: &State) -> Known
     }
 }
 
-// What a filter needs to know of a node, to be asked of those below it: nothing where it asks no parent.
+// What a filter needs to know of a node, to be asked of those below it: nothing where it asks no parent, or where no node below would ask: there
+// is no child, or all are hidden or transparent.
 pub(crate) fn known_at(
     state: &State,
     parents: &[u16],
@@ -197,6 +198,12 @@ pub(crate) fn known_at(
     ensures { λ r. ⌜ Knows (now (state .entry)) r ⌝ }
 {
     if is_plain(filter) {
+        return nothing_known(state);
+    }
+    let on = Side::Following;
+    let slot = links::first_child_slot(state, on, i);
+    let met = plain::shown_from(state, parents, focused, on, Place { slot, level: 0 });
+    if state_array::slots(state) <= met.slot {
         return nothing_known(state);
     }
     let result = common_filter_or_hidden(state, parents, focused, i);
@@ -252,7 +259,7 @@ pub(crate) fn filter_knowing(
     }
 }
 
-// `common_filter`, where something is known of a node above.
+// `common_filter`, where something is known of a node above. A node that is hidden itself or transparent asks no parent.
 fn common_filter_knowing(
     state: &State,
     parents: &[u16],
@@ -267,6 +274,9 @@ fn common_filter_knowing(
 {
     if state_array::slots(state) <= i {
         return FilterResult::Include;
+    }
+    if plain::is_transparent(state, i) | links::hidden_at(state, i) {
+        return common_filter_or_hidden(state, parents, focused, i);
     }
     let hidden = links::is_hidden(state, parents, i);
     let dropped = is_parent_dropped(state, parents, focused, known, i);

@@ -125,7 +125,13 @@ pub(crate) fn included_above(state: &State, parents: &[u16], focused: usize, i: 
 }
 
 // From where a walk stands to the first node that is listed.
-fn shown_from(state: &State, parents: &[u16], focused: usize, side: Side, at: Place) -> Place
+pub(crate) fn shown_from(
+    state: &State,
+    parents: &[u16],
+    focused: usize,
+    side: Side,
+    at: Place,
+) -> Place
     requires { ⌜ Sound (now state) ⌝ }
     requires { ⌜ Focused (now state) focused ⌝ }
     ensures { λ r. ⌜ Lists (ownFilter (view (now (state .entry)))) side (now (state .entry)) at r ⌝ }

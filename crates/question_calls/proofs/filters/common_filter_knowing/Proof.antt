@@ -1,4 +1,4 @@
--- `filters::common_filter_knowing` meets its contract: what is told of the node is so. Assumes nothing.
+-- `filters::common_filter_knowing` meets its contract: it asks no parent, or what is told of the node is so. Assumes nothing.
 use native.Mathlib.Omega.{arith}
 use borrow.Author.Needs.{needs}
 use Rattle.question_calls.proofs.filters.common_filter_knowing.Statement.{statement}
@@ -7,10 +7,13 @@ use Rattle.question_calls.proofs.filters.common_filter_knowing.Tie as t
 returns : tie.Need-returns
 returns c = λ sound there. absurd (omega (arith, c .before .slots .ensures))
 
+common-filter-or-hidden-requires : tie.Need-common-filter-or-hidden-requires
+common-filter-or-hidden-requires c κs = let pre = c .before .before .before .before .before .before .pre in (pre .0, pre .1 .0)
+
 common-filter-told-requires : tie.Need-common-filter-told-requires
 common-filter-told-requires c κs =
-    let pre = c .before .before .before .before .before .pre in
-    let l = rw (c .before .before .before .slots .ensures) at (c .before .before .if1 .left) in
+    let pre = c .before .before .before .before .before .before .before .before .pre in
+    let l = rw (c .before .before .before .before .before .before .slots .ensures) at (c .before .before .before .before .before .if1 .left) in
     record {
       is-sound = pre .0;
       focus = pre .1 .0;
@@ -20,4 +23,16 @@ common-filter-told-requires c κs =
     }
 
 pub common-filter-knowing-spec : {M : Type 1} → statement M
-common-filter-knowing-spec = tie.close (tie.spec (λ c κs. search needs) returns (λ c κs. search needs) (λ c κs. search needs) common-filter-told-requires (λ c sound there. c .common-filter-told .ensures))
+common-filter-knowing-spec =
+    tie.close
+    (tie.spec
+    (λ c κs. search needs)
+    returns
+    (λ c κs. search needs)
+    (λ c κs. search needs)
+    common-filter-or-hidden-requires
+    (λ c. c .common-filter-or-hidden .ensures)
+    (λ c κs. search needs)
+    (λ c κs. search needs)
+    common-filter-told-requires
+    (λ c sound there. c .common-filter-told .ensures))
