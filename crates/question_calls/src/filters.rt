@@ -54,10 +54,10 @@ fn filter_at(
     ensures { λ r. ⌜ OfSlot (now (state .entry)) i (λ f x. r ≡ filterOf filter (view (now (state .entry))) x) ⌝ }
 {
     match filter {
-        Filter::Common => common_filter_at(state, parents, focused, i),
-        Filter::WithRootException => with_root_exception_at(state, parents, focused, i),
+        Filter::Common => common_filter_or_hidden(state, parents, focused, i),
+        Filter::WithRootException => common_filter_with_root_exception(state, parents, focused, i),
         Filter::WithoutParentChecks => {
-            plain::without_parent_checks_at(state, parents, focused, i)
+            plain::common_filter_without_parent_checks(state, parents, focused, i)
         }
     }
 }
@@ -107,8 +107,8 @@ fn is_clipped(state: &State, parents: &[u16], focused: usize, i: usize) -> bool
     !is_first_sibling_in_parent_bbox(state, parents, focused, Side::Preceding, at, parent_bbox)
 }
 
-// `common_filter`
-fn common_filter_at(state: &State, parents: &[u16], focused: usize, i: usize) -> FilterResult
+// `common_filter` of any node: whether it or an ancestor is hidden is asked here, once.
+fn common_filter_or_hidden(state: &State, parents: &[u16], focused: usize, i: usize) -> FilterResult
     requires { ⌜ Sound (now state) ⌝ }
     requires { ⌜ Focused (now state) focused ⌝ }
     ensures { λ r. ⌜ OfSlot (now (state .entry)) i (λ f x. r ≡ commonFilter (view (now (state .entry))) x) ⌝ }
@@ -122,11 +122,11 @@ fn common_filter_at(state: &State, parents: &[u16], focused: usize, i: usize) ->
     if links::is_hidden(state, parents, i) {
         return FilterResult::ExcludeSubtree;
     }
-    common_filter_up(state, parents, focused, i)
+    common_filter(state, parents, focused, i)
 }
 
-// The same of a node that is not hidden, so that no ancestor is: it asks the parent, one step nearer the root.
-fn common_filter_up(state: &State, parents: &[u16], focused: usize, i: usize) -> FilterResult
+// `common_filter` of a node that is not hidden, so that no ancestor is: it asks the same question of the parent, one step nearer the root.
+fn common_filter(state: &State, parents: &[u16], focused: usize, i: usize) -> FilterResult
     requires { ⌜ Unhidden (now state) focused i ⌝ }
     ensures { λ r. ⌜ r ≡ commonFilter (view (now (state .entry))) (idIn (now (state .entry)) i) ⌝ }
 {
@@ -140,7 +140,7 @@ fn common_filter_up(state: &State, parents: &[u16], focused: usize, i: usize) ->
     if state_array::slots(state) <= p {
         return FilterResult::Include;
     }
-    if is_exclude_subtree(common_filter_up(state, parents, focused, p)) {
+    if is_exclude_subtree(common_filter(state, parents, focused, p)) {
         return FilterResult::ExcludeSubtree;
     }
     if is_clipped(state, parents, focused, i) {
@@ -150,7 +150,12 @@ fn common_filter_up(state: &State, parents: &[u16], focused: usize, i: usize) ->
 }
 
 // `common_filter_with_root_exception`
-fn with_root_exception_at(state: &State, parents: &[u16], focused: usize, i: usize) -> FilterResult
+fn common_filter_with_root_exception(
+    state: &State,
+    parents: &[u16],
+    focused: usize,
+    i: usize,
+) -> FilterResult
     requires { ⌜ Sound (now state) ⌝ }
     requires { ⌜ Focused (now state) focused ⌝ }
     ensures { λ r. ⌜ OfSlot (now (state .entry)) i (λ f x. r ≡ withRootException (view (now (state .entry))) x) ⌝ }
@@ -158,7 +163,7 @@ fn with_root_exception_at(state: &State, parents: &[u16], focused: usize, i: usi
     if is_root(state, i) {
         return FilterResult::Include;
     }
-    common_filter_at(state, parents, focused, i)
+    common_filter_or_hidden(state, parents, focused, i)
 }
 
 // ## By what is known of the parent
@@ -170,7 +175,7 @@ pub struct Known {
 }
 
 // What is known where nothing is.
-fn nothing_known(state: &State) -> Known
+pub(crate) fn nothing_known(state: &State) -> Known
     ensures { λ r. ⌜ Knows (now (state .entry)) r ⌝ }
 {
     Known {
@@ -179,7 +184,8 @@ fn nothing_known(state: &State) -> Known
     }
 }
 
-// What a filter needs to know of a node, to be asked of those below it: nothing where it asks no parent.
+// What a filter needs to know of a node, to be asked of those below it: nothing where it asks no parent, or where no node below would ask: there
+// is no child, or all are hidden or transparent.
 pub(crate) fn known_at(
     state: &State,
     parents: &[u16],
@@ -194,7 +200,13 @@ pub(crate) fn known_at(
     if is_plain(filter) {
         return nothing_known(state);
     }
-    let result = common_filter_at(state, parents, focused, i);
+    let on = Side::Following;
+    let slot = links::first_child_slot(state, on, i);
+    let met = plain::shown_from(state, parents, focused, on, Place { slot, level: 0 });
+    if state_array::slots(state) <= met.slot {
+        return nothing_known(state);
+    }
+    let result = common_filter_or_hidden(state, parents, focused, i);
     Known {
         slot: i,
         dropped: is_exclude_subtree(result),
@@ -233,22 +245,22 @@ pub(crate) fn filter_knowing(
     ensures { λ r. ⌜ OfSlot (now (state .entry)) i (λ f x. r ≡ filterOf filter (view (now (state .entry))) x) ⌝ }
 {
     match filter {
-        Filter::Common => common_knowing(state, parents, focused, known, i),
+        Filter::Common => common_filter_knowing(state, parents, focused, known, i),
         Filter::WithRootException => {
             if is_root(state, i) {
                 FilterResult::Include
             } else {
-                common_knowing(state, parents, focused, known, i)
+                common_filter_knowing(state, parents, focused, known, i)
             }
         }
         Filter::WithoutParentChecks => {
-            plain::without_parent_checks_at(state, parents, focused, i)
+            plain::common_filter_without_parent_checks(state, parents, focused, i)
         }
     }
 }
 
-// `common_filter`, where something is known of a node above.
-fn common_knowing(
+// `common_filter`, where something is known of a node above. A node that is hidden itself or transparent asks no parent.
+fn common_filter_knowing(
     state: &State,
     parents: &[u16],
     focused: usize,
@@ -263,9 +275,12 @@ fn common_knowing(
     if state_array::slots(state) <= i {
         return FilterResult::Include;
     }
+    if plain::is_transparent(state, i) | links::hidden_at(state, i) {
+        return common_filter_or_hidden(state, parents, focused, i);
+    }
     let hidden = links::is_hidden(state, parents, i);
     let dropped = is_parent_dropped(state, parents, focused, known, i);
-    common_below(state, parents, focused, i, hidden, dropped)
+    common_filter_told(state, parents, focused, i, hidden, dropped)
 }
 
 // Whether `common_filter` drops the parent.
@@ -282,11 +297,11 @@ fn is_parent_dropped(state: &State, parents: &[u16], focused: usize, known: Know
     if p == known.slot {
         return known.dropped;
     }
-    is_exclude_subtree(common_filter_at(state, parents, focused, p))
+    is_exclude_subtree(common_filter_or_hidden(state, parents, focused, p))
 }
 
 // `common_filter` of a node, told whether it is hidden and whether its parent is dropped.
-fn common_below(
+fn common_filter_told(
     state: &State,
     parents: &[u16],
     focused: usize,
@@ -345,7 +360,7 @@ pub(crate) fn nearest_up(
     let p = links::parent_slot(state, parents, i);
     let above = nearest_up(state, parents, focused, excepted, p);
     let hidden = above.hidden | links::hidden_at(state, i);
-    let result = common_below(state, parents, focused, i, hidden, above.dropped);
+    let result = common_filter_told(state, parents, focused, i, hidden, above.dropped);
     let dropped = is_exclude_subtree(result);
     if is_kept(state, excepted, result, i) {
         return Nearest {
@@ -406,7 +421,7 @@ pub(crate) fn is_passed(
     requires { ⌜ Focused (now state) focused ⌝ }
     ensures { λ r. ⌜ OfSlot (now (state .entry)) i (λ f x. r ≡ isExcludeNode (filterOf filter (view (now (state .entry))) x)) ⌝ }
 {
-    let result = plain::without_parent_checks_at(state, parents, focused, i);
+    let result = plain::common_filter_without_parent_checks(state, parents, focused, i);
     let passed = is_exclude_node(result);
     if !has_root_exception(filter) {
         return passed;

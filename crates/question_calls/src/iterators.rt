@@ -130,6 +130,12 @@ fn list_from<'a, 'b>(
     requires { ⌜ Knows (now state) (start .known) ⌝ }
     ensures { λ r. ⌜ PutsList (listedFrom (filterOf filter (view (now (state .entry)))) side (now (state .entry)) (start .place)) (now (out .entry)) r (now (out .exit)) ⌝ }
 {
+    if state_array::slots(state) <= start.place.slot {
+        return ListAnswer {
+            number: WRITTEN,
+            length: 0,
+        };
+    }
     let mut ids = [0u64; LIST_WORDS];
     let n = shown::collect(
         state,

@@ -83,7 +83,7 @@ fn own_filter_at(state: &State, focused: usize, i: usize) -> FilterResult
 }
 
 // `common_filter_without_parent_checks`
-pub(crate) fn without_parent_checks_at(
+pub(crate) fn common_filter_without_parent_checks(
     state: &State,
     parents: &[u16],
     focused: usize,
@@ -125,7 +125,13 @@ pub(crate) fn included_above(state: &State, parents: &[u16], focused: usize, i: 
 }
 
 // From where a walk stands to the first node that is listed.
-fn shown_from(state: &State, parents: &[u16], focused: usize, side: Side, at: Place) -> Place
+pub(crate) fn shown_from(
+    state: &State,
+    parents: &[u16],
+    focused: usize,
+    side: Side,
+    at: Place,
+) -> Place
     requires { ⌜ Sound (now state) ⌝ }
     requires { ⌜ Focused (now state) focused ⌝ }
     ensures { λ r. ⌜ Lists (ownFilter (view (now (state .entry)))) side (now (state .entry)) at r ⌝ }

@@ -187,7 +187,12 @@ fn included_from(state: &State, parents: &[u16], focused: usize, from: usize) ->
     let n = state_array::slots(state);
     let mut p = from;
     while p < n {
-        if plain::is_include(plain::without_parent_checks_at(state, parents, focused, p)) {
+        if plain::is_include(plain::common_filter_without_parent_checks(
+            state,
+            parents,
+            focused,
+            p,
+        )) {
             return p;
         }
         p = links::parent_slot(state, parents, p);
@@ -261,7 +266,7 @@ pub(crate) fn deepest_child(
     }
 }
 
-// To the nearest filtered sibling on a side.
+// To the nearest filtered sibling on a side. Where nothing is ahead, no ancestor is asked for.
 pub(crate) fn shown_sibling(
     state: &State,
     parents: &[u16],
@@ -277,10 +282,18 @@ pub(crate) fn shown_sibling(
 {
     let n = state_array::slots(state);
     let up = climb(state, parents, focused, filter, i);
+    let level = up.level;
+    let next = steps::after(state, parents, side, Place { slot: i, level });
+    let end = Place { slot: n, level: 0 };
+    if n <= next.slot {
+        return Start {
+            known: filters::nothing_known(state),
+            place: end,
+        };
+    }
     let near = nearest(state, parents, focused, filter, up.slot);
     let parent = near.included;
     let known = near.known;
-    let end = Place { slot: n, level: 0 };
     if n <= parent {
         return Start { known, place: end };
     }
@@ -290,11 +303,9 @@ pub(crate) fn shown_sibling(
     if n <= first {
         return Start { known, place: end };
     }
-    let level = up.level;
-    let from = Place { slot: i, level };
     Start {
         known,
-        place: shown_after(state, parents, focused, filter, known, side, from),
+        place: shown_from(state, parents, focused, filter, known, side, next),
     }
 }
 

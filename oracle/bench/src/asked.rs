@@ -38,6 +38,7 @@ pub enum Of {
     Slowest,
     Root,
     Middle,
+    Last,
 }
 
 /// All rows.
@@ -75,6 +76,22 @@ pub fn rows() -> Vec<Row> {
     rows
 }
 
+/// The filtered questions of the last node.
+pub fn last_rows() -> Vec<Row> {
+    let row = |words, question| Row { words, question, of: Of::Last };
+    vec![
+        row("`common_filter`", Question::Filter(COMMON)),
+        row("filtered parent", Question::FilteredParent(COMMON)),
+        row("filtered children", Question::FilteredChildren(COMMON)),
+        row("first filtered child", Question::FirstChild(COMMON)),
+        row("last filtered child", Question::LastChild(COMMON)),
+        row("deepest first filtered child", Question::DeepestFirst(COMMON)),
+        row("deepest last filtered child", Question::DeepestLast(COMMON)),
+        row("filtered siblings after it", Question::FilteredSiblings(COMMON, FOLLOWING)),
+        row("filtered siblings before it", Question::FilteredSiblings(COMMON, PRECEDING)),
+    ]
+}
+
 /// Both answers must be equal.
 fn compare(screen: &Screen, question: Question, id: Id) {
     let (mut x, mut y) = ([0; _], [0; _]);
@@ -90,6 +107,7 @@ pub fn asked(screen: &Screen, row: &Row) -> Asked {
         Of::Slowest => vec![slowest(screen, row.question)],
         Of::Root => vec![screen.ids[0]],
         Of::Middle => vec![middle(screen)],
+        Of::Last => vec![last(screen)],
     };
     ids.iter().for_each(|id| compare(screen, row.question, *id));
     timed(screen, row.question, &ids)
@@ -117,6 +135,13 @@ pub fn middle(screen: &Screen) -> Id {
     let half = screen.ids.len() / 2;
     let found = (0..screen.ids.len()).filter(between).min_by_key(|k| k.abs_diff(half));
     screen.ids[found.unwrap_or(half)]
+}
+
+/// The last node that is neither hidden nor a container.
+fn last(screen: &Screen) -> Id {
+    let question = Question::Filter(WITHOUT_PARENT_CHECKS);
+    let included = |id: &&Id| ours(&screen.ours, question, **id, &mut [0; _]) == Answer::Result(0);
+    *screen.ids.iter().rev().find(included).expect("a node")
 }
 
 /// Rounds of whole questions, of judging alone and of the crate, a few questions in turn. A few questions' time is the

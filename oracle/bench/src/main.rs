@@ -35,10 +35,14 @@ fn main() {
     let words: Vec<String> = std::env::args().skip(1).collect();
     match words.iter().map(String::as_str).collect::<Vec<_>>()[..] {
         [] => calls(),
-        ["questions"] => question_tables::print(None),
+        ["questions"] => {
+            question_tables::print(None);
+            question_tables::print_last();
+        }
+        ["questions", "last"] => question_tables::print_last(),
         ["questions", part @ ("48" | "256" | "worst")] => question_tables::print(Some(part)),
         ["stack"] => stack::print(),
-        _ => panic!("`questions` (with `48`, `256` or `worst`), `stack`, or nothing for the calls"),
+        _ => panic!("`questions` (with `48`, `256`, `worst` or `last`), `stack`, or nothing for the calls"),
     }
 }
 

@@ -1,6 +1,6 @@
 //! The questions' tables, in Markdown.
-use crate::asked::{Asked, Row, asked, rows, walked};
-use crate::screens::{Screen, usual, worst};
+use crate::asked::{Asked, Row, asked, last_rows, rows, walked};
+use crate::screens::{Screen, ends, usual, worst};
 
 /// A row on a state, and what it took.
 struct Cell {
@@ -23,6 +23,12 @@ pub fn print(part: Option<&str>) {
     slowest(&rows, &screens, &cells);
     println!("\nA whole walk by `next` over the filtered siblings after a node in the middle.\n");
     walks(&screens);
+}
+
+/// Prints the table of the last nodes.
+pub fn print_last() {
+    println!("\n256 nodes, the last one: our own work / the crate's time, µs, and the ratio.\n");
+    matrix(&last_rows(), &ends(256), 0, &mut vec![]);
 }
 
 /// A line for each question, a column for each state.

@@ -1,7 +1,7 @@
 //! States for the questions, each held by both sides.
 use accesskit_consumer::tree::TreeState;
 use calls::judge::held;
-use calls::plain::{BOUNDS, Batch, CLIPS, Data, Id, ROOT, State, TRANSFORM};
+use calls::plain::{BOUNDS, Batch, CLIPS, Data, HIDDEN, Id, ROOT, State, TRANSFORM};
 use cartgravel::{CHANGES, sys};
 
 /// An ordinary role, and that of a container.
@@ -107,6 +107,31 @@ pub fn clipping_chain(nodes: u64) -> Screen {
         number: consecutive,
     }
     .screen()
+}
+
+/// States whose last node is deep or has many siblings; below it is nothing, or nothing that is listed.
+pub fn ends(nodes: u64) -> Vec<Screen> {
+    let last = nodes - 1;
+    let chain = |name, data: Box<dyn Fn(u64) -> Data>| Plan {
+        name,
+        nodes,
+        parent: Box::new(above),
+        data,
+        number: consecutive,
+    };
+    let clipping = || with(meeting(), ORDINARY, CLIPS);
+    let empty = move |i| if i == last { with(meeting(), CONTAINER, 0) } else { clipping() };
+    let hidden = move |i| if i == last { with(meeting(), ORDINARY, HIDDEN) } else { clipping() };
+    let containers = move |i| with(meeting(), if 0 < i && i < last { CONTAINER } else { ORDINARY }, 0);
+    let plans = [
+        chain("a chain, clipping", Box::new(move |_| clipping())),
+        chain("a chain, clipping, an empty container at its end", Box::new(empty)),
+        chain("a chain, clipping, a hidden node at its end", Box::new(hidden)),
+        chain("a chain of containers, a node at its end", Box::new(containers)),
+        Plan { parent: Box::new(|_| 0), ..chain("wide", Box::new(|_| meeting())) },
+        scattered_chain(nodes),
+    ];
+    plans.iter().map(Plan::screen).collect()
 }
 
 /// The slowest states that were found, of these many nodes.

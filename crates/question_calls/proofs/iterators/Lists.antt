@@ -1,6 +1,6 @@
 -- Laws of lists in the lent slice and of single nodes. Assumes nothing.
 use mathlib.Core.Bool.{Bool, true, false}
-use mathlib.Core.List.{List, _++_}
+use mathlib.Core.List.{List, [], _++_}
 use mathlib.Core.Option.{Option}
 use mathlib.Core.Path.{_≡_, refl, sym, ap, ap₂, _∙_}
 use Prim.Native.Nat.{ℕ, _+_, _*_, _≤_, _<_}
@@ -64,6 +64,15 @@ module _ (ids : List ℕ) (n : ℕ) (long : 2 * n ≤ length ids) (lent : List �
         answer-is = sym (ap (answerFor n) fits);
         slice-is = q ∙ ap₂ (λ (i j : ℕ). take i ids ++ drop j lent) e whole ∙ sym (ap (sliceFor words lent) fits);
       }
+
+-- ## No list
+
+-- of no ids nothing is written
+pub puts-nothing : (xs : List FullNodeId) (lent : List ℕ) → xs ≡ [] → PutsList xs lent (record { number = 0; length = 0 }) lent
+unfolding written idWords
+puts-nothing xs lent e =
+    let fits = le-ltb (length lent) 0 (omega arith) in
+    rw e (record { answer-is = sym (ap (answerFor 0) fits); slice-is = sym (ap (sliceFor [] lent) fits) })
 
 -- ## A list that was collected
 

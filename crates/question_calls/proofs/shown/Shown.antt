@@ -7,7 +7,7 @@ use Prim.Native.Nat.{ℕ, suc, _-_, _≤_, _<_}
 use native.Mathlib.Decide.{decLt}
 use native.Mathlib.Omega.{arith}
 use lib.ListN.{length, getElem?}
-use Rattle.base.specs.Tests.{isNil}
+use Rattle.base.specs.Tests.{if_then_else_, isNil}
 use Rattle.ids.specs.declared.FullNodeId.{FullNodeId}
 use Rattle.state.specs.State.{Forest, present}
 use Rattle.state_array.specs.View.{idIn, slotsOf, view}
@@ -15,7 +15,7 @@ use Rattle.questions.specs.declared.Side.{Side}
 use Rattle.questions.specs.declared.Side.the-variants.{Following, Preceding}
 use Rattle.questions.specs.declared.FilterResult.{FilterResult}
 use Rattle.questions.specs.declared.FilterResult.the-variants.{Include, ExcludeNode, ExcludeSubtree}
-use Rattle.questions.specs.Links.{childIds, ancestors}
+use Rattle.questions.specs.Links.{childIds, siblings, ancestors}
 use Rattle.questions.specs.Walks.{turned, leading, shown, orElse, deepestWithin, filteredChildren, firstFilteredChild, lastFilteredChild, deepestFirstFilteredChild, deepestLastFilteredChild, isExcludedNode, filteredParent, climbed, hasFilteredSiblings, filteredSiblings}
 use Rattle.questions.specs.Ahead.{ahead}
 use Rattle.questions.proofs.Links.{ancestors-few}
@@ -202,6 +202,14 @@ module _ (side : Side) (s : List ℕ) (h : Sound s) where
       unfolding filteredSiblings hasFilteredSiblings
       orphan e = rw (e, hasFilteredSiblings) refl
 
+      alone : (level : ℕ) → level ≡ length (leading (isExcludedNode filter) (ancestors f x)) → ahead side f level x ≡ [] → filteredSiblings filter side f x ≡ []
+      unfolding filteredSiblings flatMap
+      alone level l e = go (hasFilteredSiblings filter f x)
+        where
+          go : (b : Bool) → (if b then flatMap (shown filter side f) (flatMap (siblings side f) (climbed filter f x)) else []) ≡ []
+          go true = rw (climbed-ahead filter side f x, ← l, e) refl
+          go false = refl
+
       childless : (p : FullNodeId) → filteredParent filter f x ≡ some p → firstFilteredChild filter f p ≡ none → filteredSiblings filter side f x ≡ []
       unfolding filteredSiblings hasFilteredSiblings firstFilteredChild
       childless p e q = rw (e, hasFilteredSiblings, head-none (filteredChildren filter f p) q) refl
@@ -212,6 +220,12 @@ module _ (side : Side) (s : List ℕ) (h : Sound s) where
       unfolding filteredSiblings hasFilteredSiblings firstFilteredChild
       parented p c level e q l =
           rw (e, hasFilteredSiblings, head-some (filteredChildren filter f p) c q, climbed-ahead filter side f x, l) refl
+
+    -- nothing is ahead
+    pub siblings-alone : (x : FullNodeId) (up : Place) → Climbs filter s x up → (next r : Place) → metFrom side s next ≡ ahead side f (up .level) x → slotsOf s ≤ next .slot
+        → slotsOf s ≤ r .slot → filteredSiblings filter side f x ≡ listed r
+    siblings-alone x up climbed next r e l past =
+        alone x (up .level) (climbed .levels) (sym e ∙ met-end side s (next .slot) (next .level) l) ∙ sym (listed-nil r past)
 
     -- by the slot of the filtered parent, and by that of its first filtered child
     module _ (x : FullNodeId) (up : Place) (climbed : Climbs filter s x up) (p : ℕ) (found : slotId s p ≡ firstIncluded filter (upFrom s (up .slot))) (r : Place) where

@@ -13,7 +13,7 @@ use Rattle.question_calls.proofs.filters.Near.{included-here, included-
 use Rattle.question_calls.proofs.filters.nearest_up.Reads as nearest-up
 use Rattle.question_calls.proofs.filters.nearest_up.Kinds as nearest-up-kinds
 use Rattle.question_calls.proofs.filters.+nearest_up.Lts-nearest_up as nearest-up-lts
-use Rattle.question_calls.proofs.filters.common_below.Reads as common-below-reads
+use Rattle.question_calls.proofs.filters.common_filter_told.Reads as common-filter-told-reads
 use Rattle.question_calls.proofs.filters.is_exclude_subtree.Reads as is-exclude-subtree-reads
 use Rattle.question_calls.proofs.filters.is_kept.Reads as is-kept-reads
 use Rattle.question_calls.proofs.links.hidden_at.Reads as hidden-at-reads
@@ -44,8 +44,8 @@ calls t = (
   nearest-up.Post,
   hidden-at-reads.Asked,
   hidden-at-reads.Learnt,
-  common-below-reads.Asked,
-  common-below-reads.Learnt,
+  common-filter-told-reads.Asked,
+  common-filter-told-reads.Learnt,
   is-exclude-subtree-reads.Asked,
   is-exclude-subtree-reads.Learnt,
   is-kept-reads.Asked,
@@ -69,8 +69,8 @@ nearest-up-requires t c κs =
     let l = rw (c .before .before .slots .ensures) at (c .before .if1 .left) in
     (omega (arith, start .pre .0, ap length (up-next _ sound _ _ l (c .parent-slot .ensures sound l))), start .pre .1)
 
-common-below-requires : (t : ℕ) → nearest-up-lts.Need-common-below-requires (calls t) (nearest-up-at t) nearest-up.Post
-common-below-requires t c κs =
+common-filter-told-requires : (t : ℕ) → nearest-up-lts.Need-common-filter-told-requires (calls t) (nearest-up-at t) nearest-up.Post
+common-filter-told-requires t c κs =
     let sound = c .before .before .before .before .before .before .before .pre .1 .0 in
     let l = rw (c .before .before .before .before .before .slots .ensures) at (c .before .before .before .before .if1 .left) in
     let up = c .before .before .before .parent-slot .ensures sound l in
@@ -84,7 +84,7 @@ common-below-requires t c κs =
     }
 
 is-kept-requires : (t : ℕ) → nearest-up-lts.Need-is-kept-requires (calls t) (nearest-up-at t) nearest-up.Post
-is-kept-requires t c κs = c .before .common-below .ensures
+is-kept-requires t c κs = c .before .common-filter-told .ensures
 
 returns-2 : (t : ℕ) → nearest-up-lts.Need-returns-2 (calls t) (nearest-up-at t) nearest-up.Post
 returns-2 t c =
@@ -96,7 +96,7 @@ returns-2 t c =
       included-is = included-here (filterOf _ _) _ sound _ l _ refl (sym (c .before .is-kept .ensures) ∙ c .if2 .taken);
       nothing = λ past. absurd (omega arith);
       hidden-is = λ _. hidden-joined _ sound _ l _ up _ _ (λ past. near .nothing past .0) (near .hidden-is) (c .before .before .before .before .before .hidden-at .ensures sound l);
-      dropped-is = λ _. c .before .before .is-exclude-subtree .ensures ∙ ap isExcludeSubtree (c .before .before .before .common-below .ensures);
+      dropped-is = λ _. c .before .before .is-exclude-subtree .ensures ∙ ap isExcludeSubtree (c .before .before .before .common-filter-told .ensures);
     }
 
 returns-3 : (t : ℕ) → nearest-up-lts.Need-returns-3 (calls t) (nearest-up-at t) nearest-up.Post
@@ -109,7 +109,7 @@ returns-3 t c =
       included-is = near .included-is ∙ included-on (filterOf _ _) _ sound _ l _ refl _ up (sym (c .before .is-kept .ensures) ∙ c .if2 .left);
       nothing = λ past. absurd (omega arith);
       hidden-is = λ _. hidden-joined _ sound _ l _ up _ _ (λ past. near .nothing past .0) (near .hidden-is) (c .before .before .before .before .before .hidden-at .ensures sound l);
-      dropped-is = λ _. c .before .before .is-exclude-subtree .ensures ∙ ap isExcludeSubtree (c .before .before .before .common-below .ensures);
+      dropped-is = λ _. c .before .before .is-exclude-subtree .ensures ∙ ap isExcludeSubtree (c .before .before .before .common-filter-told .ensures);
     }
 
 pub +nearest-up-spec : {M : Type 1} → statement M
@@ -121,7 +121,7 @@ pub +nearest-up-spec : {M : Type 1} → statement M
     (λ c κs. search needs)
     (nearest-up-requires t)
     (λ c κs. search needs)
-    (common-below-requires t)
+    (common-filter-told-requires t)
     (λ c κs. search needs)
     (is-kept-requires t)
     (returns-2 t)

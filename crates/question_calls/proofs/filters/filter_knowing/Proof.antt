@@ -8,7 +8,7 @@ use Rattle.question_calls.proofs.filters.filter_knowing.Tie as tie
 
 returns : tie.Need-returns
 unfolding filterOf
-returns c = λ sound there. rw (c .before .enum-told .given .1) (c .common-knowing .ensures sound there)
+returns c = λ sound there. rw (c .before .enum-told .given .1) (c .common-filter-knowing .ensures sound there)
 
 returns-2 : tie.Need-returns-2
 unfolding filterOf
@@ -17,11 +17,11 @@ returns-2 c = λ sound there. rw (c .before .before .enum-told2 .given .1) (exce
 returns-3 : tie.Need-returns-3
 unfolding filterOf
 returns-3 c = λ sound there.
-    rw (c .before .before .before .enum-told2 .given .1) (c .common-knowing2 .ensures sound there ∙ exception-other _ _ (sym (c .before .before .is-root .ensures) ∙ c .before .if1 .left))
+    rw (c .before .before .before .enum-told2 .given .1) (c .common-filter-knowing2 .ensures sound there ∙ exception-other _ _ (sym (c .before .before .is-root .ensures) ∙ c .before .if1 .left))
 
 returns-4 : tie.Need-returns-4
 unfolding filterOf
-returns-4 c = λ sound there. rw (c .before .enum-told3 .given .1) (c .without-parent-checks-at .ensures sound there)
+returns-4 c = λ sound there. rw (c .before .enum-told3 .given .1) (c .common-filter-without-parent-checks .ensures sound there)
 
 pub filter-knowing-spec : {M : Type 1} → statement M
 filter-knowing-spec = tie.close (tie.spec (λ c. search needs) (λ c κs. search needs) (λ c. search needs) (λ c κs. search needs) (λ c κs. search needs) (λ c. search needs) (λ c κs. search needs) returns returns-2 returns-3 returns-4)

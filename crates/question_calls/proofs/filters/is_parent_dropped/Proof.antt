@@ -14,14 +14,14 @@ returns-2 c = λ sound there.
     dropped-known _ sound _ there _ (c .before .before .before .before .parent-slot .ensures sound there) _ (c .before .before .before .before .before .before .pre .1 .1) (c .if2 .taken)
     (rw (c .before .before .before .slots .ensures) at (c .before .before .if1 .left))
 
-common-filter-at-requires : tie.Need-common-filter-at-requires
-common-filter-at-requires c κs = let pre = c .before .before .before .before .before .before .pre in (pre .0, pre .1 .0)
+common-filter-or-hidden-requires : tie.Need-common-filter-or-hidden-requires
+common-filter-or-hidden-requires c κs = let pre = c .before .before .before .before .before .before .pre in (pre .0, pre .1 .0)
 
 returns-3 : tie.Need-returns-3
 returns-3 c = λ sound there.
     let l = rw (c .before .before .before .before .before .slots .ensures) at (c .before .before .before .before .if1 .left) in
     dropped-up _ sound _ there _ (c .before .before .before .before .before .before .parent-slot .ensures sound there) _ l
-    (c .is-exclude-subtree .ensures ∙ ap isExcludeSubtree (c .before .common-filter-at .ensures sound l))
+    (c .is-exclude-subtree .ensures ∙ ap isExcludeSubtree (c .before .common-filter-or-hidden .ensures sound l))
 
 pub is-parent-dropped-spec : {M : Type 1} → statement M
-is-parent-dropped-spec = tie.close (tie.spec (λ c κs. search needs) (λ c κs. search needs) returns returns-2 common-filter-at-requires (λ c κs. search needs) returns-3)
+is-parent-dropped-spec = tie.close (tie.spec (λ c κs. search needs) (λ c κs. search needs) returns returns-2 common-filter-or-hidden-requires (λ c κs. search needs) returns-3)

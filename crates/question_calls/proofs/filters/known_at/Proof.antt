@@ -5,8 +5,22 @@ use Rattle.questions.specs.Filters.{isExcludeSubtree}
 use Rattle.question_calls.proofs.filters.known_at.Statement.{statement}
 use Rattle.question_calls.proofs.filters.known_at.Tie as tie
 
-returns-2 : tie.Need-returns-2
-returns-2 c = λ l. c .is-exclude-subtree .ensures ∙ ap isExcludeSubtree (c .before .common-filter-at .ensures (c .before .before .before .before .before .pre .0) l)
+returns-3 : tie.Need-returns-3
+returns-3 c = λ l.
+    c .is-exclude-subtree .ensures ∙ ap isExcludeSubtree (c .before .common-filter-or-hidden .ensures (c .before .before .before .before .before .before .before .before .before .before .pre .0) l)
 
 pub known-at-spec : {M : Type 1} → statement M
-known-at-spec = tie.close (tie.spec (λ c κs. search needs) (λ c κs. search needs) (λ c. c .nothing-known .ensures) (λ c κs. search needs) (λ c κs. search needs) returns-2)
+known-at-spec =
+    tie.close
+    (tie.spec
+    (λ c κs. search needs)
+    (λ c κs. search needs)
+    (λ c. c .nothing-known .ensures)
+    (λ c κs. search needs)
+    (λ c κs. search needs)
+    (λ c κs. search needs)
+    (λ c κs. search needs)
+    (λ c. c .nothing-known2 .ensures)
+    (λ c κs. search needs)
+    (λ c κs. search needs)
+    returns-3)

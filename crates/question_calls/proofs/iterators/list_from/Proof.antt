@@ -1,7 +1,9 @@
--- `iterators::list_from` meets its contract: the buffer holds the list. Assumes nothing.
+-- `iterators::list_from` meets its contract: nothing is listed, or the buffer holds the list. Assumes nothing.
 use native.Mathlib.Omega.{arith}
 use borrow.Author.Needs.{needs}
-use Rattle.question_calls.proofs.iterators.Lists.{puts-collected}
+use Rattle.questions.specs.Filters.{filterOf}
+use Rattle.question_calls.proofs.shown.Shown.{listed-nil}
+use Rattle.question_calls.proofs.iterators.Lists.{puts-nothing, puts-collected}
 use Rattle.question_calls.proofs.iterators.list_from.Statement.{statement}
 use Rattle.question_calls.proofs.iterators.list_from.Tie as tie
 
@@ -9,10 +11,13 @@ put-requires : tie.Need-put-requires
 put-requires c κs = omega (arith, c .before .before .before .collect .ensures .few)
 
 returns : tie.Need-returns
-returns c = puts-collected _ _ _ _ _ _ _ (c .before .before .before .before .before .before .collect .ensures) (c .before .before .put .ensures)
+returns c = puts-nothing _ _ (listed-nil _ _ (c .before .before .before .before .before .pre .0) (filterOf _ _) _ (rw (c .before .before .slots .ensures) at (c .if1 .taken)))
+
+returns-2 : tie.Need-returns-2
+returns-2 c = puts-collected _ _ _ _ _ _ _ (c .before .before .before .before .before .before .collect .ensures) (c .before .before .put .ensures)
 
 collect-requires : tie.Need-collect-requires
-collect-requires c κs = let pre = c .before .before .before .pre in (pre .0, (pre .1 .0, (pre .1 .1, omega arith)))
+collect-requires c κs = let pre = c .before .before .before .before .before .before .pre in (pre .0, (pre .1 .0, (pre .1 .1, omega arith)))
 
 pub list-from-spec : {M : Type 1} → statement M
-list-from-spec = tie.close (tie.spec (λ c. search needs) collect-requires (λ c. search needs) put-requires (λ c. search needs) returns)
+list-from-spec = tie.close (tie.spec (λ c κs. search needs) returns (λ c. search needs) collect-requires (λ c. search needs) put-requires (λ c. search needs) returns-2)

@@ -22,15 +22,15 @@ abbrev μ-loop : tie.MeasureT-loop
 loop-holds : tie.Need-loop-holds Inv-loop μ-loop
 loop-holds c = (c .slots .ensures, refl)
 
-without-parent-checks-at-requires : tie.Need-without-parent-checks-at-requires Inv-loop μ-loop
-without-parent-checks-at-requires c κs = c .before .before .before .before .pre .1
+common-filter-without-parent-checks-requires : tie.Need-common-filter-without-parent-checks-requires Inv-loop μ-loop
+common-filter-without-parent-checks-requires c κs = c .before .before .before .before .pre .1
 
 returns : tie.Need-returns Inv-loop μ-loop
 returns c =
     let l = c .before .before .before .before .loop in
     let sound = c .before .before .before .before .before .before .before .pre .0 in
     let there = rw (l .inv .0) at (c .before .before .before .loop-test .taken) in
-    included-here (withoutParentChecks _) _ sound (l .p) there _ (c .before .before .without-parent-checks-at .ensures sound there) (sym (c .before .is-include .ensures) ∙ c .if1 .taken)
+    included-here (withoutParentChecks _) _ sound (l .p) there _ (c .before .before .common-filter-without-parent-checks .ensures sound there) (sym (c .before .is-include .ensures) ∙ c .if1 .taken)
     ∙ l .inv .1
 
 loop-less : tie.Need-loop-less Inv-loop μ-loop
@@ -46,7 +46,7 @@ loop-again c =
     let sound = c .before .before .before .before .before .before .before .before .pre .0 in
     let there = rw (l .inv .0) at (c .before .before .before .before .loop-test .taken) in (
       l .inv .0,
-      included-on (withoutParentChecks _) _ sound (l .p) there _ (c .before .before .before .without-parent-checks-at .ensures sound there) _ (c .parent-slot .ensures sound there)
+      included-on (withoutParentChecks _) _ sound (l .p) there _ (c .before .before .before .common-filter-without-parent-checks .ensures sound there) _ (c .parent-slot .ensures sound there)
           (sym (c .before .before .is-include .ensures) ∙ c .before .if1 .left)
           ∙ l .inv .1,
     )
@@ -64,7 +64,7 @@ included-from-spec =
     μ-loop
     (λ c κs. search needs)
     loop-holds
-    without-parent-checks-at-requires
+    common-filter-without-parent-checks-requires
     (λ c κs. search needs)
     returns
     (λ c κs. search needs)

@@ -1,10 +1,10 @@
--- `filters::common_filter_at` meets its contract: focused, hidden, or neither. Assumes nothing.
+-- `filters::common_filter_or_hidden` meets its contract: focused, hidden, or neither. Assumes nothing.
 use mathlib.Core.Path.{sym, _∙_}
 use native.Mathlib.Omega.{arith}
 use Rattle.question_calls.proofs.filters.Common.{common-focused, common-hidden}
 use borrow.Author.Needs.{needs}
-use Rattle.question_calls.proofs.filters.common_filter_at.Statement.{statement}
-use Rattle.question_calls.proofs.filters.common_filter_at.Tie as tie
+use Rattle.question_calls.proofs.filters.common_filter_or_hidden.Statement.{statement}
+use Rattle.question_calls.proofs.filters.common_filter_or_hidden.Tie as tie
 
 returns : tie.Need-returns
 returns c = λ sound there. common-focused _ sound _ (c .before .before .pre .1) _ there (c .if1 .taken)
@@ -17,18 +17,18 @@ returns-3 c = λ sound there.
     let g = c .before .before .before .before in
     common-hidden _ sound _ (g .before .before .pre .1) _ there (g .if1 .left) (sym (c .before .is-hidden .ensures sound there) ∙ c .if3 .taken)
 
-common-filter-up-requires : tie.Need-common-filter-up-requires
-common-filter-up-requires c κs =
+common-filter-requires : tie.Need-common-filter-requires
+common-filter-requires c κs =
     let g = c .before .before .before .before in
     let sound = g .before .before .pre .0 in
     let there = rw (c .before .before .before .slots .ensures) at (c .before .before .if2 .left) in
     record { is-sound = sound; focus = g .before .before .pre .1; within = there; shown = sym (c .before .is-hidden .ensures sound there) ∙ c .if3 .left }
 
 returns-4 : tie.Need-returns-4
-returns-4 c = λ sound there. c .common-filter-up .ensures
+returns-4 c = λ sound there. c .common-filter .ensures
 
-pub common-filter-at-spec : {M : Type 1} → statement M
-common-filter-at-spec =
+pub common-filter-or-hidden-spec : {M : Type 1} → statement M
+common-filter-or-hidden-spec =
     tie.close
     (tie.spec
     returns
@@ -36,5 +36,5 @@ common-filter-at-spec =
     returns-2
     (λ c κs. search needs)
     returns-3
-    common-filter-up-requires
+    common-filter-requires
     returns-4)

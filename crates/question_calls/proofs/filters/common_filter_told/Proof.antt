@@ -1,10 +1,10 @@
--- `filters::common_below` meets its contract: by the first test that holds. Assumes nothing.
+-- `filters::common_filter_told` meets its contract: by the first test that holds. Assumes nothing.
 use mathlib.Core.Path.{sym, _∙_}
 use borrow.Author.Needs.{needs}
 use Rattle.question_calls.proofs.filters.Common.{common-focused, common-hidden, common-transparent}
 use Rattle.question_calls.proofs.filters.Near.{told-unhidden, told-dropped, told-clipped, told-included}
-use Rattle.question_calls.proofs.filters.common_below.Statement.{statement}
-use Rattle.question_calls.proofs.filters.common_below.Tie as tie
+use Rattle.question_calls.proofs.filters.common_filter_told.Statement.{statement}
+use Rattle.question_calls.proofs.filters.common_filter_told.Tie as tie
 
 returns : tie.Need-returns
 returns c = let t = c .before .before .pre in common-focused _ (t .is-sound) _ (t .focus) _ (t .within) (sym (c .if1 .taken))
@@ -40,5 +40,5 @@ returns-6 c =
     told-included _ _ _ _ _ t (c .before .before .before .before .before .if2 .left) (λ e. c .before .before .before .before .before .before .if1 .left (sym e)) plain (c .before .before .if4 .left)
     (sym (c .before .is-clipped .ensures (t .is-sound) (t .within) plain) ∙ c .if5 .left)
 
-pub common-below-spec : {M : Type 1} → statement M
-common-below-spec = tie.close (tie.spec returns returns-2 (λ c κs. search needs) returns-3 returns-4 is-clipped-requires returns-5 returns-6)
+pub common-filter-told-spec : {M : Type 1} → statement M
+common-filter-told-spec = tie.close (tie.spec returns returns-2 (λ c κs. search needs) returns-3 returns-4 is-clipped-requires returns-5 returns-6)

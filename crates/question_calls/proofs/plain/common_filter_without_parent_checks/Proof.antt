@@ -1,10 +1,10 @@
--- `plain::without_parent_checks_at` meets its contract: the inherited flag is asked. Assumes nothing.
+-- `plain::common_filter_without_parent_checks` meets its contract: the inherited flag is asked. Assumes nothing.
 use mathlib.Core.Path.{sym, _∙_}
 use borrow.Author.Needs.{needs}
 use Rattle.question_calls.proofs.plain.Own.{checks-by-flag}
 use Rattle.question_calls.proofs.plain.Rows.{by-focused, by-hidden, by-transparent, by-plain}
-use Rattle.question_calls.proofs.plain.without_parent_checks_at.Statement.{statement}
-use Rattle.question_calls.proofs.plain.without_parent_checks_at.Tie as tie
+use Rattle.question_calls.proofs.plain.common_filter_without_parent_checks.Statement.{statement}
+use Rattle.question_calls.proofs.plain.common_filter_without_parent_checks.Tie as tie
 
 returns : tie.Need-returns
 returns c = λ sound there. by-focused _ sound _ (c .before .before .pre) _ there _ (c .if1 .taken) ∙ sym (checks-by-flag _ _)
@@ -28,7 +28,7 @@ returns-4 c = λ sound there.
     by-plain _ sound _ (g .before .before .pre) _ there _ (g .if1 .left) (sym (k .before .is-hidden .ensures sound there) ∙ k .if2 .left)
     (sym (c .before .is-transparent .ensures sound there) ∙ c .if3 .left) ∙ sym (checks-by-flag _ _)
 
-pub without-parent-checks-at-spec : {M : Type 1} → statement M
-without-parent-checks-at-spec =
+pub common-filter-without-parent-checks-spec : {M : Type 1} → statement M
+common-filter-without-parent-checks-spec =
     tie.close
     (tie.spec returns (λ c κs. search needs) returns-2 (λ c κs. search needs) returns-3 returns-4)
