@@ -13,27 +13,54 @@ use Rattle.record.specs.Encode.{recordBytes, recordsBytes, entryBytes, labels, 
 use Rattle.state.specs.State.{sameLink, parentOf, idsOf, blank, find, present, graftAt, linkAt, parentAt, holder, subtreeState, subtreeFrom, subtreeOf}
 use Rattle.state.specs.Down.{metUnder, childrenMet, below, belowId, down, rootOf, wayDown, climb}
 use Rattle.state.specs.Focus.{throughGrafts, effectiveFocus, orActiveDescendant, stateFocus}
-use Rattle.state.specs.Sound.{metOnce, recorded, graftIsBare, soundLinks, graftsDiffer, grafted, allGrafted, rootFirst, oneIdEach, soundTrees, ascending, wayEnds, soundShape, focusPresent, sound}
-use Rattle.update.specs.Words.{listing, known, treeNumber, here, mine, old, listed, turn, naming, named, withTreeData, rootAfter, isRoot, claim, claimer, claimedFrom, letsGo}
+use Rattle.state.specs.Sound.{metOnce, recorded, graftIsBare, soundLinks, graftsDiffer, grafted, allGrafted, rootFirst, oneIdEach, soundTrees}
+use Rattle.state.specs.Sound.{ascending, wayEnds, soundShape, focusPresent, sound}
+use Rattle.update.specs.Words.{listing, known, treeNumber, here, mine, old, listed, turn, naming, named, withTreeData, rootAfter, isRoot, claim}
+use Rattle.update.specs.Words.{claimer, claimedFrom, letsGo}
 use Rattle.update.specs.Pass.{placedAtTurn, namings, events, fault, pass}
 use Rattle.update.specs.Gone.{goesIf, fares, replaced, fateHere, fateElsewhere, fate, goneWithin, gone}
-use Rattle.update.specs.Outcome.{renewed, write, writeAll, underGraft, written, paneRoot, cutLasts, linkIsCut, linkHere, linkElsewhere, linkAfter, relink, subtreeHere, subtreeElsewhere, entryAfter, entriesAfter, newEntry, outcome}
-use Rattle.update.specs.Reports.{noChanges, added, removed, isUpdated, updated, isRelinked, relinked, changesWith, changesOf, lengthsOf, changeWords, sliceAfter, unlessIn, focusMoved, extraBefore, extraAfter}
+use Rattle.update.specs.Outcome.{renewed, write, writeAll, underGraft, written, paneRoot, cutLasts, linkIsCut, linkHere, linkElsewhere, linkAfter}
+use Rattle.update.specs.Outcome.{relink, subtreeHere, subtreeElsewhere, entryAfter, entriesAfter, newEntry, outcome}
+use Rattle.update.specs.Reports.{noChanges, added, removed, isUpdated, updated, isRelinked, relinked, changesWith, changesOf, lengthsOf, changeWords}
+use Rattle.update.specs.Reports.{sliceAfter, unlessIn, focusMoved, extraBefore, extraAfter}
 use Rattle.update.specs.Numbers.{absent, placeless, nowhere, updatedAndRemoved, rowsBeforePass, rowsAfterPass, batchNumber}
-use Rattle.update.specs.Calls.{refused, accepted, judged, batchRows, updateNumber, updateBatch, update, seed, withoutTreeData, startNumber, started, startBatch, start, withHostFocus, hostFocus}
+use Rattle.update.specs.Calls.{refused, accepted, judged, batchRows, updateNumber, updateBatch, update, seed, withoutTreeData, startNumber, started}
+use Rattle.update.specs.Calls.{startBatch, start, withHostFocus, hostFocus}
 use Rattle.record_rules.specs.Rules.{rule, headerRules, recordRules, recordOffence, totalRules, recordFault}
-use Rattle.reasons.specs.Shape.{spotFrom, smallest, idsBelow, wider, widened, reached, linksBelow, linksFrom, metLinks, crowded, absentIds, absence, isMetTwice, isNeverMet, topmostWithin, unmet, metLink, disagrees, wrongLinkFrom, brokenLinks, graftTwiceFrom, treeTwiceFrom, unrootedFrom, brokenTrees, disorderFrom, brokenShape, brokenState}
-use Rattle.reasons.specs.Pass.{repeatedAfter, namersAmong, namersOf, claimerAmong, secondClaim, placing, passReason, passFault, placelessFrom, nowhereUnder, nowhereFault}
-use Rattle.reasons.specs.Outcome.{wayThrough, focusWay, lastOf, lastGraft, focusReason, dropper, droppedWithin, removedReason, claims, clashReason, outcomeReason}
+use Rattle.reasons.specs.Shape.{spotFrom, smallest, idsBelow, wider, widened, reached, linksBelow, linksFrom, metLinks, crowded, absentIds}
+use Rattle.reasons.specs.Shape.{absence, isMetTwice, isNeverMet, topmostWithin, unmet, metLink, disagrees, wrongLinkFrom, brokenLinks}
+use Rattle.reasons.specs.Shape.{graftTwiceFrom, treeTwiceFrom, unrootedFrom, brokenTrees, disorderFrom, brokenShape, brokenState}
+use Rattle.reasons.specs.Pass.{repeatedAfter, namersAmong, namersOf, claimerAmong, secondClaim, placing, passReason, passFault, placelessFrom}
+use Rattle.reasons.specs.Pass.{nowhereUnder, nowhereFault}
+use Rattle.reasons.specs.Outcome.{wayThrough, focusWay, lastOf, lastGraft, focusReason, dropper, droppedWithin, removedReason, claims}
+use Rattle.reasons.specs.Outcome.{clashReason, outcomeReason}
 use Rattle.reasons.specs.Explain.{reasonsBeforePass, reasonsAfterPass, batchReason, sliceReason, orAccepted, whyUpdate, whyStart}
-use Rattle.reasons.specs.Cases.{Case, listedAgain, treeNotGrafted, treeNotThere, namedAgain, graftOverChild, rootGrafted, claimedAgain, holderStays, noPlace, noChild, focusOnGraft, newRootGone, goneWithParent, rootNamedInPane, listedAfterParent, rootNamed, rootUnderGone, paneRootAbsent}
+use Rattle.reasons.specs.Cases.{Case, listedAgain, treeNotGrafted, treeNotThere, namedAgain, graftOverChild, rootGrafted, claimedAgain}
+use Rattle.reasons.specs.Cases.{holderStays, noPlace, noChild, focusOnGraft, newRootGone, goneWithParent, rootNamedInPane, listedAfterParent}
+use Rattle.reasons.specs.Cases.{rootNamed, rootUnderGone, paneRootAbsent}
 
 abbrev pub Right : Case → Type 0
 Right c = c .got ≡ c .says
 
 -- `unfolding computed` unfolds every definition
 computed : Unit {0}
-unfolding parentOf ofBits toBits eq _&&_ first littleEndian le bytesOf allBelow zeros listOf sumOf zeroBytes sameValue sameTree sameIndex sameNode sameId before rectTest affineTest sameRect sameAffine activeDescendant? graft? bounds? transform? fieldsOk sameData listedIds namedIds headerOk childrenBefore labelsBefore recordOk wellFormed parse recordBytes recordsBytes entryBytes labels headerBytes encode sameLink find present graftAt linkAt parentAt holder subtreeState subtreeFrom subtreeOf metUnder childrenMet below belowId down rootOf wayDown climb throughGrafts effectiveFocus orActiveDescendant stateFocus metOnce recorded graftIsBare soundLinks graftsDiffer grafted allGrafted rootFirst oneIdEach soundTrees ascending wayEnds soundShape focusPresent sound listing known treeNumber here mine old listed turn naming named withTreeData rootAfter isRoot claim claimer claimedFrom letsGo placedAtTurn namings events fault pass goesIf fares replaced fateHere fateElsewhere fate goneWithin gone renewed write writeAll underGraft written paneRoot cutLasts linkIsCut linkHere linkElsewhere linkAfter relink subtreeHere subtreeElsewhere entryAfter entriesAfter newEntry outcome noChanges idsOf added removed isUpdated updated isRelinked relinked changesWith changesOf lengthsOf idWords changeWords sliceAfter unlessIn focusMoved extraBefore extraAfter absent placeless nowhere updatedAndRemoved rowsBeforePass rowsAfterPass batchNumber refused accepted judged batchRows updateNumber updateBatch update blank seed withoutTreeData startNumber started startBatch start withHostFocus hostFocus rule headerRules recordRules recordOffence totalRules recordFault spotFrom smallest idsBelow wider widened reached linksBelow linksFrom metLinks crowded absentIds absence isMetTwice isNeverMet topmostWithin unmet metLink disagrees wrongLinkFrom brokenLinks graftTwiceFrom treeTwiceFrom unrootedFrom brokenTrees disorderFrom brokenShape brokenState repeatedAfter namersAmong namersOf claimerAmong secondClaim placing passReason passFault placelessFrom nowhereUnder nowhereFault wayThrough focusWay lastOf lastGraft focusReason dropper droppedWithin removedReason claims clashReason outcomeReason reasonsBeforePass reasonsAfterPass batchReason sliceReason orAccepted whyUpdate whyStart
+unfolding parentOf ofBits toBits eq _&&_ first littleEndian le bytesOf allBelow zeros listOf sumOf zeroBytes sameValue sameTree sameIndex sameNode
+    sameId before rectTest affineTest sameRect sameAffine activeDescendant? graft? bounds? transform? fieldsOk sameData listedIds namedIds headerOk
+    childrenBefore labelsBefore recordOk wellFormed parse recordBytes recordsBytes entryBytes labels headerBytes encode sameLink find present graftAt
+    linkAt parentAt holder subtreeState subtreeFrom subtreeOf metUnder childrenMet below belowId down rootOf wayDown climb throughGrafts
+    effectiveFocus orActiveDescendant stateFocus metOnce recorded graftIsBare soundLinks graftsDiffer grafted allGrafted rootFirst oneIdEach
+    soundTrees ascending wayEnds soundShape focusPresent sound listing known treeNumber here mine old listed turn naming named withTreeData rootAfter
+    isRoot claim claimer claimedFrom letsGo placedAtTurn namings events fault pass goesIf fares replaced fateHere fateElsewhere fate goneWithin gone
+    renewed write writeAll underGraft written paneRoot cutLasts linkIsCut linkHere linkElsewhere linkAfter relink subtreeHere subtreeElsewhere
+    entryAfter entriesAfter newEntry outcome noChanges idsOf added removed isUpdated updated isRelinked relinked changesWith changesOf lengthsOf
+    idWords changeWords sliceAfter unlessIn focusMoved extraBefore extraAfter absent placeless nowhere updatedAndRemoved rowsBeforePass rowsAfterPass
+    batchNumber refused accepted judged batchRows updateNumber updateBatch update blank seed withoutTreeData startNumber started startBatch start
+    withHostFocus hostFocus rule headerRules recordRules recordOffence totalRules recordFault spotFrom smallest idsBelow wider widened reached
+    linksBelow linksFrom metLinks crowded absentIds absence isMetTwice isNeverMet topmostWithin unmet metLink disagrees wrongLinkFrom brokenLinks
+    graftTwiceFrom treeTwiceFrom unrootedFrom brokenTrees disorderFrom brokenShape brokenState repeatedAfter namersAmong namersOf claimerAmong
+    secondClaim placing passReason passFault placelessFrom nowhereUnder nowhereFault wayThrough focusWay lastOf lastGraft focusReason dropper
+    droppedWithin removedReason claims clashReason outcomeReason reasonsBeforePass reasonsAfterPass batchReason sliceReason orAccepted whyUpdate
+    whyStart
 computed = tt
 
 listed-again : Right listedAgain

@@ -1,6 +1,7 @@
 -- A state that is not sound breaks a rule that is found. Assumes nothing.
 use mathlib.Core.Bool.{true, false, not, false≢true}
-use mathlib.Core.List.{List, [], _∷_, _++_, List·Memᴰ, List·Memᴰ·head, List·Memᴰ·tail, List·Memᴰ·not-nil, List·Memᴰ·cases-cons, List·Memᴰ·append-cases, List·Memᴰ·eq-of-singleton, Memᴰ·append-right}
+use mathlib.Core.List.{List, [], _∷_, _++_, List·Memᴰ, List·Memᴰ·head, List·Memᴰ·tail, List·Memᴰ·not-nil, List·Memᴰ·cases-cons}
+use mathlib.Core.List.{List·Memᴰ·append-cases, List·Memᴰ·eq-of-singleton, Memᴰ·append-right}
 use mathlib.Core.Logic.{⊎-elim}
 use mathlib.Core.Option.{Option, none, some}
 use mathlib.Core.Path.{_≡_, refl, sym, ap, _∙_, subst}
@@ -26,12 +27,14 @@ use Rattle.state.proofs.Down.{way-down-from, down-below, below-id-by}
 use Rattle.state.proofs.Ends.{meets, total-all}
 use Rattle.state.proofs.Once.{once, each-once}
 use Rattle.reasons.specs.Reasons.{Broken, tooManyNodes, tooManyTrees, brokenField, noFocus}
-use Rattle.reasons.specs.Holds.{Breaks}
+use Rattle.reasons.specs.Breaks.{FirstOfState, FirstOfShape}
 use Rattle.reasons.specs.Shape.{idsBelow, widened, reached, metLinks, metLink, brokenShape, brokenState, spot, at}
-use Rattle.reasons.proofs.Broken.{has-member, member-present, shape-says, state-says}
-use Rattle.reasons.proofs.Links.{rootLinks, member-map, links-below, below-links, widened-more, widened-old, wider-old, wider-below, wider-cases}
-use Rattle.reasons.proofs.Unbroken.{Unbroken, unbroken, none-each, none-made, none-unless, spot-none}
-use Rattle.reasons.proofs.First.{said}
+use Rattle.reasons.proofs.Lists.{has-member, member-map}
+use Rattle.reasons.proofs.Broken.{spot-none, member-present}
+use Rattle.reasons.proofs.Links.{rootLinks, links-below, below-links, widened-more, widened-old, wider-old, wider-below, wider-cases}
+use Rattle.reasons.proofs.Unbroken.{Unbroken, unbroken}
+use Rattle.reasons.proofs.First.{none-each, none-made, none-unless}
+use Rattle.reasons.proofs.Order.{shape-first, state-first}
 use Rattle.reasons.proofs.Unsound.{state-broken}
 
 -- a list with one element at most, which has this one
@@ -105,7 +108,8 @@ module _ (s : Forest) (k : Unbroken s) where
   down-recorded (suc room) d (n ∷ ms) l h m i =
       ⊎-elim (λ q. rw q (going-recorded d n (h n (List·Memᴰ·head refl))))
       (λ j. down-recorded room (suc d) (belowId s (n .id) ++ ms) (omega arith)
-      (λ x p. ⊎-elim (λ b. going-below d (omega arith) n x (h n (List·Memᴰ·head refl)) b) (λ b. going-later d x (h x (List·Memᴰ·tail b))) (List·Memᴰ·append-cases (belowId s (n .id)) p)) m j)
+      (λ x p. ⊎-elim (λ b. going-below d (omega arith) n x (h n (List·Memᴰ·head refl)) b) (λ b. going-later d x (h x (List·Memᴰ·tail b)))
+      (List·Memᴰ·append-cases (belowId s (n .id)) p)) m j)
       (List·Memᴰ·cases-cons i)
 
   start : Met
@@ -194,12 +198,14 @@ module _ (s : Forest) (k : Unbroken s) where
   unfolding metOnce meets
   all-once =
       all-of (metOnce (wayDown s)) (s .nodes)
-      (λ n i. let z = node-met n i in eq-eqb (meets (n .id) (wayDown s)) 1 (omega (arith, single-met (n .id), met-count (n .id) (wayDown s) (z .0) (z .1) (z .2))))
+      (λ n i. let z = node-met n i in eq-eqb (meets (n .id) (wayDown s)) 1
+      (omega (arith, single-met (n .id), met-count (n .id) (wayDown s) (z .0) (z .1) (z .2))))
 
   pub unbroken-sound : soundShape s ≡ true
   unfolding soundShape soundLinks soundTrees wayEnds
   unbroken-sound =
-      joined (joined (joined (joined (joined all-once all-recorded) (k .bare)) (joined (joined (joined (k .differ) (k .first)) (k .one-id)) (k .held))) (k .ordered))
+      joined (joined (joined (joined (joined all-once all-recorded) (k .bare))
+      (joined (joined (joined (k .differ) (k .first)) (k .one-id)) (k .held))) (k .ordered))
       (le-leb (length (wayDown s)) (length (s .nodes)) short)
 
 -- where no rule is found broken, the shape is sound
@@ -208,10 +214,10 @@ shape-complete s e = unbroken-sound s (unbroken s e)
 
 -- ## The answers
 
--- so where the shape is not sound, a broken rule is found, and it is broken
-pub shape-found : (s : Forest) → soundShape s ≡ false → (b : Broken) × (brokenShape s ≡ some b) × Breaks s b
+-- so where the shape is not sound, a broken rule is found, and it is the first that is broken
+pub shape-found : (s : Forest) → soundShape s ≡ false → (b : Broken) × (brokenShape s ≡ some b) × FirstOfShape s b
 shape-found s e =
-    by-option (brokenShape s) (λ q. absurd (clash e (shape-complete s q))) (λ b q. (b, q, said (Breaks s) (brokenShape s) (shape-says s) b q))
+    by-option (brokenShape s) (λ q. absurd (clash e (shape-complete s q))) (λ b q. (b, q, shape-first s b q))
 
 -- no rule of a sound state is found broken where the state is sound, and only there
 pub state-complete : (s : Forest) → isNone (brokenState s) ≡ sound s
@@ -239,6 +245,6 @@ state-complete s = iff there back
     back : sound s ≡ true → isNone (brokenState s) ≡ true
     back e = by-option (brokenState s) (λ q. rw q) (λ b q. absurd (clash (state-broken s b q) e))
 
-pub state-found : (s : Forest) → sound s ≡ false → (b : Broken) × (brokenState s ≡ some b) × Breaks s b
+pub state-found : (s : Forest) → sound s ≡ false → (b : Broken) × (brokenState s ≡ some b) × FirstOfState s b
 state-found s e =
-    by-option (brokenState s) (λ q. absurd (clash e (sym (state-complete s) ∙ ap isNone q))) (λ b q. (b, q, said (Breaks s) (brokenState s) (state-says s) b q))
+    by-option (brokenState s) (λ q. absurd (clash e (sym (state-complete s) ∙ ap isNone q))) (λ b q. (b, q, state-first s b q))

@@ -1,11 +1,15 @@
 pub mod First
+pub mod Lists
+pub mod Grafts
 pub mod Numbers
 pub mod Steps
 pub mod Places
+pub mod Circle
 pub mod Broken
 pub mod Links
 pub mod Unsound
 pub mod Unbroken
+pub mod Order
 pub mod Complete
 pub mod Exact
 pub mod Events
@@ -14,4 +18,5 @@ pub mod Dropped
 pub mod Focus
 pub mod Clash
 pub mod Truth
+pub mod Only
 pub mod Cases

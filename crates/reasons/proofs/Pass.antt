@@ -1,20 +1,20 @@
 -- The reasons of 5 and 9 to 14 say what is so. Assumes nothing.
-use mathlib.Core.Bool.{Bool, true, false, not, false≢true}
-use mathlib.Core.List.{List, [], _∷_, _++_, map, List·Memᴰ, List·Memᴰ·head, List·Memᴰ·tail, List·Memᴰ·not-nil, List·Memᴰ·cases-cons, List·Memᴰ·append-cases}
+use mathlib.Core.Bool.{true, false, not, false≢true}
+use mathlib.Core.List.{List, [], _∷_, _++_, map, List·Memᴰ, List·Memᴰ·head, List·Memᴰ·tail, List·Memᴰ·not-nil, List·Memᴰ·cases-cons}
 use mathlib.Core.Logic.{⊎-elim}
-use mathlib.Core.Option.{some}
-use mathlib.Core.Path.{_≡_, refl, sym, ap, _∙_}
-use Prim.Native.Nat.{ℕ, suc, _+_, _≤_, _<_}
+use mathlib.Core.Option.{none, some}
+use mathlib.Core.Path.{_≡_, refl, ap, _∙_}
+use Prim.Native.Nat.{ℕ, zero, suc, _+_, _≤_, _<_}
 use native.Mathlib.Nat.{zero-add}
 use native.Mathlib.Omega.{arith}
-use lib.ListN.{length, length-append, length-map}
+use lib.ListN.{length, length-append}
 use lib.Seq.{append-snoc}
 use Rattle.base.specs.Tests.{_&&_, isSome, isNil, keep, count, sameOption, has, distinct, position}
-use Rattle.base.proofs.Cases.{by-test, by-option}
+use Rattle.base.proofs.Cases.{by-test, by-option, by-order}
 use Rattle.base.proofs.Tests.{both, not-true, clash, refuted, same-option→≡}
-use Rattle.base.proofs.Lists.{has-map}
+use Rattle.base.proofs.Lists.{has-map, has-given, any-of}
 use Rattle.ids.specs.Ids.{ROOT, sameTree, sameNode, sameId}
-use Rattle.ids.proofs.Ids.{same-tree→≡, same-node→≡, same-node-refl, same-id→≡}
+use Rattle.ids.proofs.Ids.{same-tree→≡, same-tree-refl, same-node→≡, same-node-refl, same-id→≡}
 use Rattle.ids.specs.declared.TreeId.{TreeId}
 use Rattle.ids.specs.declared.NodeId.{NodeId}
 use Rattle.ids.specs.declared.FullNodeId.{FullNodeId}
@@ -24,10 +24,14 @@ use Rattle.update.specs.Words.{here, claim}
 use Rattle.update.specs.Pass.{Event, names, places, events}
 use Rattle.update.specs.Numbers.{placeless, nowhere}
 use Rattle.reasons.specs.Reasons.{namedTwice}
-use Rattle.reasons.specs.Pass.{repeatedAfter, namersAmong, namersOf, claimerAmong, secondClaim, placing, passReason, passFault, placelessFrom, nowhereUnder, nowhereFault}
-use Rattle.reasons.specs.Holds.{At, at-head, at-tail, OfBatch}
+use Rattle.reasons.specs.Pass.{repeatedAfter, namersAmong, namersOf, claimerAmong, secondClaim, placing, passReason, passFault, placelessFrom}
+use Rattle.reasons.specs.Pass.{nowhereUnder, nowhereFault}
+use Rattle.reasons.specs.Breaks.{At, at-head, at-tail}
+use Rattle.reasons.specs.Holds.{times, namers, OfBatch}
+use Rattle.reasons.proofs.Lists.{count-append}
 use Rattle.reasons.proofs.First.{IfSome, said, says-if, says-else, says-or, says-first}
-use Rattle.reasons.proofs.Places.{From, from-start, from-head, from-tail}
+use Rattle.reasons.proofs.Places.{at-member, at-same, at-before, at-below, From, from-start, from-head, from-tail}
+use Rattle.reasons.proofs.Clash.{placing-none}
 use Rattle.reasons.proofs.Events.{namesOf, names-events, placed-listed, Once, once-pass}
 
 -- ## Places
@@ -51,56 +55,69 @@ count-has : (xs : List NodeId) (x : NodeId) → has sameNode xs x ≡ true → 1
 count-has [] x e = absurd (false≢true e)
 count-has (y ∷ ys) x e = by-test (sameNode x y) (λ t. rw t (omega arith)) (λ t. rw t (count-has ys x (rw t at e)))
 
-count-append : (p : NodeId → Bool) (xs ys : List NodeId) → count p (xs ++ ys) ≡ count p xs + count p ys
-count-append p [] ys = omega arith
-count-append p (x ∷ xs) ys = let h = count-append p xs ys in by-test (p x) (λ t. rw t (omega arith)) (λ t. rw t h)
-
-keep-count : (p : NodeId → Bool) (xs : List NodeId) → length (keep p xs) ≡ count p xs
-keep-count p [] = refl
-keep-count p (x ∷ xs) = let h = keep-count p xs in by-test (p x) (λ t. rw t (omega arith)) (λ t. rw t h)
-
 module _ (s : Forest) (b : Batch) where
   -- ## 5
 
-  repeated-says : (earlier xs : List NodeId) → earlier ++ xs ≡ listedIds (b .nodes) → IfSome (OfBatch s b) (repeatedAfter s b earlier xs)
+  -- no node stands at two places
+  abbrev Apart : List NodeId → Type 0
+  Apart xs = (m : NodeId) (k l : ℕ) → At m xs k → At m xs l → k < l → ⊥
+
+  -- nor does it with one more that does not stand there
+  apart-more : (xs : List NodeId) (x : NodeId) → has sameNode xs x ≡ false → Apart xs → Apart (xs ++ x ∷ [])
+  apart-more xs x e apart m k l i j less =
+      by-order l (length xs) (λ b. apart m k l (at-before xs (x ∷ []) i (omega arith)) (at-before xs (x ∷ []) j b) less)
+      (λ b. let n : length (xs ++ x ∷ []) ≡ length xs + 1 = rw length-append in
+      let last : l ≡ length xs = omega (arith, at-below j) in
+      let same : m ≡ x = at-same (rw last at j) (at-length xs [] x) in
+      clash e (any-of (sameNode x) xs x (at-member (rw same at (at-before xs (x ∷ []) i (omega arith)))) (same-node-refl x)))
+
+  repeated-says : (earlier xs : List NodeId) → earlier ++ xs ≡ listedIds (b .nodes) → Apart earlier → IfSome (OfBatch s b) (repeatedAfter s b earlier xs)
   unfolding repeatedAfter OfBatch
-  repeated-says earlier [] e = tt
-  repeated-says earlier (x ∷ xs) e =
+  repeated-says earlier [] e apart = tt
+  repeated-says earlier (x ∷ xs) e apart =
       says-else (OfBatch s b) (has sameNode earlier x) _ _
-      (λ t. let z = position-before earlier (x ∷ xs) x t in rw (← e) (x, refl, z .1, z .0, at-length earlier xs x))
-      (λ t. repeated-says (earlier ++ x ∷ []) xs (append-snoc earlier x xs ∙ e))
+      (λ t. let z = position-before earlier (x ∷ xs) x t in
+      rw (← e) (
+        x,
+        refl,
+        z .1,
+        z .0,
+        at-length earlier xs x,
+        λ m k l i j less last. apart m k l (at-before earlier (x ∷ xs) i (omega arith))
+            (at-before earlier (x ∷ xs) j last) less,
+      ))
+      (λ t. repeated-says (earlier ++ x ∷ []) xs (append-snoc earlier x xs ∙ e) (apart-more earlier x t apart))
 
   pub repeated-true : IfSome (OfBatch s b) (repeatedAfter s b [] (listedIds (b .nodes)))
-  repeated-true = repeated-says [] (listedIds (b .nodes)) refl
+  repeated-true = repeated-says [] (listedIds (b .nodes)) refl (λ m k l i j less. List·Memᴰ·not-nil (at-member i))
 
   -- ## 9
 
-  length-namers : (ls : List Listed) (n : NodeId) → length (namersAmong s b ls n) ≡ count (sameNode n) (namedIds ls)
-  unfolding namersAmong namedIds
+  times-kept : (cs : List NodeId) (n : NodeId) (x : FullNodeId) (ys : List FullNodeId)
+      → times (count (sameNode n) cs) x ys ≡ map (λ _. x) (keep (sameNode n) cs) ++ ys
+  times-kept [] n x ys = refl
+  times-kept (c ∷ cs) n x ys =
+      let h = times-kept cs n x ys in by-test (sameNode n c) (λ t. rw t (ap {B = List FullNodeId} (λ zs. x ∷ zs) h)) (λ t. rw t h)
+
+  namers-are : (ls : List Listed) (n : NodeId) → namers s b n ls ≡ namersAmong s b ls n
+  unfolding namersAmong
+  namers-are [] n = refl
+  namers-are (l ∷ ls) n = rw (← namers-are ls n) (times-kept (l .body .children) n (here s b (l .id)) (namers s b n ls))
+
+  length-times : (k : ℕ) (x : FullNodeId) (xs : List FullNodeId) → length (times k x xs) ≡ k + length xs
+  length-times zero x xs = omega arith
+  length-times (suc k) x xs = let h = length-times k x xs in omega arith
+
+  length-namers : (ls : List Listed) (n : NodeId) → length (namers s b n ls) ≡ count (sameNode n) (namedIds ls)
+  unfolding namedIds
   length-namers [] n = refl
   length-namers (l ∷ ls) n =
-      rw (length-append, length-map, keep-count (sameNode n) (l .body .children), count-append (sameNode n) (l .body .children) (namedIds ls), length-namers ls n)
-
-  -- a name that is kept is there
-  keep-there : (cs : List NodeId) (n : NodeId) (x y : FullNodeId) → List·Memᴰ y (map (λ _. x) (keep (sameNode n) cs)) → (x ≡ y) × List·Memᴰ n cs
-  keep-there [] n x y i = absurd (List·Memᴰ·not-nil i)
-  keep-there (c ∷ cs) n x y i =
-      by-test (sameNode n c)
-      (λ t. ⊎-elim (λ q. (sym q, List·Memᴰ·head (same-node→≡ n c t))) (λ j. let z = keep-there cs n x y j in (z .0, List·Memᴰ·tail (z .1))) (List·Memᴰ·cases-cons (rw t at i)))
-      (λ t. let z = keep-there cs n x y (rw t at i) in (z .0, List·Memᴰ·tail (z .1)))
-
-  namers-list : (ls : List Listed) (n : NodeId) (x : FullNodeId) → List·Memᴰ x (namersAmong s b ls n)
-      → (l : Listed) × List·Memᴰ l ls × (here s b (l .id) ≡ x) × List·Memᴰ n (l .body .children)
-  unfolding namersAmong
-  namers-list [] n x i = absurd (List·Memᴰ·not-nil i)
-  namers-list (l ∷ ls) n x i =
-      ⊎-elim (λ j. let z = keep-there (l .body .children) n (here s b (l .id)) x j in (l, List·Memᴰ·head refl, z .0, z .1))
-      (λ j. let z = namers-list ls n x j in (z .0, List·Memᴰ·tail (z .1), z .2, z .3))
-      (List·Memᴰ·append-cases (map (λ k. here s b (l .id)) (keep (sameNode n) (l .body .children))) i)
+      length-times (count (sameNode n) (l .body .children)) (here s b (l .id)) (namers s b n ls)
+      ∙ rw (length-namers ls n, count-append (sameNode n) (l .body .children) (namedIds ls))
 
   named-says : (c : NodeId) → 2 ≤ count (sameNode c) (namedIds (b .nodes)) → OfBatch s b (namedTwice (here s b c) (namersOf s b c))
   unfolding OfBatch namersOf
-  named-says c h = (c, refl, omega (arith, length-namers (b .nodes) c), length-namers (b .nodes) c, λ x i. namers-list (b .nodes) c x i)
+  named-says c h = let e = namers-are (b .nodes) c in (c, refl, rw (← e) (omega (arith, length-namers (b .nodes) c)), e)
 
   -- ## 10 to 12
 
@@ -123,10 +140,67 @@ module _ (s : Forest) (b : Batch) where
       refuted (λ q. let p : k .id ≡ n = ap (λ (x : FullNodeId). x .node) (same-id→≡ (here s b (k .id)) (here s b n) q) in
       clash e (rw (← p) (has-map sameNode same-node-refl (λ l. l .id) placed k i)))
 
-  placing-says : (placed : List Listed) (l : Listed) → ((k : Listed) → List·Memᴰ k placed → Placed k) → Placed l
+  -- the moments of the pass
+  abbrev moments : List Event
+  moments = events s b [] (b .nodes)
+
+  -- `placed` are the nodes placed before moment n, and no two of them claim one tree
+  record Until (n : ℕ) (placed : List Listed) : Type 0 where
+    when : (l : Listed) → List·Memᴰ l placed → (i : ℕ) × (i < n) × At (places l) moments i
+    those : (l : Listed) (i : ℕ) → i < n → At (places l) moments i → List·Memᴰ l placed
+    one : (k l : Listed) (i j : ℕ) (t : TreeId) → i < n → j < n → At (places k) moments i → At (places l) moments j
+        → claim s b k ≡ some t → claim s b l ≡ some t → i ≡ j
+
+  until-start : Until 0 []
+  until-start = record {
+    when = λ l i. absurd (List·Memᴰ·not-nil i);
+    those = λ l i less at. absurd (omega arith);
+    one = λ k l i j t less. absurd (omega arith);
+  }
+
+  -- at moment n a child is named
+  until-names : (n : ℕ) (placed : List Listed) (c : NodeId) → At (names c) moments n → Until n placed → Until (suc n) placed
+  until-names n placed c now h = record {
+    when = λ l i. let z = h .when l i in (z .0, omega (arith, z .1), z .2);
+    those = λ l i less at. h .those l i (earlier l i less at) at;
+    one = λ k l i j t p q x y. h .one k l i j t (earlier k i p x) (earlier l j q y) x y;
+  }
+    where
+      earlier : (l : Listed) (i : ℕ) → i < suc n → At (places l) moments i → i < n
+      earlier l i less at =
+          by-order i n (λ e. e)
+          (λ e. let last : i ≡ n = omega arith in
+          let same : places l ≡ names c = at-same (rw last at at) now in
+          let z : _≡_ {A = ℕ} 0 1 = cc in absurd (omega arith))
+
+  -- a node is placed whose tree none placed before claims
+  until-places : (n : ℕ) (placed : List Listed) (l : Listed) → At (places l) moments n → placing s b placed l ≡ none → Until n placed
+      → Until (suc n) (l ∷ placed)
+  until-places n placed l now free h = record {
+    when = λ k i. ⊎-elim (λ q. (n, omega arith, rw q now)) (λ j. let z = h .when k j in (z .0, omega (arith, z .1), z .2)) (List·Memᴰ·cases-cons i);
+    those = λ k i less at. by-order i n (λ e. List·Memᴰ·tail (h .those k i e at)) (λ e. List·Memᴰ·head (this k i less e at));
+    one = λ k m i j t p q x y c d.
+        by-order i n
+        (λ e. by-order j n (λ f. h .one k m i j t e f x y c d) (λ f. absurd (other k m i j t e x c (this m j q f y) d)))
+        (λ e. by-order j n (λ f. absurd (other m k j i t f y d (this k i p e x) c)) (λ f. omega arith));
+  }
+    where
+      this : (k : Listed) (i : ℕ) → i < suc n → n ≤ i → At (places k) moments i → k ≡ l
+      this k i less e at =
+          let last : i ≡ n = omega arith in
+          let same : places k ≡ places l = at-same (rw last at at) now in
+          cc
+
+      -- k was placed before
+      other : (k m : Listed) (i j : ℕ) (t : TreeId) → i < n → At (places k) moments i → claim s b k ≡ some t → m ≡ l → claim s b m ≡ some t → ⊥
+      other k m i j t less at c same d =
+          clash (placing-none s b placed l free t (rw same at d)) (has-given sameTree same-tree-refl (claim s b) placed k t (h .those k i less at) c)
+
+  placing-says : (n : ℕ) (placed : List Listed) (l : Listed) → At (places l) moments n → Until n placed
+      → ((k : Listed) → List·Memᴰ k placed → Placed k) → Placed l
       → has sameNode (listedIds placed) (l .id) ≡ false → IfSome (OfBatch s b) (placing s b placed l)
   unfolding placing secondClaim OfBatch
-  placing-says placed l before this new =
+  placing-says n placed l now until before this new =
       says-else (OfBatch s b) (isSome (graft? (l .body)) && not (isNil (l .body .children))) _ _
       (λ t. let z = both t in (l, this .0, refl, (this .1, z .0, not-true (z .1))))
       (λ _. says-else (OfBatch s b) (sameOption sameTree (claim s b l) (some ROOT)) _ _
@@ -134,31 +208,41 @@ module _ (s : Forest) (b : Batch) where
       (λ _. by-option (claim s b l) (λ q. rw (q, secondClaim) tt)
       (λ t q. by-option (claimerAmong s b placed t) (λ r. rw (q, secondClaim, r) tt)
       (λ k r. let z = said (λ k. List·Memᴰ k placed × (claim s b k ≡ some t)) (claimerAmong s b placed t) (claimer-among placed t) k r in
-      let p = before k (z .0) in
-      rw (q, secondClaim, r) ((k, p .0, refl, (p .1, z .1)), (l, this .0, refl, (this .1, q)), here-apart placed k (l .id) (z .0) new)))))
+      let w = until .when k (z .0) in
+      rw (q, secondClaim, r) (
+        here-apart placed k (l .id) (z .0) new,
+        w .0,
+        n,
+        w .1,
+        (k, w .2, refl, z .1),
+        (l, now, refl, q),
+        λ m y less c. until .one (c .0) k m (w .0) t less (w .1) (c .1) (w .2) (c .3) (z .1),
+      )))))
 
-  pass-says : (seen : List NodeId) (placed : List Listed) (es : List Event)
+  pass-says : (n : ℕ) (seen : List NodeId) (placed : List Listed) (es : List Event) → From n es moments → Until n placed
       → ((c : NodeId) → count (sameNode c) seen + count (sameNode c) (namesOf es) ≡ count (sameNode c) (namedIds (b .nodes)))
       → ((l : Listed) → List·Memᴰ l placed → Placed l) → ((l : Listed) → List·Memᴰ (places l) es → Placed l) → Once s b seen (listedIds placed) es
       → IfSome (OfBatch s b) (passReason s b seen placed es)
   unfolding passReason listedIds
-  pass-says seen placed [] counted before after once = tt
-  pass-says seen placed (names c ∷ es) counted before after once =
+  pass-says n seen placed [] from until counted before after once = tt
+  pass-says n seen placed (names c ∷ es) from until counted before after once =
       says-else (OfBatch s b) (has sameNode seen c) _ _
       (λ t. named-says c (omega (arith, count-has seen c t, counted c, count-has (c ∷ namesOf es) c (rw (same-node-refl c)))))
-      (λ t. pass-says (c ∷ seen) placed es
-      (λ d. let h = counted d in by-test (sameNode d c) (λ q. let k = rw q at h in rw q (omega arith)) (λ q. rw q (rw q at h))) before (λ l i. after l (List·Memᴰ·tail i)) (once t))
-  pass-says seen placed (places l ∷ es) counted before after once =
+      (λ t. pass-says (suc n) (c ∷ seen) placed es (from-tail from) (until-names n placed c (from-head from) until)
+      (λ d. let h = counted d in by-test (sameNode d c) (λ q. let k = rw q at h in rw q (omega arith)) (λ q. rw q (rw q at h))) before
+      (λ l i. after l (List·Memᴰ·tail i)) (once t))
+  pass-says n seen placed (places l ∷ es) from until counted before after once =
       let this = after l (List·Memᴰ·head refl) in
-      says-or (OfBatch s b) (placing s b placed l) (passReason s b seen (l ∷ placed) es) (placing-says placed l before this (once .0))
-      (λ _. pass-says seen (l ∷ placed) es counted
+      says-or (OfBatch s b) (placing s b placed l) (passReason s b seen (l ∷ placed) es) (placing-says n placed l (from-head from) until before this (once .0))
+      (λ free. pass-says (suc n) seen (l ∷ placed) es (from-tail from) (until-places n placed l (from-head from) free until) counted
       (λ k i. ⊎-elim (λ p. rw p this) (λ j. before k j) (List·Memᴰ·cases-cons i)) (λ k i. after k (List·Memᴰ·tail i)) (once .1))
 
   -- rows 9 to 12, where no node is listed twice
   pub pass-true : distinct sameNode (listedIds (b .nodes)) ≡ true → IfSome (OfBatch s b) (passFault s b)
   unfolding passFault listedIds
   pass-true d =
-      pass-says [] [] (events s b [] (b .nodes)) (λ c. rw zero-add (ap (count (sameNode c)) (names-events s b [] (b .nodes)))) (λ l i. absurd (List·Memᴰ·not-nil i)) (placed-listed s b) (once-pass s b d)
+      pass-says 0 [] [] moments (from-start moments) until-start (λ c. rw zero-add (ap (count (sameNode c)) (names-events s b [] (b .nodes))))
+      (λ l i. absurd (List·Memᴰ·not-nil i)) (placed-listed s b) (once-pass s b d)
 
   -- ## 13 and 14
 

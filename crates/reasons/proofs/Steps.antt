@@ -46,7 +46,8 @@ module _ (s : Forest) (b : Batch) where
       turn none = refl
       turn (some y) = same-tree-sym t y
 
-      turned : (ls : List Listed) → any (λ l. elim (claim s b l) [ none ↦ false | some y ↦ sameTree t y ]) ls ≡ any (λ l. sameOption sameTree (claim s b l) (some t)) ls
+      turned : (ls : List Listed)
+          → any (λ l. elim (claim s b l) [ none ↦ false | some y ↦ sameTree t y ]) ls ≡ any (λ l. sameOption sameTree (claim s b l) (some t)) ls
       turned [] = refl
       turned (l ∷ ls) = rw (turn (claim s b l), turned ls)
 
@@ -95,7 +96,8 @@ module _ (s : Forest) (b : Batch) where
 
         module _ (other : sameTree t ROOT ≡ false) where
           -- row 12
-          pub placing-claimed : (k : Listed) → claimerAmong s b placed t ≡ some k → placing s b placed l ≡ some (claimedTwice t (here s b (k .id)) (here s b (l .id)))
+          pub placing-claimed : (k : Listed) → claimerAmong s b placed t ≡ some k
+              → placing s b placed l ≡ some (claimedTwice t (here s b (k .id)) (here s b (l .id)))
           unfolding placing secondClaim
           placing-claimed k q = rw (few, e, secondClaim, other, q, secondClaim)
 

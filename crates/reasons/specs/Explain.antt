@@ -15,7 +15,8 @@ use Rattle.update.specs.Words.{known, withTreeData}
 use Rattle.update.specs.Outcome.{outcome}
 use Rattle.update.specs.Reports.{changesOf, changeWords}
 use Rattle.update.specs.Calls.{seed, withoutTreeData}
-use Rattle.reasons.specs.Reasons.{Reason, accepted, unsoundState, brokenRecord, noTreeData, notRoot, notGrafted, notExisting, noNumberLeft, tooMany, sliceTooShort}
+use Rattle.reasons.specs.Reasons.{Reason, accepted, unsoundState, brokenRecord, noTreeData, notRoot, notGrafted, notExisting, noNumberLeft}
+use Rattle.reasons.specs.Reasons.{tooMany, sliceTooShort}
 use Rattle.record_rules.specs.Rules.{recordFault}
 use Rattle.reasons.specs.Shape.{brokenState}
 use Rattle.reasons.specs.Pass.{repeatedAfter, passFault, placelessFrom, nowhereFault}

@@ -1,5 +1,6 @@
 pub mod Reasons
 pub mod Shape
+pub mod Breaks
 pub mod Pass
 pub mod Outcome
 pub mod Explain
