@@ -1,8 +1,6 @@
 pub mod First
 pub mod Lists
 pub mod Grafts
-pub mod Numbers
-pub mod Steps
 pub mod Places
 pub mod Circle
 pub mod Broken
@@ -11,12 +9,4 @@ pub mod Unsound
 pub mod Unbroken
 pub mod Order
 pub mod Complete
-pub mod Exact
-pub mod Events
-pub mod Pass
-pub mod Dropped
-pub mod Focus
-pub mod Clash
-pub mod Truth
 pub mod Only
-pub mod Cases

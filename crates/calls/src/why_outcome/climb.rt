@@ -2,7 +2,7 @@
 ghost use mathlib.Core.Path.{_≡_};
 ghost use Prim.Native.Nat.{_<_};
 ghost use Rattle.base.specs.Search.{First};
-ghost use Rattle.reasons.specs.Outcome.{dropper};
+ghost use Rattle.reasons_calls.specs.Outcome.{dropper};
 ghost use Rattle.reasons_why.specs.Why.{found};
 ghost use Rattle.calls.specs.Climbs.{lostOf, removedAt, droppedFrom, droppedAt};
 ghost use Rattle.state_array.specs.View.{slotsOf, linkIn, view};

@@ -12,11 +12,11 @@ use Rattle.state.specs.State.{ParentAndIndex, NodeState, Forest, find, present,
 use Rattle.update.specs.Words.{here}
 use Rattle.update.specs.Gone.{Fate, stays, goes, asParent, fares, fate, goneWithin, gone}
 use Rattle.update.specs.Numbers.{updatedAndRemoved}
 use Rattle.reasons.specs.Reasons.{Dropped}
-use Rattle.reasons.specs.Outcome.{dropper, droppedWithin, removedReason}
+use Rattle.reasons_calls.specs.Outcome.{dropper, droppedWithin, removedReason}
 use Rattle.reasons.specs.Breaks.{Up, there, step}
-use Rattle.reasons.specs.Holds.{Goes, as-root, from, OfBatch}
+use Rattle.reasons_calls.specs.Holds.{Goes, as-root, from, OfBatch}
 use Rattle.reasons.proofs.First.{IfSome, says-if, says-first}
 
 module _ (s : Forest) (b : Batch) where
   -- some node above x, or x itself, goes by itself: with it what climbing finds

@@ -27,17 +27,18 @@ use Rattle.update.specs.Numbers.{absent, placeless, nowhere, updatedAndRemoved,
 use Rattle.update.specs.Calls.{refused, accepted, judged, batchRows, updateNumber, updateBatch, update, seed, withoutTreeData, startNumber, started}
 use Rattle.update.specs.Calls.{startBatch, start, withHostFocus, hostFocus}
 use Rattle.record_rules.specs.Rules.{rule, headerRules, recordRules, recordOffence, totalRules, recordFault}
-use Rattle.reasons.specs.Shape.{spotFrom, smallest, idsBelow, wider, widened, reached, linksBelow, linksFrom, metLinks, crowded, absentIds}
-use Rattle.reasons.specs.Shape.{absence, isMetTwice, isNeverMet, topmostWithin, unmet, metLink, disagrees, wrongLinkFrom, brokenLinks}
-use Rattle.reasons.specs.Shape.{graftTwiceFrom, treeTwiceFrom, unrootedFrom, brokenTrees, disorderFrom, brokenShape, brokenState}
-use Rattle.reasons.specs.Pass.{repeatedAfter, namersAmong, namersOf, claimerAmong, secondClaim, placing, passReason, passFault, placelessFrom}
-use Rattle.reasons.specs.Pass.{nowhereUnder, nowhereFault}
-use Rattle.reasons.specs.Outcome.{wayThrough, focusWay, lastOf, lastGraft, focusReason, dropper, droppedWithin, removedReason, claims}
-use Rattle.reasons.specs.Outcome.{clashReason, outcomeReason}
-use Rattle.reasons.specs.Explain.{reasonsBeforePass, reasonsAfterPass, batchReason, sliceReason, orAccepted, whyUpdate, whyStart}
-use Rattle.reasons.specs.Cases.{Case, listedAgain, treeNotGrafted, treeNotThere, namedAgain, graftOverChild, rootGrafted, claimedAgain}
-use Rattle.reasons.specs.Cases.{holderStays, noPlace, noChild, focusOnGraft, newRootGone, goneWithParent, rootNamedInPane, listedAfterParent}
-use Rattle.reasons.specs.Cases.{rootNamed, rootUnderGone, paneRootAbsent}
+use Rattle.reasons.specs.Shape.{spotFrom, smallest, idsBelow, wider, widened, reached, linksBelow, linksFrom, metLinks, crowded, absentIds, absence}
+use Rattle.reasons.specs.Shape.{isMetTwice, isNeverMet, topmostWithin, unmet, metLink, disagrees, wrongLinkFrom, brokenLinks, graftTwiceFrom}
+use Rattle.reasons.specs.Shape.{treeTwiceFrom, unrootedFrom, brokenTrees, disorderFrom, brokenShape, brokenState}
+use Rattle.reasons_calls.specs.Pass.{repeatedAfter, namersAmong, namersOf, claimerAmong, secondClaim, placing, passReason, passFault}
+use Rattle.reasons_calls.specs.Pass.{placelessFrom, nowhereUnder, nowhereFault}
+use Rattle.reasons_calls.specs.Outcome.{wayThrough, focusWay, lastGraft, focusReason, dropper, droppedWithin, removedReason, claims}
+use Rattle.reasons_calls.specs.Outcome.{clashReason, outcomeReason}
+use Rattle.reasons.specs.Reasons.{lastOf}
+use Rattle.reasons_calls.specs.Explain.{reasonsBeforePass, reasonsAfterPass, batchReason, sliceReason, orAccepted, whyUpdate, whyStart}
+use Rattle.reasons_calls.specs.Cases.{Case, listedAgain, treeNotGrafted, treeNotThere, namedAgain, graftOverChild, rootGrafted, claimedAgain}
+use Rattle.reasons_calls.specs.Cases.{holderStays, noPlace, noChild, focusOnGraft, newRootGone, goneWithParent, rootNamedInPane}
+use Rattle.reasons_calls.specs.Cases.{listedAfterParent, rootNamed, rootUnderGone, paneRootAbsent}
 
 abbrev pub Right : Case → Type 0
 Right c = c .got ≡ c .says

@@ -32,14 +32,14 @@ use Rattle.update.specs.Calls.{Answer, refused, accepted, judged, batchRows, up
 use Rattle.update.specs.Calls.{started, startBatch, start}
 use Rattle.record_rules.specs.Rules.{Offence, recordFault}
 use Rattle.record_rules.proofs.Rules.{fault-none}
-use Rattle.reasons.specs.Reasons.{Reason, numberOf, brokenRecord, noTreeData, notRoot, notGrafted, notExisting, noNumberLeft, childNowhere}
-use Rattle.reasons.specs.Reasons.{tooMany, unsoundState, sliceTooShort}
+use Rattle.reasons.specs.Reasons.{Reason, numberOf, brokenRecord, noTreeData, notRoot, notGrafted, notExisting, noNumberLeft, childNowhere, tooMany}
+use Rattle.reasons.specs.Reasons.{unsoundState, sliceTooShort, firstReason}
 use Rattle.reasons.specs.Shape.{graftTwiceFrom, brokenState}
-use Rattle.reasons.specs.Pass.{repeatedAfter, claimerAmong, secondClaim, placing, passReason, passFault, placelessFrom, nowhereUnder, nowhereFault}
-use Rattle.reasons.specs.Outcome.{focusReason, removedReason, claims, clashReason, outcomeReason}
-use Rattle.reasons.specs.Explain.{reasonIf, firstReason, reasonsBeforePass, reasonsAfterPass, batchReason, sliceReason, orAccepted, whyUpdate, whyStart}
+use Rattle.reasons_calls.specs.Pass.{repeatedAfter, claimerAmong, secondClaim, placing, passReason, passFault, placelessFrom, nowhereUnder, nowhereFault}
+use Rattle.reasons_calls.specs.Outcome.{focusReason, removedReason, claims, clashReason, outcomeReason}
+use Rattle.reasons_calls.specs.Explain.{reasonIf, reasonsBeforePass, reasonsAfterPass, batchReason, sliceReason, orAccepted, whyUpdate, whyStart}
 use Rattle.reasons.proofs.First.{IfSome, says-if, says-else, says-first}
 use Rattle.reasons.proofs.Grafts.{has-tree, grafts-some}
 
 -- ## A reason where a row holds
 

@@ -1,6 +1,6 @@
--- What a reason says: for each row of document 01's table the fact that makes it hold; of a broken rule of a state Breaks says it. Every reason
--- that a call gets holds: proofs/Truth. Two that hold have one number and agree in what they say of one node, child, tree or rule: proofs/Only.
--- Assumes nothing.
+-- What a reason says: for each row of document 01's table the fact that makes it hold; for a broken rule of a state see reasons/Breaks. Every
+-- reason that a call gets holds: proofs/Truth. Two that hold have one number and agree in what they say of one node, child, tree or rule:
+-- proofs/Only. Assumes nothing.
 use mathlib.Core.Bool.{Bool, true, false, not}
 use mathlib.Core.List.{List, [], _∷_, List·Memᴰ}
 use mathlib.Core.Option.{Option, none, some}
@@ -28,12 +28,11 @@ use Rattle.update.specs.Outcome.{outcome}
 use Rattle.update.specs.Reports.{changesOf, changeWords}
 use Rattle.update.specs.Numbers.{absent, placeless, nowhere, updatedAndRemoved}
 use Rattle.update.specs.Calls.{update, seed, withoutTreeData, start}
 use Rattle.reasons.specs.Reasons.{Dropped, Broken, Reason, accepted, unsoundState, brokenRecord, noTreeData, notRoot, listedTwice, notGrafted}
 use Rattle.reasons.specs.Reasons.{notExisting, noNumberLeft, namedTwice, graftOverChildren, graftOfRoot, claimedTwice, claimedFromHolder}
-use Rattle.reasons.specs.Reasons.{withoutPlace, childNowhere, focusIntoNothing, rootAbsent, focusAbsent, updatedAndGone, unsoundOutcome}
-use Rattle.reasons.specs.Reasons.{tooMany, sliceTooShort, numberOf}
-use Rattle.reasons.specs.Outcome.{lastOf}
+use Rattle.reasons.specs.Reasons.{withoutPlace, childNowhere, focusIntoNothing, rootAbsent, focusAbsent, updatedAndGone, unsoundOutcome, tooMany}
+use Rattle.reasons.specs.Reasons.{sliceTooShort, numberOf, lastOf}
 use Rattle.reasons.specs.Breaks.{At, Up, FirstOfState, FirstOfShape}
 
 -- ## A batch
 

@@ -28,20 +28,22 @@ use Rattle.update.specs.Numbers.{placeless}
 use Rattle.update.specs.Reports.{changesOf, changeWords}
 use Rattle.update.specs.Calls.{seed, withoutTreeData}
 use Rattle.update.proofs.Focus.{outcome-root}
-use Rattle.reasons.specs.Reasons.{Reason, unsoundState, brokenRecord, noTreeData, notRoot, notGrafted, notExisting, noNumberLeft, tooMany, sliceTooShort}
+use Rattle.reasons.specs.Reasons.{Reason, unsoundState, brokenRecord, noTreeData, notRoot, notGrafted, notExisting, noNumberLeft, tooMany}
+use Rattle.reasons.specs.Reasons.{sliceTooShort, firstReason}
 use Rattle.reasons.specs.Shape.{brokenState}
-use Rattle.reasons.specs.Pass.{passFault, placelessFrom}
-use Rattle.reasons.specs.Outcome.{focusReason, removedReason, clashReason, outcomeReason}
-use Rattle.reasons.specs.Explain.{reasonIf, firstReason, reasonsBeforePass, reasonsAfterPass, batchReason, sliceReason, orAccepted, whyUpdate, whyStart}
-use Rattle.reasons.specs.Holds.{OfBatch, FirstOffence, this, later, rulesAt, Kept, Offends, in-header, in-record, in-totals, Says, no-row}
-use Rattle.reasons.specs.Holds.{row-1, row-2, of-batch, row-21, Holds, StartSays, no-start-row, start-row-2, row-3, row-4, of-start, StartHolds}
+use Rattle.reasons_calls.specs.Pass.{passFault, placelessFrom}
+use Rattle.reasons_calls.specs.Outcome.{focusReason, removedReason, clashReason, outcomeReason}
+use Rattle.reasons_calls.specs.Explain.{reasonIf, reasonsBeforePass, reasonsAfterPass, batchReason, sliceReason, orAccepted, whyUpdate, whyStart}
+use Rattle.reasons_calls.specs.Holds.{OfBatch, FirstOffence, this, later, rulesAt, Kept, Offends, in-header, in-record, in-totals, Says, no-row}
+use Rattle.reasons_calls.specs.Holds.{row-1, row-2, of-batch, row-21, Holds, StartSays, no-start-row, start-row-2, row-3, row-4, of-start}
+use Rattle.reasons_calls.specs.Holds.{StartHolds}
 use Rattle.reasons.proofs.First.{IfSome, Each, said, says-if, says-or, says-each, says-map, says-more}
-use Rattle.reasons.proofs.Numbers.{repeated-some, pass-none, placeless-some, clash-some, fault-parse, update-number, start-number}
+use Rattle.reasons_calls.proofs.Numbers.{repeated-some, pass-none, placeless-some, clash-some, fault-parse, update-number, start-number}
 use Rattle.reasons.proofs.Complete.{shape-found, state-found}
-use Rattle.reasons.proofs.Pass.{repeated-true, pass-true, placeless-true, nowhere-true}
-use Rattle.reasons.proofs.Dropped.{removed-true}
-use Rattle.reasons.proofs.Focus.{focus-true}
-use Rattle.reasons.proofs.Clash.{clash-true}
+use Rattle.reasons_calls.proofs.Pass.{repeated-true, pass-true, placeless-true, nowhere-true}
+use Rattle.reasons_calls.proofs.Dropped.{removed-true}
+use Rattle.reasons_calls.proofs.Focus.{focus-true}
+use Rattle.reasons_calls.proofs.Clash.{clash-true}
 
 -- ## A record
 

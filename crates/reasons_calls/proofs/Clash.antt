@@ -31,17 +31,17 @@ use Rattle.update.specs.Numbers.{placeless}
 use Rattle.update.proofs.Write.{merged, listing-some}
 use Rattle.update.proofs.Outcome.{foundWritten, foundAfter, find-outcome, ascending-outcome}
 use Rattle.update.proofs.Pass.{named-has, events-place}
-use Rattle.reasons.specs.Pass.{claimerAmong, secondClaim, placing, passReason, passFault}
-use Rattle.reasons.specs.Outcome.{claims, clashReason}
-use Rattle.reasons.proofs.Numbers.{claimer-some, pass-none}
-use Rattle.reasons.proofs.Events.{listing-member}
+use Rattle.reasons_calls.specs.Pass.{claimerAmong, secondClaim, placing, passReason, passFault}
+use Rattle.reasons_calls.specs.Outcome.{claims, clashReason}
+use Rattle.reasons_calls.proofs.Numbers.{claimer-some, pass-none}
+use Rattle.reasons_calls.proofs.Events.{listing-member}
 use Rattle.reasons.specs.Reasons.{claimedTwice, claimedFromHolder, graftedTwice, Regraft}
 use Rattle.reasons.specs.Shape.{graftTwiceFrom}
 use Rattle.reasons.specs.Breaks.{Breaks}
-use Rattle.reasons.specs.Holds.{Grafts, Claims, OfBatch}
+use Rattle.reasons_calls.specs.Holds.{Grafts, Claims, OfBatch}
 use Rattle.reasons.proofs.First.{IfSome, said, none-made, none-if, none-or}
 use Rattle.reasons.proofs.Places.{at-member, from-start, ascending-places}
 use Rattle.reasons.proofs.Broken.{regraft-says}
 
 -- two nodes in order that graft one tree have two ids
 regraft-apart : (s : Forest) → ascending (s .nodes) ≡ true → (g : Regraft) → Breaks s (graftedTwice g)

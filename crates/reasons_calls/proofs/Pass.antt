@@ -23,16 +23,16 @@ use Rattle.state.specs.State.{Forest}
 use Rattle.update.specs.Words.{here, claim}
 use Rattle.update.specs.Pass.{Event, names, places, events}
 use Rattle.update.specs.Numbers.{placeless, nowhere}
 use Rattle.reasons.specs.Reasons.{namedTwice}
-use Rattle.reasons.specs.Pass.{repeatedAfter, namersAmong, namersOf, claimerAmong, secondClaim, placing, passReason, passFault, placelessFrom}
-use Rattle.reasons.specs.Pass.{nowhereUnder, nowhereFault}
+use Rattle.reasons_calls.specs.Pass.{repeatedAfter, namersAmong, namersOf, claimerAmong, secondClaim, placing, passReason, passFault}
+use Rattle.reasons_calls.specs.Pass.{placelessFrom, nowhereUnder, nowhereFault}
 use Rattle.reasons.specs.Breaks.{At, at-head, at-tail}
-use Rattle.reasons.specs.Holds.{times, namers, OfBatch}
+use Rattle.reasons_calls.specs.Holds.{times, namers, OfBatch}
 use Rattle.reasons.proofs.Lists.{count-append}
 use Rattle.reasons.proofs.First.{IfSome, said, says-if, says-else, says-or, says-first}
 use Rattle.reasons.proofs.Places.{at-member, at-same, at-before, at-below, From, from-start, from-head, from-tail}
-use Rattle.reasons.proofs.Clash.{placing-none}
-use Rattle.reasons.proofs.Events.{namesOf, names-events, placed-listed, Once, once-pass}
+use Rattle.reasons_calls.proofs.Clash.{placing-none}
+use Rattle.reasons_calls.proofs.Events.{namesOf, names-events, placed-listed, Once, once-pass}
 
 -- ## Places
 
