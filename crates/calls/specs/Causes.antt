@@ -11,7 +11,7 @@ use Rattle.record_reader.specs.Reader.{noNode, listedAt}
 use Rattle.state.specs.State.{Forest}
 use Rattle.update.specs.Words.{here}
 use Rattle.reasons.specs.Reasons.{Reason, namedTwice, graftOverChildren, graftOfRoot, claimedTwice, withoutPlace, childNowhere}
-use Rattle.reasons.specs.Pass.{namersOf}
+use Rattle.reasons_calls.specs.Pass.{namersOf}
 use Rattle.calls.specs.declared.pass.Cause.{Cause}
 use Rattle.calls.specs.declared.pass.Cause.the-variants.{Nothing, NamedTwice, GraftOverChildren, GraftOfRoot, ClaimedTwice, WithoutPlace, ChildNowhere}
 

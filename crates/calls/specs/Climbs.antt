@@ -7,7 +7,7 @@ use lib.Dec.{ltb}
 use lib.ListN.{length}
 use Rattle.base.specs.Tests.{if_then_else_}
 use Rattle.reasons.specs.Reasons.{Dropped}
-use Rattle.reasons.specs.Outcome.{droppedWithin}
+use Rattle.reasons_calls.specs.Outcome.{droppedWithin}
 use Rattle.reasons_why.specs.Why.{found, droppedNode, droppedBy}
 use Rattle.record_reader.specs.Reader.{listedAt}
 use Rattle.state_array.specs.View.{slotsOf}

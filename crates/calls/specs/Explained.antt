@@ -13,11 +13,11 @@ use Rattle.record.specs.Batch.{Batch, listedIds}
 use Rattle.record_layout.specs.declared.found.Offence as layout
 use Rattle.record.specs.Parse.{batchOf}
 use Rattle.record_rules.specs.Rules.{Offence, recordFault}
-use Rattle.reasons.specs.Reasons.{Reason, unsoundState, brokenRecord, noTreeData, notRoot, tooMany}
+use Rattle.reasons.specs.Reasons.{Reason, unsoundState, brokenRecord, noTreeData, notRoot, tooMany, firstReason}
 use Rattle.reasons.specs.Shape.{brokenState}
-use Rattle.reasons.specs.Pass.{repeatedAfter, passFault, placelessFrom, nowhereFault}
-use Rattle.reasons.specs.Outcome.{clashReason, focusReason, removedReason, outcomeReason}
-use Rattle.reasons.specs.Explain.{reasonIf, firstReason, reasonsBeforePass, reasonsAfterPass}
+use Rattle.reasons_calls.specs.Pass.{repeatedAfter, passFault, placelessFrom, nowhereFault}
+use Rattle.reasons_calls.specs.Outcome.{clashReason, focusReason, removedReason, outcomeReason}
+use Rattle.reasons_calls.specs.Explain.{reasonIf, reasonsBeforePass, reasonsAfterPass}
 use Rattle.replies.specs.Replies.{plainId}
 use Rattle.state_focus.specs.Focus.{foundOf}
 use Rattle.reasons_why.specs.declared.Why.{Why}

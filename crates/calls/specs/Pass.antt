@@ -15,7 +15,7 @@ use Rattle.state.specs.State.{Forest}
 use Rattle.update.specs.Pass.{pass}
 use Rattle.update.specs.Numbers.{placeless, nowhere}
 use Rattle.reasons.specs.Reasons.{Reason}
-use Rattle.reasons.specs.Pass.{passFault, placelessFrom, nowhereFault}
+use Rattle.reasons_calls.specs.Pass.{passFault, placelessFrom, nowhereFault}
 use Rattle.calls.specs.declared.pass.Cause.{Cause}
 use Rattle.calls.specs.Causes.{Explains}
 

@@ -15,7 +15,7 @@ use Rattle.record_reader.specs.Reader.{noNode, listedAt}
 use Rattle.state.specs.State.{Forest}
 use Rattle.update.specs.Words.{listing}
 use Rattle.update.specs.Pass.{Event, places, placedAtTurn, namings, events}
-use Rattle.reasons.specs.Pass.{claimerAmong, passReason}
+use Rattle.reasons_calls.specs.Pass.{claimerAmong, passReason}
 use Rattle.calls.specs.Layout.{CLAIMS}
 use Rattle.calls.specs.declared.notes.Scope.{Scope}
 use Rattle.calls.specs.Setting.{asked, forest}

@@ -5,7 +5,7 @@ use Prim.Native.Nat.{ℕ}
 use Rattle.ids.specs.declared.TreeIndex.{TreeIndex}
 use Rattle.record.specs.Batch.{Batch, listedIds}
 use Rattle.record.specs.Parse.{batchOf}
-use Rattle.reasons.specs.Pass.{repeatedAfter}
+use Rattle.reasons_calls.specs.Pass.{repeatedAfter}
 use Rattle.reasons_why.specs.declared.Why.{Why}
 use Rattle.reasons_why.specs.Why.{whyFor}
 use Rattle.state.specs.State.{Forest}

@@ -1,7 +1,8 @@
 // Why a start or a batch gets its number: the reason of the first row that holds. Nothing is changed.
 ghost use mathlib.Core.Path.{_≡_};
-ghost use Rattle.reasons.specs.Explain.{firstReason, whyUpdate, whyStart};
-ghost use Rattle.reasons.specs.Outcome.{focusReason};
+ghost use Rattle.reasons.specs.Reasons.{firstReason};
+ghost use Rattle.reasons_calls.specs.Explain.{whyUpdate, whyStart};
+ghost use Rattle.reasons_calls.specs.Outcome.{focusReason};
 ghost use Rattle.reasons_why.specs.Why.{whyFor};
 ghost use Rattle.calls.specs.Explained.{Explained, ExplainedStart, plainWhy, Explains, ExplainsFor, Judged, noWay, offenceWhy, firstReasons, startReasons, lastReasons};
 ghost use Rattle.state_array.specs.View.{view};

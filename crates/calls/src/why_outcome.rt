@@ -6,7 +6,7 @@ mod grafts;
 ghost use mathlib.Core.Path.{_≡_};
 ghost use Prim.Native.Nat.{_<_};
 ghost use Rattle.reasons.specs.Reasons.{claimedFromHolder, updatedAndGone};
-ghost use Rattle.reasons.specs.Outcome.{removedReason, clashReason};
+ghost use Rattle.reasons_calls.specs.Outcome.{removedReason, clashReason};
 ghost use Rattle.reasons_why.specs.Why.{whyOf, whyFor};
 ghost use Rattle.calls.specs.Climbs.{droppedFrom};
 ghost use Rattle.state_array.specs.View.{slotsOf, view};

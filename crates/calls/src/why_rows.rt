@@ -3,7 +3,7 @@ ghost use mathlib.Core.Bool.{true};
 ghost use mathlib.Core.Path.{_≡_};
 ghost use Rattle.base.specs.Tests.{firstGiven};
 ghost use Rattle.record.specs.Parse.{wellFormed, batchOf};
-ghost use Rattle.reasons.specs.Explain.{reasonsBeforePass, sliceReason};
+ghost use Rattle.reasons_calls.specs.Explain.{reasonsBeforePass, sliceReason};
 ghost use Rattle.calls.specs.WhyRows.{AgainIs};
 ghost use Rattle.reasons_why.specs.Why.{ofTree, whyFor};
 ghost use Rattle.calls.specs.Setting.{Scoped, asked, forest};

@@ -8,7 +8,7 @@ ghost use Rattle.state_array.specs.View.{view};
 ghost use Rattle.questions.specs.Kept.{nextOf};
 ghost use Rattle.cartgravel.specs.Questions.{plainStep};
 ghost use Rattle.replies.specs.Replies.{Starts, Updates, HostFocuses};
-ghost use Rattle.reasons.specs.Explain.{whyUpdate, whyStart};
+ghost use Rattle.reasons_calls.specs.Explain.{whyUpdate, whyStart};
 ghost use Rattle.calls.specs.Explained.{Explained, ExplainedStart};
 use calls::explain;
 use calls::explain::Explanation;

@@ -34,7 +34,12 @@ use Rattle.node_answers.specs.TreeState.{focusAnswer, rootAnswer, treeId
 
 -- `unfolding computed` unfolds every definition
 computed : Unit {0}
-unfolding _&&_ first zeroBytes sameTree sameIndex sameNode sameId before rectTest affineTest activeDescendant? graft? bounds? transform? fieldsOk sameLink idsOf find present graftAt linkAt parentAt holder subtreeState subtreeFrom subtreeOf metUnder childrenMet below belowId down rootOf wayDown throughGrafts effectiveFocus orActiveDescendant stateFocus metOnce recorded graftIsBare soundLinks graftsDiffer grafted allGrafted rootFirst oneIdEach soundTrees ascending wayEnds soundShape focusPresent sound ofBits toBits eq askNumber stateNumber listNumber after idWords written childIds optionalRect optionalAffine optionalNode optionalTree optionalIndex foundNode foundTree nodeAnswer listAnswer readingOf noReading reading labelAt parentAnswer focusAnswer rootAnswer treeIdAt treeIndexAt treeEnds treeIdAnswer treeIndexAnswer treeEndsAnswer countsAnswer
+unfolding _&&_ first zeroBytes sameTree sameIndex sameNode sameId before rectTest affineTest activeDescendant? graft? bounds? transform? fieldsOk
+    sameLink idsOf find present graftAt linkAt parentAt holder subtreeState subtreeFrom subtreeOf metUnder childrenMet below belowId down rootOf
+    wayDown throughGrafts effectiveFocus orActiveDescendant stateFocus metOnce recorded graftIsBare soundLinks graftsDiffer grafted allGrafted
+    rootFirst oneIdEach soundTrees ascending wayEnds soundShape focusPresent sound ofBits toBits eq askNumber stateNumber listNumber after idWords
+    written childIds optionalRect optionalAffine optionalNode optionalTree optionalIndex foundNode foundTree nodeAnswer listAnswer readingOf noReading
+    reading labelAt parentAnswer focusAnswer rootAnswer treeIdAt treeIndexAt treeEnds treeIdAnswer treeIndexAnswer treeEndsAnswer countsAnswer
 computed = tt
 
 -- hidden, with the label "Pay", bounds of four times 1 and the active descendant 3

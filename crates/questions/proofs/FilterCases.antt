@@ -2,8 +2,11 @@
 -- Assumes nothing.
 use mathlib.Core.Path.{refl}
 use Rattle.questions.specs.ExampleQuestions.{Right, AllRight}
-use Rattle.questions.specs.FilterCases.{buttonsFiltered, ownActiveDescendant, hiddenFocus, hostFocusLost, focusInHidden, hiddenRoot, textRunWithChild, rootsOfPanes, activeDescendant, absentActiveDescendant, activeDescendantInPane, activeDescendantIsGraft, belowClipped, noBoxes, neighbours, nestedNeighbour, neighbourAbove, clippedThroughContainer, clippedPane, noWidth, notANumber, focusOutside, filterCases}
-use Rattle.questions.proofs.Computed.{computed}
+use Rattle.questions.specs.FilterCases.{buttonsFiltered, ownActiveDescendant, hiddenFocus, hostFocusLost, focusInHidden, hiddenRoot}
+use Rattle.questions.specs.FilterCases.{textRunWithChild, rootsOfPanes, activeDescendant, absentActiveDescendant, activeDescendantInPane}
+use Rattle.questions.specs.FilterCases.{activeDescendantIsGraft, belowClipped, noBoxes, neighbours, nestedNeighbour, neighbourAbove}
+use Rattle.questions.specs.FilterCases.{clippedThroughContainer, clippedPane, noWidth, notANumber, focusOutside, filterCases}
+use Rattle.questions.proofs.Computed.{computed, _and_}
 
 buttons-filtered-right : Right buttonsFiltered
 unfolding computed buttonsFiltered
@@ -94,4 +97,9 @@ unfolding computed focusOutside
 focus-outside-right = (refl, (refl, (refl, tt)))
 
 pub filter-cases : AllRight filterCases
-filter-cases = (buttons-filtered-right, (own-active-descendant-right, (hidden-focus-right, (host-focus-lost-right, (focus-in-hidden-right, (hidden-root-right, (text-run-with-child-right, (roots-of-panes-right, (active-descendant-right, (absent-active-descendant-right, (active-descendant-in-pane-right, (active-descendant-is-graft-right, (below-clipped-right, (no-boxes-right, (neighbours-right, (nested-neighbour-right, (neighbour-above-right, (clipped-through-container-right, (clipped-pane-right, (no-width-right, (not-a-number-right, (focus-outside-right, tt))))))))))))))))))))))
+filter-cases =
+    buttons-filtered-right and own-active-descendant-right and hidden-focus-right and host-focus-lost-right and focus-in-hidden-right
+    and hidden-root-right and text-run-with-child-right and roots-of-panes-right and active-descendant-right and absent-active-descendant-right
+    and active-descendant-in-pane-right and active-descendant-is-graft-right and below-clipped-right and no-boxes-right and neighbours-right
+    and nested-neighbour-right and neighbour-above-right and clipped-through-container-right and clipped-pane-right and no-width-right
+    and not-a-number-right and focus-outside-right and tt

@@ -2,8 +2,9 @@
 -- Assumes nothing.
 use mathlib.Core.Path.{refl}
 use Rattle.questions.specs.ExampleQuestions.{Right, AllRight}
-use Rattle.questions.specs.WalkCases.{bothButtons, threeDeep, climbingTwoLevels, noIncludedAncestor, noFilteredChild, droppedSubtree, includedParent, panesInPanes, deepest, walksBelowClipped, walkCases}
-use Rattle.questions.proofs.Computed.{computed}
+use Rattle.questions.specs.WalkCases.{bothButtons, threeDeep, climbingTwoLevels, noIncludedAncestor, noFilteredChild, droppedSubtree}
+use Rattle.questions.specs.WalkCases.{includedParent, panesInPanes, deepest, walksBelowClipped, walkCases}
+use Rattle.questions.proofs.Computed.{computed, _and_}
 
 both-buttons-right : Right bothButtons
 unfolding computed bothButtons
@@ -46,4 +47,6 @@ unfolding computed walksBelowClipped
 walks-below-clipped-right = (refl, (refl, (refl, (refl, (refl, (refl, (refl, (refl, (refl, tt)))))))))
 
 pub walk-cases : AllRight walkCases
-walk-cases = (both-buttons-right, (three-deep-right, (climbing-two-levels-right, (no-included-ancestor-right, (no-filtered-child-right, (dropped-subtree-right, (included-parent-right, (panes-in-panes-right, (deepest-right, (walks-below-clipped-right, tt))))))))))
+walk-cases =
+    both-buttons-right and three-deep-right and climbing-two-levels-right and no-included-ancestor-right and no-filtered-child-right
+    and dropped-subtree-right and included-parent-right and panes-in-panes-right and deepest-right and walks-below-clipped-right and tt

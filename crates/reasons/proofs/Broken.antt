@@ -1,6 +1,7 @@
 -- The first rule of a sound state that is found broken is broken. Assumes nothing.
 use mathlib.Core.Bool.{Bool, true, false, not, true≢false, false≢true}
-use mathlib.Core.List.{List, [], _∷_, List·Memᴰ, List·Memᴰ·head, List·Memᴰ·tail, List·Memᴰ·append-cases, Memᴰ·append-left, Memᴰ·append-right, List·Memᴰ·not-nil, List·Memᴰ·cases-cons, Memᴰ·cast}
+use mathlib.Core.List.{List, [], _∷_, List·Memᴰ, List·Memᴰ·head, List·Memᴰ·tail, List·Memᴰ·append-cases, Memᴰ·append-left, Memᴰ·append-right}
+use mathlib.Core.List.{List·Memᴰ·not-nil, List·Memᴰ·cases-cons}
 use mathlib.Core.Logic.{⊎-elim}
 use mathlib.Core.Option.{Option, none, some, Option·none-ne-some, Option·some-injective}
 use mathlib.Core.Path.{_≡_, refl, sym, ap, _∙_}
@@ -12,47 +13,31 @@ use borrow.Author.Tests.{ltb-true, leb-true, leb-false}
 use Rattle.base.specs.Tests.{_&&_, if_then_else_, isNil, all, keep, has, sameOption}
 use Rattle.base.proofs.Cases.{by-test, by-option}
 use Rattle.base.proofs.Tests.{both, joined, not-true, clash, refuted, same-option→≡}
-use Rattle.base.proofs.Lists.{some-from, has-map, any-found}
+use Rattle.base.proofs.Lists.{some-from, has-map}
 use Rattle.ids.specs.Ids.{sameTree, sameId, before}
 use Rattle.ids.proofs.Ids.{same-tree→≡, same-id→≡, same-id-refl, before-self, before-trans, before-total}
 use Rattle.ids.specs.declared.TreeId.{TreeId}
 use Rattle.ids.specs.declared.FullNodeId.{FullNodeId}
 use Rattle.record.specs.Batch.{graft?, fieldsOk}
-use Rattle.state.specs.State.{NodeState, TreeEntry, Forest, idsOf, present, linkAt, parentAt, holder}
-use Rattle.state.specs.Down.{climb}
+use Rattle.state.specs.State.{ParentAndIndex, NodeState, TreeEntry, Forest, idsOf, present, parentOf, linkAt, parentAt, holder}
 use Rattle.state.proofs.State.{present-has}
 use Rattle.state.specs.Sound.{graftIsBare, grafted, rootFirst, focusPresent}
-use Rattle.reasons.specs.Reasons.{Spot, Dropped, Broken, tooManyNodes, tooManyTrees, tooManyChildren, absentBelow, metTwice, neverMet, graftWithChildren, graftedTwice, rootNotFirst, brokenField, noFocus}
-use Rattle.reasons.specs.Shape.{spotFrom, spot, at, smallest, idsBelow, reached, metLinks, crowded, absentIds, absence, isMetTwice, isNeverMet, topmostWithin, unmet, disagrees, wrongLinkFrom, brokenLinks, graftTwiceFrom, treeTwiceFrom, unrootedFrom, brokenTrees, disorderFrom, brokenShape, brokenState}
-use Rattle.reasons.specs.Holds.{NodeAt, Unmet, Topmost, Climbs, TreeAt, Breaks}
-use Rattle.reasons.proofs.First.{IfSome, said, says-if, says-else, says-first, says-map, says-each}
+use Rattle.reasons.specs.Reasons.{Spot, Dropped, Broken, tooManyNodes, tooManyTrees, tooManyChildren, absentBelow, metTwice, neverMet}
+use Rattle.reasons.specs.Reasons.{graftWithChildren, graftedTwice, rootNotFirst, brokenField, noFocus}
+use Rattle.reasons.specs.Shape.{spotFrom, spot, at, smallest, idsBelow, reached, metLinks, crowded, absentIds, absence, isMetTwice, isNeverMet}
+use Rattle.reasons.specs.Shape.{topmostWithin, unmet, metLink, disagrees, wrongLinkFrom, brokenLinks, graftTwiceFrom, treeTwiceFrom}
+use Rattle.reasons.specs.Shape.{unrootedFrom, brokenTrees, disorderFrom, brokenShape, brokenState}
+use Rattle.reasons.specs.Breaks.{NodeAt, TreeAt, there, step, Unmet, UnmetUp, Topmost, Climbs, Breaks}
+use Rattle.reasons.proofs.Lists.{has-member, keep-passes, some-fails, nil-of, member-keep}
+use Rattle.reasons.proofs.First.{IfSome, said, says-if, says-else, says-first, says-map, says-each, none-made, none-if}
+use Rattle.reasons.proofs.Circle.{circle}
 use Rattle.reasons.proofs.Places.{member-at, at-member, From, from-start, from-head, from-tail}
 
--- an id that is in a list by the test is in it
-pub has-member : (xs : List FullNodeId) (x : FullNodeId) → has sameId xs x ≡ true → List·Memᴰ x xs
-has-member xs x e = let z = any-found (sameId x) xs e in Memᴰ·cast (same-id→≡ x (z .0) (z .2)) (z .1)
-
--- what is kept passes
-pub keep-passes : {A : Type 0} (p : A → Bool) (xs : List A) (x : A) → List·Memᴰ x (keep p xs) → p x ≡ true
-keep-passes p [] x i = absurd (List·Memᴰ·not-nil i)
-keep-passes p (y ∷ ys) x i =
-    by-test (p y) (λ t. ⊎-elim (λ q. ap p q ∙ t) (λ j. keep-passes p ys x j) (List·Memᴰ·cases-cons (rw t at i))) (λ t. keep-passes p ys x (rw t at i))
-
--- where not all pass, one fails
-pub some-fails : {A : Type 0} (p : A → Bool) (xs : List A) → all p xs ≡ false → (x : A) × List·Memᴰ x xs × (p x ≡ false)
-some-fails p [] e = absurd (true≢false e)
-some-fails p (x ∷ xs) e =
-    by-test (p x) (λ t. let z = some-fails p xs (unfold _&&_ in (rw t at e)) in (z .0, List·Memᴰ·tail (z .1), z .2)) (λ t. (x, List·Memᴰ·head refl, t))
-
--- a list that is empty by the test is empty
-pub nil-of : {A : Type 0} {xs : List A} → isNil xs ≡ true → xs ≡ []
-nil-of {xs = []} e = refl
-nil-of {xs = x ∷ xs} e = absurd (false≢true e)
-
--- and what passes is kept
-pub member-keep : {A : Type 0} (p : A → Bool) (xs : List A) (x : A) → List·Memᴰ x xs → p x ≡ true → List·Memᴰ x (keep p xs)
-member-keep p (y ∷ ys) x (List·Memᴰ·head q) e = rw (ap p (sym q) ∙ e) (List·Memᴰ·head q)
-member-keep p (y ∷ ys) x (List·Memᴰ·tail i) e = let h = member-keep p ys x i e in by-test (p y) (λ t. rw t (List·Memᴰ·tail h)) (λ t. rw t h)
+-- no node passes
+pub spot-none : (k : ℕ) (p : NodeState → Bool) (ns : List NodeState) → spotFrom k p ns ≡ none → (n : NodeState) → List·Memᴰ n ns → p n ≡ false
+unfolding spotFrom
+spot-none k p (m ∷ ns) e n (List·Memᴰ·head q) = ap p q ∙ none-if (p m) _ _ e .0
+spot-none k p (m ∷ ns) e n (List·Memᴰ·tail i) = spot-none (suc k) p ns (none-if (p m) _ _ e .1) n i
 
 module _ (s : Forest) where
   -- ## The first node that passes
@@ -67,7 +52,8 @@ module _ (s : Forest) where
   spot-at p x e = said (λ x. NodeAt s x (λ n. p n ≡ true)) (spot p (s .nodes)) (spot-from 0 p (s .nodes) (from-start (s .nodes))) x e
 
   -- a rule for the nodes, each by itself
-  spot-says : (p : NodeState → Bool) (f : Spot → Broken) → ((x : Spot) → NodeAt s x (λ n. p n ≡ true) → Breaks s (f x)) → IfSome (Breaks s) (at f (spot p (s .nodes)))
+  spot-says : (p : NodeState → Bool) (f : Spot → Broken) → ((x : Spot) → NodeAt s x (λ n. p n ≡ true) → Breaks s (f x))
+      → IfSome (Breaks s) (at f (spot p (s .nodes)))
   spot-says p f h = says-map (Breaks s) f (spot p (s .nodes)) (λ x e. h x (spot-at p x e))
 
   -- ## The rules for links
@@ -88,12 +74,19 @@ module _ (s : Forest) where
       let rest = smallest-least xs in
       by-option (smallest xs)
       (λ q. let empty : xs ≡ [] = rw q at rest in
-      rw (q, smallest) (List·Memᴰ·head refl, λ y i. ⊎-elim (λ p. rw p (before-self x)) (λ j. absurd (List·Memᴰ·not-nil (rw empty at j))) (List·Memᴰ·cases-cons i)))
+      rw (q, smallest) (
+        List·Memᴰ·head refl,
+        λ y i. ⊎-elim (λ p. rw p (before-self x)) (λ j. absurd (List·Memᴰ·not-nil (rw empty at j)))
+            (List·Memᴰ·cases-cons i),
+      ))
       (λ z q. rw (q, smallest) (pick z (rw q at rest) (before z x) refl))
     where
       pick : (z : FullNodeId) → Smallest xs z → (c : Bool) → before z x ≡ c → Least (x ∷ xs) (if c then some z else some x)
-      pick z least true t =
-          (List·Memᴰ·tail (least .0), λ y i. ⊎-elim (λ p. rw p (refuted (λ e. clash (before-self x) (before-trans x z x e t)))) (λ j. least .1 y j) (List·Memᴰ·cases-cons i))
+      pick z least true t = (
+        List·Memᴰ·tail (least .0),
+        λ y i. ⊎-elim (λ p. rw p (refuted (λ e. clash (before-self x) (before-trans x z x e t)))) (λ j. least .1 y j)
+            (List·Memᴰ·cases-cons i),
+      )
       pick z least false t = (
         List·Memᴰ·head refl,
         λ y i. ⊎-elim (λ p. rw p (before-self x))
@@ -101,7 +94,7 @@ module _ (s : Forest) where
             (List·Memᴰ·cases-cons i),
       )
 
-  absent-ids : (ns : List NodeState) (x : FullNodeId) → List·Memᴰ x (absentIds s ns) → present (s .nodes) x ≡ false
+  pub absent-ids : (ns : List NodeState) (x : FullNodeId) → List·Memᴰ x (absentIds s ns) → present (s .nodes) x ≡ false
   unfolding absentIds
   absent-ids [] x i = absurd (List·Memᴰ·not-nil i)
   absent-ids (n ∷ ns) x i =
@@ -134,74 +127,90 @@ module _ (s : Forest) where
   unfolding idsOf
   member-present n i = present-has (s .nodes) (n .id) ∙ has-map sameId same-id-refl (λ m. m .id) (s .nodes) n i
 
+  -- what climbing finds in at most `room` steps: the topmost node, or that all of them lead to nodes never met
+  abbrev Within : ℕ → FullNodeId → Option Dropped → Type 0
+  Within room x none = (y : FullNodeId) × UnmetUp s room x y
+  Within room x (some d) = Topmost s x d
+
   -- one step more
-  topmost-higher : (x p : FullNodeId) → parentAt (s .nodes) x ≡ some p → (d : Dropped) → Topmost s p d → Topmost s x d
-  unfolding climb parentAt
-  topmost-higher x p q d h =
+  up-higher : {k : ℕ} {x p y : FullNodeId} → Unmet s p → parentAt (s .nodes) x ≡ some p → UnmetUp s k p y → UnmetUp s (suc k) x y
+  unfolding parentAt
+  up-higher {k} {x} {p} {y} u q h =
       let l = some-from (linkAt (s .nodes) x) (λ l. some (l .parent)) p q in
-      record {
-        steps = suc (h .steps);
-        above = rw (l .1, climb) (ap (climb (h .steps) (s .nodes)) (Option·some-injective (l .0 .parent) p (l .2)) ∙ h .above);
-        unmet = h .unmet;
-        records = h .records;
-        last = h .last;
-      }
+      let same : l .0 .parent ≡ p = Option·some-injective (l .0 .parent) p (l .2) in
+      step {k = k} {y = y} (l .0) (l .1) (rw same u) (rw same h)
 
-  climbs-higher : (room : ℕ) (x p : FullNodeId) → Unmet s x → parentAt (s .nodes) x ≡ some p → (o : Option Dropped) → Climbs s room p o → Climbs s (suc room) x o
-  unfolding climb parentAt
-  climbs-higher room x p u q none h = step
-    where
-      step : (k : ℕ) → k < suc room → Unmet s (climb k (s .nodes) x)
-      step zero l = u
-      step (suc k) l =
-          let z = some-from (linkAt (s .nodes) x) (λ l. some (l .parent)) p q in
-          rw (z .1, climb, Option·some-injective (z .0 .parent) p (z .2)) (h k (omega arith))
-  climbs-higher room x p u q (some d) h = topmost-higher x p q d h
+  within-higher : (room : ℕ) (x p : FullNodeId) → Unmet s p → parentAt (s .nodes) x ≡ some p → (o : Option Dropped) → Within room p o → Within (suc room) x o
+  within-higher room x p u q none h = (h .0, up-higher u q (h .1))
+  within-higher room x p u q (some d) h = record { steps = suc (h .steps); above = up-higher u q (h .above); records = h .records; last = h .last }
 
-  topmost-says : (room : ℕ) (x : FullNodeId) → Unmet s x → Climbs s room x (topmostWithin room s (reached s) x)
-  unfolding topmostWithin climb
-  topmost-says zero x u = λ k l. absurd (omega arith)
-  topmost-says (suc room) x u =
+  topmost-says : (room : ℕ) (x : FullNodeId) → Within room x (topmostWithin room s (reached s) x)
+  unfolding topmostWithin
+  topmost-says zero x = (x, there)
+  topmost-says (suc room) x =
       by-option (parentAt (s .nodes) x)
-      (λ q. rw (q, topmostWithin) (record { steps = 0; above = refl; unmet = u; records = q; last = λ p e. absurd (Option·none-ne-some p e) }))
+      (λ q. rw (q, topmostWithin) (record { steps = 0; above = there; records = q; last = λ p e. absurd (Option·none-ne-some p e) }))
       (λ p q. rw (q, topmostWithin) (pick p q (present (s .nodes) p && isNil (metLinks s (reached s) p)) refl (topmost-says room p)))
     where
-      within : (p y : FullNodeId) → p ≡ y → Unmet s y → present (s .nodes) p && isNil (metLinks s (reached s) p) ≡ true
-      within p y e h = joined (ap (present (s .nodes)) e ∙ h .0) (ap (λ z. isNil (metLinks s (reached s) z)) e ∙ ap isNil (h .1))
+      unmet-test : (p y : FullNodeId) → p ≡ y → Unmet s y → present (s .nodes) p && isNil (metLinks s (reached s) p) ≡ true
+      unmet-test p y e h = joined (ap (present (s .nodes)) e ∙ h .0) (ap (λ z. isNil (metLinks s (reached s) z)) e ∙ ap isNil (h .1))
 
       pick : (p : FullNodeId) → parentAt (s .nodes) x ≡ some p → (c : Bool) → present (s .nodes) p && isNil (metLinks s (reached s) p) ≡ c
-          → (Unmet s p → Climbs s room p (topmostWithin room s (reached s) p))
-          → Climbs s (suc room) x (if c then topmostWithin room s (reached s) p else some (record { node = x; by = some p }))
+          → Within room p (topmostWithin room s (reached s) p)
+          → Within (suc room) x (if c then topmostWithin room s (reached s) p else some (record { node = x; by = some p }))
       pick p q true t above =
-          let met = both t in climbs-higher room x p u q (topmostWithin room s (reached s) p) (above (met .0, nil-of (met .1)))
-      pick p q false t above = record {
-        steps = 0;
-        above = refl;
-        unmet = u;
-        records = q;
-        last = λ y e h. clash t (within p y (Option·some-injective p y e) h);
-      }
+          let met = both t in within-higher room x p (met .0, nil-of (met .1)) q (topmostWithin room s (reached s) p) above
+      pick p q false t above =
+          record { steps = 0; above = there; records = q; last = λ y e h. clash t (unmet-test p y (Option·some-injective p y e) h) }
+
+  -- as many steps as there are nodes
+  climbs-within : (x : FullNodeId) (o : Option Dropped) → Unmet s x → Within (length (s .nodes)) x o → Climbs s x o
+  climbs-within x none h z = circle s x (z .0) h (z .1)
+  climbs-within x (some d) h z = z
 
   unmet-says : IfSome (Breaks s) (unmet s (reached s))
   unfolding unmet isNeverMet Breaks
   unmet-says =
-      spot-says (isNeverMet s (reached s)) (λ x. neverMet x (topmostWithin (length (s .nodes)) s (reached s) (x .id)))
+      let top : FullNodeId → Option Dropped = λ x. topmostWithin (length (s .nodes)) s (reached s) x in
+      spot-says (isNeverMet s (reached s)) (λ x. neverMet x (top (x .id)))
       (λ x z. let never = nil-of (z .3) in
-      let there = ap (present (s .nodes)) (sym (z .2)) ∙ member-present (z .0) (at-member (z .1)) in
-      ((z .0, z .1, z .2, never), topmost-says (length (s .nodes)) (x .id) (there, ap (metLinks s (reached s)) (sym (z .2)) ∙ never)))
+      let this : Unmet s (x .id) = rw (← z .2) (member-present (z .0) (at-member (z .1)), never) in
+      ((z .0, z .1, z .2, never), climbs-within (x .id) (top (x .id)) this (topmost-says (length (s .nodes)) (x .id))))
 
-  wrong-says : (k : ℕ) (ns : List NodeState) → From k ns (s .nodes) → IfSome (Breaks s) (wrongLinkFrom k s (reached s) ns)
-  unfolding wrongLinkFrom disagrees Breaks
-  wrong-says k [] h = tt
-  wrong-says k (n ∷ ns) h =
-      says-else (Breaks s) (disagrees s (reached s) n) _ _ (λ t. (n, from-head h, refl, (refl, refl, not-true t))) (λ t. wrong-says (suc k) ns (from-tail h))
+  -- every node is met once, under one link
+  abbrev MetOnce : Type 0
+  MetOnce = (n : NodeState) → List·Memᴰ n (s .nodes) → (l : Option ParentAndIndex) × (metLinks s (reached s) (n .id) ≡ l ∷ [])
+
+  wrong-says : MetOnce → (k : ℕ) (ns : List NodeState) → From k ns (s .nodes) → IfSome (Breaks s) (wrongLinkFrom k s (reached s) ns)
+  unfolding wrongLinkFrom disagrees metLink Breaks
+  wrong-says once k [] h = tt
+  wrong-says once k (n ∷ ns) h =
+      let m = once n (at-member (from-head h)) in
+      let is : metLink s (reached s) n ≡ m .0 = rw (m .1, metLink) in
+      says-else (Breaks s) (disagrees s (reached s) n) _ _ (λ t. (n, from-head h, refl, (refl, m .0, m .1, ap parentOf (sym is), not-true (rw is at t))))
+      (λ t. wrong-says once (suc k) ns (from-tail h))
+
+  -- so it is where no node is met twice, and none never
+  met-once : spot (isMetTwice s (reached s)) (s .nodes) ≡ none → spot (isNeverMet s (reached s)) (s .nodes) ≡ none → MetOnce
+  unfolding isMetTwice isNeverMet
+  met-once twice never n i =
+      one (metLinks s (reached s) (n .id)) (spot-none 0 (isMetTwice s (reached s)) (s .nodes) twice n i)
+      (spot-none 0 (isNeverMet s (reached s)) (s .nodes) never n i)
+    where
+      one : (ls : List (Option ParentAndIndex)) → leb 2 (length ls) ≡ false → isNil ls ≡ false → (l : Option ParentAndIndex) × (ls ≡ l ∷ [])
+      one [] few met = absurd (true≢false met)
+      one (l ∷ []) few met = (l, refl)
+      one (l ∷ k ∷ ls) few met = absurd (omega (arith, leb-false 2 (length (l ∷ k ∷ ls)) few))
 
   links-say : IfSome (Breaks s) (brokenLinks s (reached s))
-  unfolding brokenLinks crowded isMetTwice Breaks
+  unfolding brokenLinks crowded isMetTwice unmet Breaks
   links-say =
       let crowd = spot-says crowded tooManyChildren (λ x z. (z .0, z .1, z .2, ltb-true 256 (length (z .0 .body .children)) (z .3))) in
       let twice = spot-says (isMetTwice s (reached s)) metTwice (λ x z. (z .0, z .1, z .2, leb-true 2 (length (metLinks s (reached s) (z .0 .id))) (z .3))) in
-      let wrong = wrong-says 0 (s .nodes) (from-start (s .nodes)) in
+      let never : unmet s (reached s) ≡ none → spot (isNeverMet s (reached s)) (s .nodes) ≡ none =
+      none-made (λ x. neverMet x (topmostWithin (length (s .nodes)) s (reached s) (x .id))) (spot (isNeverMet s (reached s)) (s .nodes)) in
+      let single : at metTwice (spot (isMetTwice s (reached s)) (s .nodes)) ≡ none → spot (isMetTwice s (reached s)) (s .nodes) ≡ none =
+      none-made metTwice (spot (isMetTwice s (reached s)) (s .nodes)) in
       let full = spot-says (λ n. not (graftIsBare n)) graftWithChildren (λ x z. (z .0, z .1, z .2, not-true (z .3))) in
       says-each (Breaks s)
       (at tooManyChildren (spot crowded (s .nodes))
@@ -210,8 +219,17 @@ module _ (s : Forest) where
       ∷ unmet s (reached s)
       ∷ wrongLinkFrom 0 s (reached s) (s .nodes)
       ∷ at graftWithChildren (spot (λ n. not (graftIsBare n)) (s .nodes))
-      ∷ [])
-      (crowd, λ _. (absence-says, λ _. (twice, λ _. (unmet-says, λ _. (wrong, λ _. (full, λ _. tt))))))
+      ∷ []) (
+        crowd,
+        λ _. (
+          absence-says,
+          λ _. (
+            twice,
+            λ two.
+                (unmet-says, λ all. (wrong-says (met-once (single two) (never all)) 0 (s .nodes) (from-start (s .nodes)), λ _. (full, λ _. tt))),
+          ),
+        ),
+      )
 
   -- ## The rules for trees
 

@@ -1,6 +1,7 @@
 -- A state that is not sound breaks a rule that is found. Assumes nothing.
-use mathlib.Core.Bool.{true, false, not, false≢true}
-use mathlib.Core.List.{List, [], _∷_, _++_, List·Memᴰ, List·Memᴰ·head, List·Memᴰ·tail, List·Memᴰ·not-nil, List·Memᴰ·cases-cons, List·Memᴰ·append-cases, List·Memᴰ·eq-of-singleton, Memᴰ·append-right}
+use mathlib.Core.Bool.{Bool, true, false, not, false≢true}
+use mathlib.Core.List.{List, [], _∷_, _++_, List·Memᴰ, List·Memᴰ·head, List·Memᴰ·tail, List·Memᴰ·not-nil, List·Memᴰ·cases-cons}
+use mathlib.Core.List.{List·Memᴰ·append-cases, List·Memᴰ·eq-of-singleton, Memᴰ·append-right}
 use mathlib.Core.Logic.{⊎-elim}
 use mathlib.Core.Option.{Option, none, some}
 use mathlib.Core.Path.{_≡_, refl, sym, ap, _∙_, subst}
@@ -8,12 +9,12 @@ use Prim.Native.Nat.{ℕ, zero, suc, _+_, _-_, _≤_, _<_}
 use native.Mathlib.Omega.{arith}
 use lib.Dec.{leb}
 use lib.ListN.{length}
-use borrow.Author.Tests.{eq-eqb, le-leb}
+use borrow.Author.Tests.{eq-eqb, leb-true, le-leb}
 use Rattle.base.specs.Tests.{if_then_else_, isNone, all, has, sameOption}
 use Rattle.base.proofs.Cases.{by-test, by-option}
-use Rattle.base.proofs.Tests.{joined, clash, iff, not-false}
+use Rattle.base.proofs.Tests.{joined, clash, iff, not-false, all-member}
 use Rattle.base.proofs.Lists.{none-of, all-of}
-use Rattle.record.specs.Batch.{fieldsOk}
+use Rattle.record.specs.Batch.{NodeData, fieldsOk}
 use Rattle.ids.specs.Ids.{sameId}
 use Rattle.ids.proofs.Ids.{same-id→≡, same-id-refl}
 use Rattle.ids.specs.declared.FullNodeId.{FullNodeId}
@@ -21,18 +22,22 @@ use Rattle.state.specs.State.{ParentAndIndex, NodeState, Forest, find, present}
 use Rattle.state.specs.Down.{Met, below, belowId, down, rootOf, wayDown}
 use Rattle.state.specs.Sound.{metOnce, recorded, soundLinks, soundTrees, wayEnds, soundShape, focusPresent, sound}
 use Rattle.state.proofs.State.{find-id, find-member, find-self}
-use Rattle.state.proofs.Sound.{Root, root-of-tables, sound-of}
+use Rattle.state.proofs.Sound.{Root, root-of-tables, shape-parts, sound-of}
 use Rattle.state.proofs.Down.{way-down-from, down-below, below-id-by}
 use Rattle.state.proofs.Ends.{meets, total-all}
 use Rattle.state.proofs.Once.{once, each-once}
-use Rattle.reasons.specs.Reasons.{Broken, tooManyNodes, tooManyTrees, brokenField, noFocus}
-use Rattle.reasons.specs.Holds.{Breaks}
+use Rattle.reasons.specs.Reasons.{Broken, tooManyNodes, tooManyTrees, tooManyChildren, absentBelow, metTwice, neverMet, wrongLink}
+use Rattle.reasons.specs.Reasons.{graftWithChildren, graftedTwice, rootNotFirst, treeTwice, treeUnrooted, outOfOrder, brokenField, noFocus}
+use Rattle.reasons.specs.Breaks.{Breaks, rank, FirstOfState, FirstOfShape}
 use Rattle.reasons.specs.Shape.{idsBelow, widened, reached, metLinks, metLink, brokenShape, brokenState, spot, at}
-use Rattle.reasons.proofs.Broken.{has-member, member-present, shape-says, state-says}
-use Rattle.reasons.proofs.Links.{rootLinks, member-map, links-below, below-links, widened-more, widened-old, wider-old, wider-below, wider-cases}
-use Rattle.reasons.proofs.Unbroken.{Unbroken, unbroken, none-each, none-made, none-unless, spot-none}
-use Rattle.reasons.proofs.First.{said}
-use Rattle.reasons.proofs.Unsound.{state-broken}
+use Rattle.reasons.proofs.Lists.{has-member, member-map}
+use Rattle.reasons.proofs.Broken.{spot-none, member-present}
+use Rattle.reasons.proofs.Links.{rootLinks, links-below, below-links, widened-more, widened-old, wider-old, wider-below, wider-cases}
+use Rattle.reasons.proofs.Unbroken.{Unbroken, unbroken}
+use Rattle.reasons.proofs.First.{none-each, none-made, none-unless}
+use Rattle.reasons.proofs.Order.{shape-first, state-first}
+use Rattle.reasons.proofs.Places.{at-member}
+use Rattle.reasons.proofs.Unsound.{Beyond, breaks-beyond, state-broken}
 
 -- a list with one element at most, which has this one
 single : {A : Type 0} (xs : List A) (x : A) → length xs ≤ 1 → List·Memᴰ x xs → xs ≡ x ∷ []
@@ -105,7 +110,8 @@ module _ (s : Forest) (k : Unbroken s) where
   down-recorded (suc room) d (n ∷ ms) l h m i =
       ⊎-elim (λ q. rw q (going-recorded d n (h n (List·Memᴰ·head refl))))
       (λ j. down-recorded room (suc d) (belowId s (n .id) ++ ms) (omega arith)
-      (λ x p. ⊎-elim (λ b. going-below d (omega arith) n x (h n (List·Memᴰ·head refl)) b) (λ b. going-later d x (h x (List·Memᴰ·tail b))) (List·Memᴰ·append-cases (belowId s (n .id)) p)) m j)
+      (λ x p. ⊎-elim (λ b. going-below d (omega arith) n x (h n (List·Memᴰ·head refl)) b) (λ b. going-later d x (h x (List·Memᴰ·tail b)))
+      (List·Memᴰ·append-cases (belowId s (n .id)) p)) m j)
       (List·Memᴰ·cases-cons i)
 
   start : Met
@@ -194,12 +200,14 @@ module _ (s : Forest) (k : Unbroken s) where
   unfolding metOnce meets
   all-once =
       all-of (metOnce (wayDown s)) (s .nodes)
-      (λ n i. let z = node-met n i in eq-eqb (meets (n .id) (wayDown s)) 1 (omega (arith, single-met (n .id), met-count (n .id) (wayDown s) (z .0) (z .1) (z .2))))
+      (λ n i. let z = node-met n i in eq-eqb (meets (n .id) (wayDown s)) 1
+      (omega (arith, single-met (n .id), met-count (n .id) (wayDown s) (z .0) (z .1) (z .2))))
 
   pub unbroken-sound : soundShape s ≡ true
   unfolding soundShape soundLinks soundTrees wayEnds
   unbroken-sound =
-      joined (joined (joined (joined (joined all-once all-recorded) (k .bare)) (joined (joined (joined (k .differ) (k .first)) (k .one-id)) (k .held))) (k .ordered))
+      joined (joined (joined (joined (joined all-once all-recorded) (k .bare))
+      (joined (joined (joined (k .differ) (k .first)) (k .one-id)) (k .held))) (k .ordered))
       (le-leb (length (wayDown s)) (length (s .nodes)) short)
 
 -- where no rule is found broken, the shape is sound
@@ -208,10 +216,43 @@ shape-complete s e = unbroken-sound s (unbroken s e)
 
 -- ## The answers
 
--- so where the shape is not sound, a broken rule is found, and it is broken
-pub shape-found : (s : Forest) → soundShape s ≡ false → (b : Broken) × (brokenShape s ≡ some b) × Breaks s b
+-- so where the shape is not sound, a broken rule is found, and it is the first that is broken
+pub shape-found : (s : Forest) → soundShape s ≡ false → (b : Broken) × (brokenShape s ≡ some b) × FirstOfShape s b
 shape-found s e =
-    by-option (brokenShape s) (λ q. absurd (clash e (shape-complete s q))) (λ b q. (b, q, said (Breaks s) (brokenShape s) (shape-says s) b q))
+    by-option (brokenShape s) (λ q. absurd (clash e (shape-complete s q))) (λ b q. (b, q, shape-first s b q))
+
+-- few children
+abbrev pub fewChildren : NodeData → Bool
+fewChildren d = leb (length (d .children)) 256
+
+-- where no node has more than 256 children, a rule is found broken where the shape is not sound, and only there
+pub shape-exact : (s : Forest) → all (λ n. fewChildren (n .body)) (s .nodes) ≡ true → isNone (brokenShape s) ≡ soundShape s
+unfolding Beyond Breaks rank
+shape-exact s few = iff (λ e. shape-complete s (none-of (brokenShape s) e)) back
+  where
+    never : soundShape s ≡ true → (b : Broken) → FirstOfShape s b → Beyond s b → ⊥
+    never e tooManyNodes h y = omega (arith, h .asked .0)
+    never e tooManyTrees h y = omega (arith, h .asked .0)
+    never e (tooManyChildren p) h y =
+        let z = h .breaks in
+        omega (arith, z .3, leb-true (length (z .0 .body .children)) 256 (all-member (λ n. fewChildren (n .body)) (s .nodes) (z .0) few (at-member (z .1))))
+    never e (absentBelow p x) h y = y
+    never e (metTwice p) h y = y
+    never e (neverMet p d) h y = y
+    never e (wrongLink p recorded met) h y = y
+    never e (graftWithChildren p) h y = y
+    never e (graftedTwice g) h y = y
+    never e rootNotFirst h y = y
+    never e (treeTwice k t) h y = y
+    never e (treeUnrooted k t) h y = y
+    never e (outOfOrder p) h y = y
+    never e (brokenField p) h y = omega (arith, h .asked .1)
+    never e noFocus h y = omega (arith, h .asked .1)
+
+    back : soundShape s ≡ true → isNone (brokenShape s) ≡ true
+    back e =
+        by-option (brokenShape s) (λ q. rw q)
+        (λ b q. let h = shape-first s b q in absurd (never e b h (breaks-beyond s (shape-parts s e) b (h .breaks))))
 
 -- no rule of a sound state is found broken where the state is sound, and only there
 pub state-complete : (s : Forest) → isNone (brokenState s) ≡ sound s
@@ -239,6 +280,6 @@ state-complete s = iff there back
     back : sound s ≡ true → isNone (brokenState s) ≡ true
     back e = by-option (brokenState s) (λ q. rw q) (λ b q. absurd (clash (state-broken s b q) e))
 
-pub state-found : (s : Forest) → sound s ≡ false → (b : Broken) × (brokenState s ≡ some b) × Breaks s b
+pub state-found : (s : Forest) → sound s ≡ false → (b : Broken) × (brokenState s ≡ some b) × FirstOfState s b
 state-found s e =
-    by-option (brokenState s) (λ q. absurd (clash e (sym (state-complete s) ∙ ap isNone q))) (λ b q. (b, q, said (Breaks s) (brokenState s) (state-says s) b q))
+    by-option (brokenState s) (λ q. absurd (clash e (sym (state-complete s) ∙ ap isNone q))) (λ b q. (b, q, state-first s b q))

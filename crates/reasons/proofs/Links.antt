@@ -1,7 +1,8 @@
 -- Going down once from each node of a forest in order: no link is met twice. In a sound shape every node is met once, under the link that it records.
 -- Assumes nothing.
 use mathlib.Core.Bool.{Bool, true, false, _||_}
-use mathlib.Core.List.{List, [], _∷_, _++_, map, List·Memᴰ, List·Memᴰ·head, List·Memᴰ·tail, List·Memᴰ·not-nil, List·Memᴰ·eq-of-singleton, List·Memᴰ·cases-cons, List·Memᴰ·append-cases, Memᴰ·append-left, Memᴰ·append-right}
+use mathlib.Core.List.{List, [], _∷_, map, List·Memᴰ, List·Memᴰ·head, List·Memᴰ·tail, List·Memᴰ·not-nil, List·Memᴰ·eq-of-singleton}
+use mathlib.Core.List.{List·Memᴰ·append-cases, Memᴰ·append-left, Memᴰ·append-right}
 use mathlib.Core.Logic.{_⊎_, inl, inr, ⊎-elim}
 use mathlib.Core.Option.{Option, none, some}
 use mathlib.Core.Path.{_≡_, refl, sym, ap, _∙_, subst}
@@ -26,49 +27,8 @@ use Rattle.state.proofs.Sound.{Shape, Root, root-of-shape}
 use Rattle.state.proofs.Down.{Descent, descent, some-met, below-met, below-by, below-under}
 use Rattle.state.proofs.Family.{child, parent-present}
 use Rattle.reasons.specs.Shape.{idsBelow, wider, widened, reached, linksBelow, linksFrom, metLinks}
-use Rattle.reasons.proofs.Broken.{has-member, keep-passes, member-keep}
-
--- ## Lists
-
-module _ {A : Type 0} where
-  -- where no element passes, none is counted
-  pub count-none : (p : A → Bool) (xs : List A) → ((x : A) → List·Memᴰ x xs → p x ≡ false) → count p xs ≡ 0
-  count-none p [] h = refl
-  count-none p (x ∷ xs) h = rw (h x (List·Memᴰ·head refl)) (count-none p xs (λ y i. h y (List·Memᴰ·tail i)))
-
-  -- where all pass, all are counted
-  pub count-every : (p : A → Bool) (xs : List A) → ((x : A) → List·Memᴰ x xs → p x ≡ true) → count p xs ≡ length xs
-  count-every p [] h = refl
-  count-every p (x ∷ xs) h = rw (h x (List·Memᴰ·head refl)) (ap suc (count-every p xs (λ y i. h y (List·Memᴰ·tail i))))
-
-  pub counted-append : (p : A → Bool) (xs ys : List A) → count p (xs ++ ys) ≡ count p xs + count p ys
-  counted-append p [] ys = omega arith
-  counted-append p (x ∷ xs) ys = let h = counted-append p xs ys in by-test (p x) (λ t. rw t (omega arith)) (λ t. rw t h)
-
-  -- what is kept stood there
-  pub keep-member : (p : A → Bool) (xs : List A) (x : A) → List·Memᴰ x (keep p xs) → List·Memᴰ x xs
-  keep-member p [] x i = i
-  keep-member p (y ∷ ys) x i =
-      by-test (p y) (λ t. ⊎-elim (λ q. List·Memᴰ·head q) (λ j. List·Memᴰ·tail (keep-member p ys x j)) (List·Memᴰ·cases-cons (rw t at i)))
-      (λ t. List·Memᴰ·tail (keep-member p ys x (rw t at i)))
-
-module _ {A B : Type 0} (f : A → B) where
-  -- an image is that of an element
-  pub map-member : (xs : List A) (y : B) → List·Memᴰ y (map f xs) → (x : A) × List·Memᴰ x xs × (f x ≡ y)
-  map-member [] y i = absurd (List·Memᴰ·not-nil i)
-  map-member (x ∷ xs) y i =
-      ⊎-elim (λ q. (x, List·Memᴰ·head refl, sym q)) (λ j. let z = map-member xs y j in (z .0, List·Memᴰ·tail (z .1), z .2)) (List·Memᴰ·cases-cons i)
-
-  pub member-map : (xs : List A) (x : A) → List·Memᴰ x xs → List·Memᴰ (f x) (map f xs)
-  member-map (y ∷ ys) x (List·Memᴰ·head q) = List·Memᴰ·head (ap f q)
-  member-map (y ∷ ys) x (List·Memᴰ·tail i) = List·Memᴰ·tail (member-map ys x i)
-
-  -- of the kept elements no more images are counted than of all
-  pub count-map-keep : (p : B → Bool) (q : A → Bool) (xs : List A) → count p (map f (keep q xs)) ≤ count (λ x. p (f x)) xs
-  count-map-keep p q [] = omega arith
-  count-map-keep p q (x ∷ xs) =
-      let h = count-map-keep p q xs in
-      by-test (q x) (λ t. by-test (p (f x)) (λ u. rw (t, u) (omega arith)) (λ u. rw (t, u) h)) (λ t. by-test (p (f x)) (λ u. rw (t, u) (omega arith)) (λ u. rw (t, u) h))
+use Rattle.reasons.proofs.Lists.{has-member, keep-passes, member-keep, count-none, count-every, count-append, keep-member, map-member}
+use Rattle.reasons.proofs.Lists.{member-map, count-map-keep}
 
 -- ## One link
 
@@ -135,7 +95,8 @@ unfolding linksFrom linksBelow
 below-links s xs (k ∷ ns) n m (List·Memᴰ·head q) e i =
     let first : List·Memᴰ (m .link) (if has sameId xs (k .id) then linksBelow s (m .id) k else []) =
     rw (ap (λ (z : NodeState). has sameId xs (z .id)) (sym q) ∙ e)
-    (member-map (λ m. m .link) (keep (λ j. sameId (m .id) (j .id)) (below s k)) m (member-keep (λ j. sameId (m .id) (j .id)) (below s k) m (rw q at i) (same-id-refl (m .id)))) in
+    (member-map (λ m. m .link) (keep (λ j. sameId (m .id) (j .id)) (below s k)) m
+    (member-keep (λ j. sameId (m .id) (j .id)) (below s k) m (rw q at i) (same-id-refl (m .id)))) in
     Memᴰ·append-left (linksFrom s xs (m .id) ns) first
 below-links s xs (k ∷ ns) n m (List·Memᴰ·tail j) e i =
     Memᴰ·append-right (if has sameId xs (k .id) then linksBelow s (m .id) k else []) (below-links s xs ns n m j e i)
@@ -148,11 +109,12 @@ from-once s xs x k [] up = omega arith
 from-once s xs x k (n ∷ ns) up =
     let rest = from-once s xs x k ns (both up .1) in
     let here = count-map-keep (λ m. m .link) (isLink k) (λ m. sameId x (m .id)) (below s n) in
-    let split = counted-append (isLink k) (if has sameId xs (n .id) then linksBelow s x n else []) (linksFrom s xs x ns) in
+    let split = count-append (isLink k) (if has sameId xs (n .id) then linksBelow s x n else []) (linksFrom s xs x ns) in
     by-test (has sameId xs (n .id))
     (λ t. let sum = rw t at split in
     by-test (sameId (k .parent) (n .id))
-    (λ p. let later : count (isLink k) (linksFrom s xs x ns) ≡ 0 = count-none (isLink k) (linksFrom s xs x ns) (λ l i. after n ns (both up .0) (same-id→≡ (k .parent) (n .id) p) l i) in rw t (omega (arith, below-once s k n)))
+    (λ p. let later : count (isLink k) (linksFrom s xs x ns) ≡ 0 = count-none (isLink k) (linksFrom s xs x ns)
+    (λ l i. after n ns (both up .0) (same-id→≡ (k .parent) (n .id) p) l i) in rw t (omega (arith, below-once s k n)))
     (λ p. let away = below-elsewhere s k n (λ q. clash p (rw q (same-id-refl (n .id)))) in rw t (omega arith)))
     (λ t. rw t rest)
   where
@@ -163,7 +125,8 @@ from-once s xs x k (n ∷ ns) up =
         let z = links-below s xs x ns l i in
         let u = below-under s (z .0) (z .2) (z .3) in
         refuted (λ e. let q : n .id ≡ z .0 .id = sym p ∙ same-id→≡ (k .parent) (z .0 .id) (both (rw (sym (z .5) ∙ u .1) at e) .0) in
-        clash (before-self (n .id)) (subst (λ (y : FullNodeId). before (n .id) y ≡ true) (sym q) (all-member (λ m. before (n .id) (m .id)) ns (z .0) up (z .1))))
+        clash (before-self (n .id)) (subst (λ (y : FullNodeId). before (n .id) y ≡ true) (sym q)
+        (all-member (λ m. before (n .id) (m .id)) ns (z .0) up (z .1))))
 
 -- the root's part
 abbrev pub rootLinks : Forest → FullNodeId → List (Option ParentAndIndex)
@@ -173,13 +136,13 @@ pub differ-once : (s : Forest) (xs : List FullNodeId) (x : FullNodeId) → ascen
     → count (sameOption sameLink l) (metLinks s xs x) ≤ 1
 unfolding metLinks
 differ-once s xs x up none =
-    let split = counted-append (sameOption sameLink none) (rootLinks s x) (linksFrom s xs x (s .nodes)) in
+    let split = count-append (sameOption sameLink none) (rootLinks s x) (linksFrom s xs x (s .nodes)) in
     let later : count (sameOption sameLink none) (linksFrom s xs x (s .nodes)) ≡ 0 =
     count-none (sameOption sameLink none) (linksFrom s xs x (s .nodes))
     (λ l i. let z = links-below s xs x (s .nodes) l i in rw (sym (z .5) ∙ below-under s (z .0) (z .2) (z .3) .1)) in
     by-test (sameOption sameId (rootOf s) (some x)) (λ t. let sum = rw t at split in rw t (omega arith)) (λ t. let sum = rw t at split in rw t (omega arith))
 differ-once s xs x up (some k) =
-    let split = counted-append (isLink k) (rootLinks s x) (linksFrom s xs x (s .nodes)) in
+    let split = count-append (isLink k) (rootLinks s x) (linksFrom s xs x (s .nodes)) in
     let rest = from-once s xs x k (s .nodes) up in
     by-test (sameOption sameId (rootOf s) (some x)) (λ t. rw t rest) (λ t. rw t rest)
 
@@ -214,7 +177,8 @@ widened-old zero k s xs x e q = rw zero-add q
 widened-old (suc j) k s xs x e q = rw (suc-add, widened-more (j + k) s xs) (wider-old s (widened (j + k) s xs) x e (widened-old j k s xs x e q))
 
 -- and what is below it is reached, if it is present
-pub wider-below : (s : Forest) (xs : List FullNodeId) (x : FullNodeId) → present (s .nodes) x ≡ true → (n : NodeState) → List·Memᴰ n (s .nodes) → has sameId xs (n .id) ≡ true
+pub wider-below : (s : Forest) (xs : List FullNodeId) (x : FullNodeId) → present (s .nodes) x ≡ true → (n : NodeState) → List·Memᴰ n (s .nodes)
+    → has sameId xs (n .id) ≡ true
     → {l : Option ParentAndIndex} → List·Memᴰ (record { id = x; link = l }) (below s n) → has sameId (wider s xs) x ≡ true
 unfolding wider idsBelow
 wider-below s xs x e n i q {l} j =
@@ -232,7 +196,8 @@ unfolding wider idsBelow
 wider-cases s xs x e =
     let test : FullNodeId → Bool = λ y. has sameId xs y || any (λ n. has sameId xs (n .id) && has sameId (idsBelow s n) y) (s .nodes) in
     let passes : test x ≡ true = both (sym (has-keep sameId same-id→≡ test (idsOf (s .nodes)) x) ∙ e) .1 in
-    by-test (has sameId xs x) (λ t. inl t) (λ t. inr (above (any-found (λ n. has sameId xs (n .id) && has sameId (idsBelow s n) x) (s .nodes) (rw t at passes))))
+    by-test (has sameId xs x) (λ t. inl t) (λ t. inr
+    (above (any-found (λ n. has sameId xs (n .id) && has sameId (idsBelow s n) x) (s .nodes) (rw t at passes))))
   where
     above : (n : NodeState) × List·Memᴰ n (s .nodes) × (has sameId xs (n .id) && has sameId (idsBelow s n) x ≡ true)
         → (n : NodeState) × List·Memᴰ n (s .nodes) × (m : Met) × List·Memᴰ m (below s n) × (m .id ≡ x) × (has sameId xs (n .id) ≡ true)
@@ -312,6 +277,7 @@ module _ (s : Forest) (h : Shape s) where
       let no : _≡_ {A = ℕ} 0 1 = cc in omega arith)
       (λ l p. let c = child s h x l p in
       let i = find-member (s .nodes) (l .parent) (c .parent) (c .there) in
-      let up : has sameId (reached s) (c .parent .id) ≡ true = rw (find-id (s .nodes) (l .parent) (c .parent) (c .there)) (reached-all (l .parent) (parent-present s h x l p)) in
+      let up : has sameId (reached s) (c .parent .id) ≡ true = rw (find-id (s .nodes) (l .parent) (c .parent) (c .there))
+      (reached-all (l .parent) (parent-present s h x l p)) in
       List·Memᴰ·not-nil (subst (λ (ls : List (Option ParentAndIndex)). List·Memᴰ (some l) ls) q
       (Memᴰ·append-right (rootLinks s x) (below-links s (reached s) (s .nodes) (c .parent) (record { id = x; link = some l }) i up (c .below)))))

@@ -1,15 +1,16 @@
 -- Laws of places in a list, and of nodes in order. Assumes nothing.
 use mathlib.Core.Bool.{true}
-use mathlib.Core.List.{List, _∷_, List·Memᴰ, List·Memᴰ·head, List·Memᴰ·tail}
-use mathlib.Core.Path.{_≡_, refl}
+use mathlib.Core.List.{List, [], _∷_, _++_, List·Memᴰ, List·Memᴰ·head, List·Memᴰ·tail}
+use mathlib.Core.Path.{_≡_, refl, sym, _∙_}
 use Prim.Native.Nat.{ℕ, zero, suc, _+_, _<_}
 use native.Mathlib.Nat.{add-zero, zero-add}
 use native.Mathlib.Omega.{arith}
+use lib.ListN.{length}
 use Rattle.base.proofs.Tests.{both, all-member}
 use Rattle.ids.specs.Ids.{before}
 use Rattle.state.specs.State.{NodeState}
 use Rattle.state.specs.Sound.{ascending}
-use Rattle.reasons.specs.Holds.{At, at-head, at-tail}
+use Rattle.reasons.specs.Breaks.{At, at-head, at-tail}
 
 module _ {A : Type 0} where
   -- a member stands at a place
@@ -21,6 +22,22 @@ module _ {A : Type 0} where
   pub at-member : {x : A} {xs : List A} {i : ℕ} → At x xs i → List·Memᴰ x xs
   at-member (at-head q) = List·Memᴰ·head q
   at-member (at-tail i) = List·Memᴰ·tail (at-member i)
+
+  -- one element at a place
+  pub at-same : {x y : A} {xs : List A} {i : ℕ} → At x xs i → At y xs i → x ≡ y
+  at-same (at-head p) (at-head q) = p ∙ sym q
+  at-same (at-tail i) (at-tail j) = at-same i j
+
+  -- what stands at a place before the end of the first list stands in it
+  pub at-before : {x : A} (xs ys : List A) {i : ℕ} → At x (xs ++ ys) i → i < length xs → At x xs i
+  at-before [] ys i l = absurd (omega arith)
+  at-before (z ∷ xs) ys (at-head q) l = at-head q
+  at-before (z ∷ xs) ys (at-tail i) l = at-tail (at-before xs ys i (omega arith))
+
+  -- a place is below the length
+  pub at-below : {x : A} {xs : List A} {i : ℕ} → At x xs i → i < length xs
+  at-below (at-head q) = omega arith
+  at-below (at-tail i) = omega (arith, at-below i)
 
   -- xs are the elements of a list from place k on
   pub record From (k : ℕ) (xs all : List A) : Type 0 where

@@ -1,64 +1,31 @@
 -- Where no rule for links and trees is found broken, every one is kept. Assumes nothing.
-use mathlib.Core.Bool.{Bool, true, false, not}
+use mathlib.Core.Bool.{true, false, not}
 use mathlib.Core.List.{List, [], _∷_, map, List·Memᴰ, List·Memᴰ·head, List·Memᴰ·tail, List·Memᴰ·not-nil, List·Memᴰ·cases-cons, List·Memᴰ·append-cases}
 use mathlib.Core.Logic.{⊎-elim}
-use mathlib.Core.Option.{Option, none, some, Option·none-ne-some}
+use mathlib.Core.Option.{none, some}
 use mathlib.Core.Path.{_≡_, refl, sym, ap, _∙_}
 use Prim.Native.Nat.{ℕ, suc, _≤_}
 use native.Mathlib.Omega.{arith}
 use lib.ListN.{length}
 use borrow.Author.Tests.{leb-false}
-use Rattle.base.specs.Tests.{if_then_else_, isSome, all, keep, has, distinct, sameOption, firstGiven}
+use Rattle.base.specs.Tests.{if_then_else_, isSome, all, keep, has, distinct, sameOption}
 use Rattle.base.proofs.Cases.{by-test, by-option}
 use Rattle.base.proofs.Tests.{joined, clash, refuted, not-false, or-false}
-use Rattle.base.proofs.Lists.{all-of, any-of, any-found}
+use Rattle.base.proofs.Lists.{all-of, any-found}
 use Rattle.ids.specs.Ids.{sameTree, sameId, before}
-use Rattle.ids.proofs.Ids.{same-tree-sym, same-id-refl}
+use Rattle.ids.proofs.Ids.{same-tree-sym}
 use Rattle.ids.specs.declared.TreeId.{TreeId}
 use Rattle.ids.specs.declared.FullNodeId.{FullNodeId}
 use Rattle.state.specs.State.{sameLink, NodeState, TreeEntry, Forest, present}
 use Rattle.state.specs.Sound.{graftIsBare, graftsDiffer, grafted, allGrafted, rootFirst, oneIdEach, ascending}
 use Rattle.reasons.specs.Reasons.{tooManyChildren, absentBelow, metTwice, neverMet, graftWithChildren, graftedTwice, rootNotFirst}
-use Rattle.reasons.specs.Shape.{spotFrom, spot, at, smallest, idsBelow, reached, metLinks, crowded, absentIds, absence, isMetTwice, isNeverMet, topmostWithin, unmet, metLink, disagrees, wrongLinkFrom, brokenLinks, graftTwiceFrom, treeTwiceFrom, unrootedFrom, brokenTrees, disorderFrom, brokenShape}
-use Rattle.reasons.proofs.Numbers.{grafts-some}
-use Rattle.reasons.proofs.Broken.{Smallest, smallest-least, ids-absent}
-use Rattle.reasons.proofs.Links.{map-member, keep-member}
-
--- ## No value
-
-module _ {A : Type 0} where
-  -- none of some
-  abbrev pub AllNone : List (Option A) → Type 0
-  AllNone [] = Unit {0}
-  AllNone (o ∷ os) = (o ≡ none) × AllNone os
-
-  -- where there is no first of some, there is none at all
-  pub none-each : (os : List (Option A)) → firstGiven (λ o. o) os ≡ none → AllNone os
-  none-each [] e = tt
-  none-each (none ∷ os) e = (refl, none-each os e)
-  none-each (some x ∷ os) e = absurd (Option·none-ne-some x (sym e))
-
-  pub none-made : {B : Type 0} (f : A → B) (o : Option A) → _≡_ {A = Option B} (elim o [ none ↦ none | some x ↦ some (f x) ]) none → o ≡ none
-  none-made f none e = refl
-  none-made f (some x) e = absurd (Option·none-ne-some (f x) (sym e))
-
-  pub none-or : (o p : Option A) → _≡_ {A = Option A} (elim o [ some x ↦ some x | none ↦ p ]) none → (o ≡ none) × (p ≡ none)
-  none-or none p e = (refl, e)
-  none-or (some x) p e = absurd (Option·none-ne-some x (sym e))
-
-  pub none-if : (t : Bool) (x : A) (o : Option A) → (if t then some x else o) ≡ none → (t ≡ false) × (o ≡ none)
-  none-if true x o e = absurd (Option·none-ne-some x (sym e))
-  none-if false x o e = (refl, e)
-
-  pub none-unless : (t : Bool) (x : A) (o : Option A) → (if t then o else some x) ≡ none → (t ≡ true) × (o ≡ none)
-  none-unless true x o e = (refl, e)
-  none-unless false x o e = absurd (Option·none-ne-some x (sym e))
-
--- no node passes
-pub spot-none : (k : ℕ) (p : NodeState → Bool) (ns : List NodeState) → spotFrom k p ns ≡ none → (n : NodeState) → List·Memᴰ n ns → p n ≡ false
-unfolding spotFrom
-spot-none k p (m ∷ ns) e n (List·Memᴰ·head q) = ap p q ∙ none-if (p m) _ _ e .0
-spot-none k p (m ∷ ns) e n (List·Memᴰ·tail i) = spot-none (suc k) p ns (none-if (p m) _ _ e .1) n i
+use Rattle.reasons.specs.Shape.{spot, at, smallest, idsBelow, reached, metLinks, crowded, absentIds, absence, isMetTwice, isNeverMet}
+use Rattle.reasons.specs.Shape.{topmostWithin, unmet, metLink, disagrees, wrongLinkFrom, brokenLinks, graftTwiceFrom, treeTwiceFrom}
+use Rattle.reasons.specs.Shape.{unrootedFrom, brokenTrees, disorderFrom, brokenShape}
+use Rattle.reasons.proofs.Lists.{member-has, keep-member, map-member}
+use Rattle.reasons.proofs.Grafts.{grafts-some}
+use Rattle.reasons.proofs.First.{none-each, none-made, none-if, none-unless}
+use Rattle.reasons.proofs.Broken.{spot-none, Smallest, smallest-least, ids-absent}
 
 -- ## The rules for trees
 
@@ -73,7 +40,8 @@ twice-none k ids (e ∷ es) q =
     let f = map-member (λ (f : TreeEntry). f .id) es (z .0) (z .1) in
     clash (or-false (sameTree (f .0 .id) (e .id)) (rest .1 (f .0) (f .1)) .0) (same-tree-sym (f .0 .id) (e .id) ∙ rw (f .2) (z .2))) in (
       joined (ap not apart) (rest .0),
-      λ f i. ⊎-elim (λ p. ap (λ (z : TreeEntry). has sameTree ids (z .id)) p ∙ this .0) (λ j. or-false (sameTree (f .id) (e .id)) (rest .1 f j) .1) (List·Memᴰ·cases-cons i),
+      λ f i. ⊎-elim (λ p. ap (λ (z : TreeEntry). has sameTree ids (z .id)) p ∙ this .0) (λ j. or-false (sameTree (f .id) (e .id)) (rest .1 f j) .1)
+          (List·Memᴰ·cases-cons i),
     )
 
 unrooted-none : (ns : List NodeState) (k : ℕ) (es : List TreeEntry) → unrootedFrom ns k es ≡ none → allGrafted ns k es ≡ true
@@ -96,11 +64,12 @@ module _ (s : Forest) where
   wrong-none k (m ∷ ns) e n (List·Memᴰ·tail i) = wrong-none (suc k) ns (none-if (disagrees s (reached s) m) _ _ e .1) n i
 
   -- an absent id stands below a node
-  absent-above : (ns : List NodeState) (x : FullNodeId) → List·Memᴰ x (absentIds s ns) → (n : NodeState) × List·Memᴰ n ns × List·Memᴰ x (idsBelow s n)
+  pub absent-above : (ns : List NodeState) (x : FullNodeId) → List·Memᴰ x (absentIds s ns) → (n : NodeState) × List·Memᴰ n ns × List·Memᴰ x (idsBelow s n)
   unfolding absentIds
   absent-above [] x i = absurd (List·Memᴰ·not-nil i)
   absent-above (n ∷ ns) x i =
-      ⊎-elim (λ j. (n, List·Memᴰ·head refl, keep-member (λ x. not (present (s .nodes) x)) (idsBelow s n) x j)) (λ j. let z = absent-above ns x j in (z .0, List·Memᴰ·tail (z .1), z .2))
+      ⊎-elim (λ j. (n, List·Memᴰ·head refl, keep-member (λ x. not (present (s .nodes) x)) (idsBelow s n) x j))
+      (λ j. let z = absent-above ns x j in (z .0, List·Memᴰ·tail (z .1), z .2))
       (List·Memᴰ·append-cases (keep (λ x. not (present (s .nodes) x)) (idsBelow s n)) i)
 
   -- nothing is absent below a node
@@ -114,10 +83,8 @@ module _ (s : Forest) where
       (λ y q. let least : Smallest s ids y = rw q at (smallest-least s ids) in
       let above = absent-above (s .nodes) y (least .0) in
       let nowhere = none-made (λ p. absentBelow p y) (spot (λ n. has sameId (idsBelow s n) y) (s .nodes)) (rw (q, absence) at e) in
-      absurd (clash (spot-none 0 (λ n. has sameId (idsBelow s n) y) (s .nodes) nowhere (above .0) (above .1)) (member-has (idsBelow s (above .0)) y (above .2))))
-    where
-      member-has : (xs : List FullNodeId) (x : FullNodeId) → List·Memᴰ x xs → has sameId xs x ≡ true
-      member-has xs x i = any-of (sameId x) xs x i (same-id-refl x)
+      absurd (clash (spot-none 0 (λ n. has sameId (idsBelow s n) y) (s .nodes) nowhere (above .0) (above .1))
+      (member-has (idsBelow s (above .0)) y (above .2))))
 
 -- every rule for links and trees
 pub record Unbroken (s : Forest) : Type 0 where
@@ -151,7 +118,8 @@ unbroken s e =
     ∷ unrootedFrom (s .nodes) 0 (s .trees)
     ∷ []) (parts .1 .0) in
     let twice = none-made metTwice (spot (isMetTwice s (reached s)) (s .nodes)) (links .1 .1 .0) in
-    let never = none-made (λ x. neverMet x (topmostWithin (length (s .nodes)) s (reached s) (x .id))) (spot (isNeverMet s (reached s)) (s .nodes)) (links .1 .1 .1 .0) in
+    let never = none-made (λ x. neverMet x (topmostWithin (length (s .nodes)) s (reached s) (x .id))) (spot (isNeverMet s (reached s)) (s .nodes))
+    (links .1 .1 .1 .0) in
     let full = none-made graftWithChildren (spot (λ n. not (graftIsBare n)) (s .nodes)) (links .1 .1 .1 .1 .1 .0) in
     record {
       there = absence-none s (links .1 .0);

@@ -1,9 +1,9 @@
 -- A forest that breaks a rule is not sound. Assumes nothing.
-use mathlib.Core.Bool.{Bool, true, false}
-use mathlib.Core.List.{List, [], _∷_, map, List·Memᴰ, List·Memᴰ·head, List·Memᴰ·tail}
-use mathlib.Core.Option.{Option, none, some}
+use mathlib.Core.Bool.{true, false}
+use mathlib.Core.List.{List, [], _∷_, map, List·Memᴰ, List·Memᴰ·head}
+use mathlib.Core.Option.{Option, some}
 use mathlib.Core.Path.{_≡_, refl, sym, ap, _∙_, subst}
-use Prim.Native.Nat.{ℕ, suc, _+_, _≤_, _<_}
+use Prim.Native.Nat.{ℕ, suc, _+_, _<_}
 use native.Mathlib.Nat.{add-zero, zero-add}
 use native.Mathlib.Omega.{arith}
 use lib.ListN.{length}
@@ -11,25 +11,26 @@ use borrow.Author.Tests.{leb-true}
 use Rattle.base.specs.Tests.{all, has, distinct, sameOption}
 use Rattle.base.proofs.Tests.{both, clash, refuted, not-true, all-member}
 use Rattle.base.proofs.Lists.{distinct-given, has-map}
-use Rattle.base.proofs.Sums.{sumOver}
-use Rattle.ids.specs.Ids.{sameTree, sameId, before}
-use Rattle.ids.proofs.Ids.{same-tree-refl, same-id-refl, before-self}
+use Rattle.ids.specs.Ids.{sameTree, before}
+use Rattle.ids.proofs.Ids.{same-tree-refl, before-self}
 use Rattle.ids.specs.declared.TreeId.{TreeId}
 use Rattle.record.specs.Batch.{graft?, fieldsOk}
-use Rattle.state.specs.State.{ParentAndIndex, sameLink, NodeState, TreeEntry, Forest, idsOf, present, linkAt}
+use Rattle.state.specs.State.{ParentAndIndex, sameLink, NodeState, TreeEntry, Forest, linkAt}
 use Rattle.state.specs.Down.{below}
 use Rattle.state.specs.Sound.{soundShape, graftIsBare, graftsDiffer, grafted, allGrafted, oneIdEach, focusPresent, sound}
-use Rattle.state.proofs.State.{present-has, find-self}
+use Rattle.state.proofs.State.{find-self}
 use Rattle.state.proofs.Sound.{Shape, shape-parts, Sound, sound-parts, root-of-shape}
 use Rattle.state.proofs.Down.{descent}
 use Rattle.state.proofs.Pool.{childTotal, children-few}
-use Rattle.reasons.specs.Reasons.{Broken, tooManyNodes, tooManyTrees, tooManyChildren, absentBelow, metTwice, neverMet, wrongLink, graftWithChildren, graftedTwice, rootNotFirst, treeTwice, treeUnrooted, outOfOrder, brokenField, noFocus}
-use Rattle.reasons.specs.Shape.{idsBelow, reached, metLinks, metLink, brokenState}
-use Rattle.reasons.specs.Holds.{At, at-head, at-tail, Breaks}
+use Rattle.reasons.specs.Reasons.{Broken, tooManyNodes, tooManyTrees, tooManyChildren, absentBelow, metTwice, neverMet, wrongLink}
+use Rattle.reasons.specs.Reasons.{graftWithChildren, graftedTwice, rootNotFirst, treeTwice, treeUnrooted, outOfOrder, brokenField, noFocus}
+use Rattle.reasons.specs.Shape.{idsBelow, reached, metLinks, brokenState}
+use Rattle.reasons.specs.Breaks.{At, at-head, at-tail, Breaks}
+use Rattle.reasons.proofs.Lists.{sum-member, all-fails, map-member}
 use Rattle.reasons.proofs.First.{said}
 use Rattle.reasons.proofs.Places.{at-member, ascending-places}
-use Rattle.reasons.proofs.Broken.{state-says}
-use Rattle.reasons.proofs.Links.{map-member, same-link-refl, below-way, met-link, met-once, met-some}
+use Rattle.reasons.proofs.Broken.{member-present, state-says}
+use Rattle.reasons.proofs.Links.{same-link-refl, below-way, met-link, met-once, met-some}
 
 -- what a sound shape may break: the limits, the fields' rules and the focus's
 unfoldable pub Beyond : Forest → Broken → Type 0
@@ -49,16 +50,7 @@ Beyond s (outOfOrder p) = ⊥
 Beyond s (brokenField p) = all (λ n. fieldsOk (n .body)) (s .nodes) ≡ false
 Beyond s noFocus = focusPresent s ≡ false
 
--- ## Lists
-
--- a member's number is no more than the sum
-pub sum-member : {A : Type 0} (f : A → ℕ) (xs : List A) (x : A) → List·Memᴰ x xs → f x ≤ sumOver f xs
-sum-member f (y ∷ ys) x (List·Memᴰ·head q) = omega (arith, ap f q)
-sum-member f (y ∷ ys) x (List·Memᴰ·tail i) = omega (arith, sum-member f ys x i)
-
--- a member that fails fails all
-all-fails : {A : Type 0} (p : A → Bool) (xs : List A) (x : A) → List·Memᴰ x xs → p x ≡ false → all p xs ≡ false
-all-fails p xs x i e = refuted (λ h. clash e (all-member p xs x h i))
+-- ## Tables
 
 -- ids that differ do not stand at two places
 places-differ : {t : TreeId} {e f : TreeEntry} {es : List TreeEntry} {j k : ℕ} → distinct sameTree (map (λ e. e .id) es) ≡ true → At f es j → At e es k → j < k
@@ -80,26 +72,17 @@ grafted-at ns k {e} {j = suc j} h (at-tail i) = let q : k + suc j ≡ suc k + j 
 -- ## The rules
 
 module _ (s : Forest) (h : Shape s) where
-  -- what stands in the list is present, and found
-  node-there : (n : NodeState) → List·Memᴰ n (s .nodes) → present (s .nodes) (n .id) ≡ true
-  unfolding idsOf
-  node-there n i = present-has (s .nodes) (n .id) ∙ has-map sameId same-id-refl (λ k. k .id) (s .nodes) n i
-
+  -- the link that is recorded of it
   node-link : (n : NodeState) → List·Memᴰ n (s .nodes) → linkAt (s .nodes) (n .id) ≡ n .parentAndIndex
   unfolding linkAt
   node-link n i = rw (find-self (s .nodes) n (h .ordered) i, linkAt)
 
-  -- the link under which a node is met is the one that it records
-  link-agrees : (n : NodeState) → List·Memᴰ n (s .nodes) → sameOption sameLink (n .parentAndIndex) (metLink s (reached s) n) ≡ true
-  unfolding metLink
-  link-agrees n i = go (metLinks s (reached s) (n .id)) refl
-    where
-      go : (ls : List (Option ParentAndIndex)) → metLinks s (reached s) (n .id) ≡ ls
-          → sameOption sameLink (n .parentAndIndex) (elim ls [ [] ↦ none | l ∷ ls ↦ l ]) ≡ true
-      go [] q = absurd (met-some s h (n .id) (node-there n i) q)
-      go (l ∷ ls) q =
-          let same : n .parentAndIndex ≡ l = sym (node-link n i) ∙ met-link s h (reached s) (n .id) l (rw q (List·Memᴰ·head refl)) in
-          rw same (same-link-refl l)
+  -- a link under which a node is met is the one that it records
+  link-agrees : (n : NodeState) → List·Memᴰ n (s .nodes) → (l : Option ParentAndIndex) → metLinks s (reached s) (n .id) ≡ l ∷ []
+      → sameOption sameLink (n .parentAndIndex) l ≡ true
+  link-agrees n i l q =
+      let same : n .parentAndIndex ≡ l = sym (node-link n i) ∙ met-link s h (reached s) (n .id) l (rw q (List·Memᴰ·head refl)) in
+      rw same (same-link-refl l)
 
   pub breaks-beyond : (b : Broken) → Breaks s b → Beyond s b
   unfolding Breaks Beyond childTotal graftsDiffer oneIdEach idsBelow
@@ -111,16 +94,19 @@ module _ (s : Forest) (h : Shape s) where
       let m = map-member (λ m. m .id) (below s (n .0)) x (n .3 .0) in
       clash (n .3 .1) (rw (← m .2) (descent s h (root-of-shape s h) .only (m .0) (below-way s h (n .0) (m .0) (at-member (n .1)) (m .1))))
   breaks-beyond (metTwice p) z = omega (arith, z .3, met-once s h (reached s) (z .0 .id))
-  breaks-beyond (neverMet p d) z = met-some s h (z .0 .0 .id) (node-there (z .0 .0) (at-member (z .0 .1))) (z .0 .3)
-  breaks-beyond (wrongLink p recorded met) z = clash (z .3 .2) (link-agrees (z .0) (at-member (z .1)))
+  breaks-beyond (neverMet p d) z = met-some s h (z .0 .0 .id) (member-present s (z .0 .0) (at-member (z .0 .1))) (z .0 .3)
+  breaks-beyond (wrongLink p recorded met) z = clash (z .3 .4) (link-agrees (z .0) (at-member (z .1)) (z .3 .1) (z .3 .2))
   breaks-beyond (graftWithChildren p) z = clash (z .3) (all-member graftIsBare (s .nodes) (z .0) (h .bare) (at-member (z .1)))
   breaks-beyond (graftedTwice g) z =
       let m = z .3 .1 in
-      let one : z .0 ≡ m .2 = distinct-given sameTree same-tree-refl (λ n. graft? (n .body)) (s .nodes) (h .differ) (z .0) (m .2) (g .tree) (at-member (z .1)) (at-member (m .3)) (z .3 .0) (m .4 .1) in
-      clash (before-self (z .0 .id)) (subst (λ (n : NodeState). before (z .0 .id) (n .id) ≡ true) (sym one) (ascending-places (h .ordered) (z .1) (m .3) (m .1)))
+      let one : z .0 ≡ m .2 = distinct-given sameTree same-tree-refl (λ n. graft? (n .body)) (s .nodes) (h .differ) (z .0) (m .2) (g .tree)
+      (at-member (z .1)) (at-member (m .3)) (z .3 .0) (m .4 .1) in
+      clash (before-self (z .0 .id)) (subst (λ (n : NodeState). before (z .0 .id) (n .id) ≡ true) (sym one)
+      (ascending-places (h .ordered) (z .1) (m .3) (m .1)))
   breaks-beyond rootNotFirst z = clash z (h .first)
   breaks-beyond (treeTwice k t) z = places-differ (h .one-id) (z .3 .2 .1) (z .1) (z .3 .1) (z .2) (z .3 .2 .2)
-  breaks-beyond (treeUnrooted k t) z = clash (z .3) (subst (λ (j : ℕ). grafted (s .nodes) j (z .0) ≡ true) (zero-add k) (grafted-at (s .nodes) 0 (h .held) (z .1)))
+  breaks-beyond (treeUnrooted k t) z =
+      clash (z .3) (subst (λ (j : ℕ). grafted (s .nodes) j (z .0) ≡ true) (zero-add k) (grafted-at (s .nodes) 0 (h .held) (z .1)))
   breaks-beyond (outOfOrder p) z = let m = z .3 in clash (m .4) (ascending-places (h .ordered) (z .1) (m .3) (m .1))
   breaks-beyond (brokenField p) z = all-fails (λ n. fieldsOk (n .body)) (s .nodes) (z .0) (at-member (z .1)) (z .3)
   breaks-beyond noFocus z = z

@@ -1,7 +1,3 @@
 pub mod Reasons
 pub mod Shape
-pub mod Pass
-pub mod Outcome
-pub mod Explain
-pub mod Holds
-pub mod Cases
+pub mod Breaks

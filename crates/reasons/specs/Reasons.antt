@@ -1,7 +1,8 @@
 -- Why a call answers its number: for each row of document 01's table what makes it hold, as data. Assumes nothing.
-use mathlib.Core.List.{List}
-use mathlib.Core.Option.{Option}
+use mathlib.Core.List.{List, [], _∷_}
+use mathlib.Core.Option.{Option, none, some}
 use Prim.Native.Nat.{ℕ}
+use Rattle.base.specs.Tests.{firstGiven}
 use Rattle.ids.specs.declared.TreeId.{TreeId}
 use Rattle.ids.specs.declared.FullNodeId.{FullNodeId}
 use Rattle.record_rules.specs.Rules.{Offence}
@@ -124,3 +125,12 @@ numberOf (updatedAndGone x d) = 18
 numberOf (unsoundOutcome broken) = 19
 numberOf (tooMany n) = 20
 numberOf (sliceTooShort n room) = 21
+
+-- the first reason of some
+abbrev pub firstReason : List (Option Reason) → Option Reason
+firstReason = firstGiven (λ o. o)
+
+-- the last of some ids, where a way through the grafts ends
+unfoldable pub lastOf : List FullNodeId → Option FullNodeId
+lastOf [] = none
+lastOf (x ∷ xs) = elim (lastOf xs) [ none ↦ some x | some y ↦ some y ]

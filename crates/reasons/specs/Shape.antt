@@ -14,7 +14,9 @@ use Rattle.record.specs.Batch.{graft?, fieldsOk}
 use Rattle.state.specs.State.{ParentAndIndex, sameLink, NodeState, TreeEntry, Forest, idsOf, present, parentOf, parentAt, holder}
 use Rattle.state.specs.Down.{below, rootOf}
 use Rattle.state.specs.Sound.{graftIsBare, grafted, rootFirst, focusPresent}
-use Rattle.reasons.specs.Reasons.{Spot, Dropped, Regraft, Broken, tooManyNodes, tooManyTrees, tooManyChildren, absentBelow, metTwice, neverMet, wrongLink, graftWithChildren, graftedTwice, rootNotFirst, treeTwice, treeUnrooted, outOfOrder, brokenField, noFocus}
+use Rattle.reasons.specs.Reasons.{Spot, Dropped, Regraft, Broken, tooManyNodes, tooManyTrees, tooManyChildren, absentBelow, metTwice, neverMet}
+use Rattle.reasons.specs.Reasons.{wrongLink, graftWithChildren, graftedTwice, rootNotFirst, treeTwice, treeUnrooted, outOfOrder, brokenField}
+use Rattle.reasons.specs.Reasons.{noFocus}
 
 -- ## Looking through the nodes
 

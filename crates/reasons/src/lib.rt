@@ -1,1 +1,1 @@
-// Why a call answers its number: the definitions stand in specs/.
+// The reasons, and the rule of a sound state that a state breaks: the definitions stand in specs/.

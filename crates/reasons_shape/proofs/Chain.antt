@@ -10,8 +10,10 @@ use lib.ListN.{length}
 use Rattle.base.specs.Tests.{if_then_else_, firstGiven}
 use Rattle.base.proofs.Cases.{by-option}
 use Rattle.ids.specs.declared.FullNodeId.{FullNodeId}
-use Rattle.reasons.specs.Reasons.{Broken, tooManyNodes, tooManyTrees, tooManyChildren, absentBelow, metTwice, neverMet, wrongLink, graftWithChildren, graftedTwice, rootNotFirst, treeTwice, treeUnrooted, outOfOrder, brokenField, noFocus}
-use Rattle.reasons.specs.Shape.{spot, at, reached, crowded, absence, isMetTwice, unmet, wrongLinkFrom, brokenLinks, graftTwiceFrom, treeTwiceFrom, unrootedFrom, brokenTrees, disorderFrom, brokenShape, brokenState}
+use Rattle.reasons.specs.Reasons.{Broken, tooManyNodes, tooManyTrees, tooManyChildren, absentBelow, metTwice, neverMet, wrongLink, graftWithChildren}
+use Rattle.reasons.specs.Reasons.{graftedTwice, rootNotFirst, treeTwice, treeUnrooted, outOfOrder, brokenField, noFocus}
+use Rattle.reasons.specs.Shape.{spot, at, reached, crowded, absence, isMetTwice, unmet, wrongLinkFrom, brokenLinks, graftTwiceFrom, treeTwiceFrom}
+use Rattle.reasons.specs.Shape.{unrootedFrom, brokenTrees, disorderFrom, brokenShape, brokenState}
 use Rattle.record.specs.Batch.{fieldsOk}
 use Rattle.state.specs.State.{Forest}
 use Rattle.state.specs.Sound.{graftIsBare, rootFirst, focusPresent}

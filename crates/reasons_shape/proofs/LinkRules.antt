@@ -66,7 +66,8 @@ crowded-row s i is = sym (crowded-is s i ∙ rw (← is))
 -- where rule 3 is kept, no node has more than 256 children
 pub few-kept : (s : List ℕ) (k : ℕ) {w : Why} → w ≡ whyBroken k (at tooManyChildren (spotFrom 0 crowded (view s .forest .nodes))) → w .rule ≡ 0 → Few s
 few-kept s k e h i l =
-    ltb-false 256 (shapeIn s i .«child_count») (sym (crowded-is s i) ∙ none-passes s crowded (plain (spotFrom 0 crowded (view s .forest .nodes)) (kept k _ (ap (λ (z : Why). z .rule) (sym e) ∙ h))) i l)
+    ltb-false 256 (shapeIn s i .«child_count»)
+    (sym (crowded-is s i) ∙ none-passes s crowded (plain (spotFrom 0 crowded (view s .forest .nodes)) (kept k _ (ap (λ (z : Why). z .rule) (sym e) ∙ h))) i l)
   where
     plain : (o : Option Spot) → at tooManyChildren o ≡ none → o ≡ none
     plain none q = refl

@@ -4,8 +4,11 @@ use mathlib.Core.Option.{Option, none, some}
 use mathlib.Core.Path.{_≡_, refl, sym, ap, _∙_}
 use Prim.Native.Nat.{ℕ, _<_}
 use native.Mathlib.Omega.{arith}
-use Rattle.reasons.specs.Reasons.{Broken, tooManyNodes, tooManyTrees, tooManyChildren, absentBelow, metTwice, neverMet, wrongLink, graftWithChildren, graftedTwice, rootNotFirst, treeTwice, treeUnrooted, outOfOrder, brokenField, noFocus, Reason, accepted, unsoundState, brokenRecord, noTreeData, notRoot, listedTwice, notGrafted, notExisting, noNumberLeft, namedTwice, graftOverChildren, graftOfRoot, claimedTwice, claimedFromHolder, withoutPlace, childNowhere, focusIntoNothing, rootAbsent, focusAbsent, updatedAndGone, unsoundOutcome, tooMany, sliceTooShort, numberOf}
-use Rattle.reasons.specs.Explain.{firstReason}
+use Rattle.reasons.specs.Reasons.{Broken, tooManyNodes, tooManyTrees, tooManyChildren, absentBelow, metTwice, neverMet, wrongLink, graftWithChildren}
+use Rattle.reasons.specs.Reasons.{graftedTwice, rootNotFirst, treeTwice, treeUnrooted, outOfOrder, brokenField, noFocus, Reason, accepted}
+use Rattle.reasons.specs.Reasons.{unsoundState, brokenRecord, noTreeData, notRoot, listedTwice, notGrafted, notExisting, noNumberLeft, namedTwice}
+use Rattle.reasons.specs.Reasons.{graftOverChildren, graftOfRoot, claimedTwice, claimedFromHolder, withoutPlace, childNowhere, focusIntoNothing}
+use Rattle.reasons.specs.Reasons.{rootAbsent, focusAbsent, updatedAndGone, unsoundOutcome, tooMany, sliceTooShort, numberOf, firstReason}
 use Rattle.reasons.proofs.First.{IfSome}
 use Rattle.reasons_why.specs.declared.Why.{Why}
 use Rattle.reasons_why.specs.Why.{whyBroken, whyOf, whyFor}

@@ -8,8 +8,11 @@ use Rattle.ids.specs.declared.TreeId.{TreeId}
 use Rattle.ids.specs.declared.FullNodeId.{FullNodeId}
 use Rattle.state_focus.specs.declared.FoundNode.{FoundNode}
 use Rattle.state_focus.specs.declared.FoundNode.the-variants as node
-use Rattle.reasons.specs.Reasons.{Dropped, Broken, tooManyNodes, tooManyTrees, tooManyChildren, absentBelow, metTwice, neverMet, wrongLink, graftWithChildren, graftedTwice, rootNotFirst, treeTwice, treeUnrooted, outOfOrder, brokenField, noFocus, Reason, accepted, unsoundState, brokenRecord, noTreeData, notRoot, listedTwice, notGrafted, notExisting, noNumberLeft, namedTwice, graftOverChildren, graftOfRoot, claimedTwice, claimedFromHolder, withoutPlace, childNowhere, focusIntoNothing, rootAbsent, focusAbsent, updatedAndGone, unsoundOutcome, tooMany, sliceTooShort}
-use Rattle.reasons.specs.Outcome.{lastOf}
+use Rattle.reasons.specs.Reasons.{Dropped, Broken, tooManyNodes, tooManyTrees, tooManyChildren, absentBelow, metTwice, neverMet, wrongLink}
+use Rattle.reasons.specs.Reasons.{graftWithChildren, graftedTwice, rootNotFirst, treeTwice, treeUnrooted, outOfOrder, brokenField, noFocus, Reason}
+use Rattle.reasons.specs.Reasons.{accepted, unsoundState, brokenRecord, noTreeData, notRoot, listedTwice, notGrafted, notExisting, noNumberLeft}
+use Rattle.reasons.specs.Reasons.{namedTwice, graftOverChildren, graftOfRoot, claimedTwice, claimedFromHolder, withoutPlace, childNowhere}
+use Rattle.reasons.specs.Reasons.{focusIntoNothing, rootAbsent, focusAbsent, updatedAndGone, unsoundOutcome, tooMany, sliceTooShort, lastOf}
 use Rattle.reasons_why.specs.declared.Why.{Why}
 
 -- ## Fields

@@ -17,12 +17,16 @@ use Rattle.record.specs.ExampleNodes.{T, U, sameFour, dataWith, parent, leaf, l
 use Rattle.state.specs.State.{sameLink, NodeState, idsOf, TreeEntry, Forest, State, find, present, graftAt, linkAt, parentAt, holder, subtreeState, subtreeFrom, subtreeOf}
 use Rattle.state.specs.Down.{metUnder, childrenMet, below, belowId, down, rootOf, wayDown, climb}
 use Rattle.state.specs.Focus.{throughGrafts, effectiveFocus, orActiveDescendant, stateFocus}
-use Rattle.state.specs.Sound.{metOnce, recorded, graftIsBare, soundLinks, graftsDiffer, grafted, allGrafted, rootFirst, oneIdEach, soundTrees, ascending, wayEnds, soundShape, focusPresent, sound}
+use Rattle.state.specs.Sound.{metOnce, recorded, graftIsBare, soundLinks, graftsDiffer, grafted, allGrafted, rootFirst, oneIdEach, soundTrees}
+use Rattle.state.specs.Sound.{ascending, wayEnds, soundShape, focusPresent, sound}
 use Rattle.state.specs.ExampleStates.{id, root, under, tree, noTree, state}
 
 -- `unfolding computed` unfolds every definition
 computed : Unit {0}
-unfolding _&&_ listOf zeroBytes sameTree sameIndex sameNode sameId before rectTest affineTest activeDescendant? graft? fieldsOk sameLink idsOf find present graftAt linkAt parentAt holder subtreeState subtreeFrom subtreeOf metUnder childrenMet below belowId down rootOf wayDown climb throughGrafts effectiveFocus orActiveDescendant stateFocus metOnce recorded graftIsBare soundLinks graftsDiffer grafted allGrafted rootFirst oneIdEach soundTrees ascending wayEnds soundShape focusPresent sound ofBits toBits eq
+unfolding _&&_ listOf zeroBytes sameTree sameIndex sameNode sameId before rectTest affineTest activeDescendant? graft? fieldsOk sameLink idsOf find
+    present graftAt linkAt parentAt holder subtreeState subtreeFrom subtreeOf metUnder childrenMet below belowId down rootOf wayDown climb
+    throughGrafts effectiveFocus orActiveDescendant stateFocus metOnce recorded graftIsBare soundLinks graftsDiffer grafted allGrafted rootFirst
+    oneIdEach soundTrees ascending wayEnds soundShape focusPresent sound ofBits toBits eq
 computed = tt
 
 -- ## Sound states

@@ -17,7 +17,8 @@ use Rattle.record.specs.Batch.{fieldsOk}
 use Rattle.state.specs.State.{NodeState, Subtree, TreeEntry, Forest, present, graftAt, subtreeState, subtreeFrom, subtreeOf}
 use Rattle.state.specs.Down.{rootOf, wayDown}
 use Rattle.state.specs.Focus.{throughGrafts, effectiveFocus}
-use Rattle.state.specs.Sound.{metOnce, recorded, graftIsBare, soundLinks, graftsDiffer, grafted, allGrafted, rootFirst, oneIdEach, soundTrees, ascending, wayEnds, soundShape, focusPresent, sound}
+use Rattle.state.specs.Sound.{metOnce, recorded, graftIsBare, soundLinks, graftsDiffer, grafted, allGrafted, rootFirst, oneIdEach, soundTrees}
+use Rattle.state.specs.Sound.{ascending, wayEnds, soundShape, focusPresent, sound}
 
 -- ## The parts
 

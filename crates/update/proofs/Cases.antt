@@ -19,14 +19,23 @@ use Rattle.state.specs.Sound.{metOnce, recorded, graftIsBare, soundLinks, graft
 use Rattle.update.specs.Words.{listing, known, treeNumber, here, mine, old, listed, turn, naming, named, withTreeData, rootAfter, isRoot, claim, claimer, claimedFrom, letsGo}
 use Rattle.update.specs.Pass.{placedAtTurn, namings, events, fault, pass}
 use Rattle.update.specs.Gone.{goesIf, fares, replaced, fateHere, fateElsewhere, fate, goneWithin, gone}
-use Rattle.update.specs.Outcome.{renewed, write, writeAll, underGraft, written, paneRoot, cutLasts, linkIsCut, linkHere, linkElsewhere, linkAfter, relink, subtreeHere, subtreeElsewhere, entryAfter, entriesAfter, newEntry, outcome}
-use Rattle.update.specs.Reports.{noChanges, added, removed, isUpdated, updated, isRelinked, relinked, changesWith, changesOf, lengthsOf, changeWords, sliceAfter, unlessIn, focusMoved, extraBefore, extraAfter}
+use Rattle.update.specs.Outcome.{renewed, write, writeAll, underGraft, written, paneRoot, cutLasts, linkIsCut, linkHere, linkElsewhere}
+use Rattle.update.specs.Outcome.{linkAfter, relink, subtreeHere, subtreeElsewhere, entryAfter, entriesAfter, newEntry, outcome}
+use Rattle.update.specs.Reports.{noChanges, added, removed, isUpdated, updated, isRelinked, relinked, changesWith, changesOf, lengthsOf}
+use Rattle.update.specs.Reports.{changeWords, sliceAfter, unlessIn, focusMoved, extraBefore, extraAfter}
 use Rattle.update.specs.Numbers.{absent, placeless, nowhere, updatedAndRemoved, rowsBeforePass, rowsAfterPass, batchNumber}
-use Rattle.update.specs.Calls.{Answer, refused, accepted, judged, batchRows, updateNumber, updateBatch, update, seed, withoutTreeData, startNumber, started, startBatch, start, withHostFocus, hostFocus}
+use Rattle.update.specs.Calls.{Answer, refused, accepted, judged, batchRows, updateNumber, updateBatch, update, seed, withoutTreeData}
+use Rattle.update.specs.Calls.{startNumber, started, startBatch, start, withHostFocus, hostFocus}
 use Rattle.update.specs.ExampleCalls.{Case}
-use Rattle.update.specs.Cases.{startAccepted, childTwice, childDropped, focusDropped, childNowhere, nodeAlone, changedThenDropped, droppedThenChanged, graftWithChild, graftMade, paneStarted, paneWithoutTreeData, graftTwice, focusOnEmptyGraft, graftMoved, childOfItself, cases, caseNumbers}
-use Rattle.update.specs.Traps.{newRootUnderOldParent, newRootOfPane, newRootDropped, unchangedThenDropped, droppedThenUnchanged, newRootBelow, newRootNamedThenListed, newRootListedThenNamed, rootsInCircle, childrenSwapped, namedByTwo, paneRootKeepsLink, paneRootMarked, signOfZero, traps}
-use Rattle.update.specs.GraftCases.{graftGoesAndClaimed, graftKeptAndClaimed, rootGraftNeverPlaced, graftWithChildTwice, secondGraftPlacedFirst, rootGraftPlacedFirst, childNowhereAndGraftHeld, graftHeld, graftReleasedByGone, graftLetGo, graftUnchanged, treeLetGo, otherTreeGiven, treeGraftedAgain, treeGivenAgain, nestedTreeMoved, graftCases}
+use Rattle.update.specs.Cases.{startAccepted, childTwice, childDropped, focusDropped, childNowhere, nodeAlone, changedThenDropped}
+use Rattle.update.specs.Cases.{droppedThenChanged, graftWithChild, graftMade, paneStarted, paneWithoutTreeData, graftTwice, focusOnEmptyGraft}
+use Rattle.update.specs.Cases.{graftMoved, childOfItself, cases, caseNumbers}
+use Rattle.update.specs.Traps.{newRootUnderOldParent, newRootOfPane, newRootDropped, unchangedThenDropped, droppedThenUnchanged, newRootBelow}
+use Rattle.update.specs.Traps.{newRootNamedThenListed, newRootListedThenNamed, rootsInCircle, childrenSwapped, namedByTwo, paneRootKeepsLink}
+use Rattle.update.specs.Traps.{paneRootMarked, signOfZero, traps}
+use Rattle.update.specs.GraftCases.{graftGoesAndClaimed, graftKeptAndClaimed, rootGraftNeverPlaced, graftWithChildTwice, secondGraftPlacedFirst}
+use Rattle.update.specs.GraftCases.{rootGraftPlacedFirst, childNowhereAndGraftHeld, graftHeld, graftReleasedByGone, graftLetGo, graftUnchanged}
+use Rattle.update.specs.GraftCases.{treeLetGo, otherTreeGiven, treeGraftedAgain, treeGivenAgain, nestedTreeMoved, graftCases}
 use Rattle.update.specs.FocusCases.{focusMovesOn, activeDescendantIsGraft, hostLeaves, focusCases}
 use Rattle.update.specs.RowCases.{treeWithoutGraft, listedTwice, sliceTooShort, stateUnsound, hostOfUnsound, recordBroken, startBroken, startWithoutTreeData, startOfPane, rowCases}
 
@@ -39,7 +48,18 @@ AllRight (c ∷ cs) = Right c × AllRight cs
 
 -- `unfolding computed` unfolds every definition
 computed : Unit {0}
-unfolding ofBits toBits eq _&&_ first littleEndian le bytesOf allBelow zeros listOf sumOf zeroBytes sameValue sameTree sameIndex sameNode sameId before rectTest affineTest sameRect sameAffine activeDescendant? graft? bounds? transform? fieldsOk sameData listedIds namedIds headerOk childrenBefore labelsBefore recordOk wellFormed batchOf parse recordBytes recordsBytes entryBytes labels headerBytes encode sameLink find present graftAt linkAt parentAt holder subtreeState subtreeFrom subtreeOf metUnder childrenMet below belowId down rootOf wayDown climb throughGrafts effectiveFocus orActiveDescendant stateFocus metOnce recorded graftIsBare soundLinks graftsDiffer grafted allGrafted rootFirst oneIdEach soundTrees ascending wayEnds soundShape focusPresent sound listing known treeNumber here mine old listed turn naming named withTreeData rootAfter isRoot claim claimer claimedFrom letsGo placedAtTurn namings events fault pass goesIf fares replaced fateHere fateElsewhere fate goneWithin gone renewed write writeAll underGraft written paneRoot cutLasts linkIsCut linkHere linkElsewhere linkAfter relink subtreeHere subtreeElsewhere entryAfter entriesAfter newEntry outcome noChanges idsOf added removed isUpdated updated isRelinked relinked changesWith changesOf lengthsOf idWords changeWords sliceAfter unlessIn focusMoved extraBefore extraAfter absent placeless nowhere updatedAndRemoved rowsBeforePass rowsAfterPass batchNumber refused accepted judged batchRows updateNumber updateBatch update blank seed withoutTreeData startNumber started startBatch start withHostFocus hostFocus
+unfolding ofBits toBits eq _&&_ first littleEndian le bytesOf allBelow zeros listOf sumOf zeroBytes sameValue sameTree sameIndex sameNode sameId
+    before rectTest affineTest sameRect sameAffine activeDescendant? graft? bounds? transform? fieldsOk sameData listedIds namedIds headerOk
+    childrenBefore labelsBefore recordOk wellFormed batchOf parse recordBytes recordsBytes entryBytes labels headerBytes encode sameLink find present
+    graftAt linkAt parentAt holder subtreeState subtreeFrom subtreeOf metUnder childrenMet below belowId down rootOf wayDown climb throughGrafts
+    effectiveFocus orActiveDescendant stateFocus metOnce recorded graftIsBare soundLinks graftsDiffer grafted allGrafted rootFirst oneIdEach
+    soundTrees ascending wayEnds soundShape focusPresent sound listing known treeNumber here mine old listed turn naming named withTreeData rootAfter
+    isRoot claim claimer claimedFrom letsGo placedAtTurn namings events fault pass goesIf fares replaced fateHere fateElsewhere fate goneWithin gone
+    renewed write writeAll underGraft written paneRoot cutLasts linkIsCut linkHere linkElsewhere linkAfter relink subtreeHere subtreeElsewhere
+    entryAfter entriesAfter newEntry outcome noChanges idsOf added removed isUpdated updated isRelinked relinked changesWith changesOf lengthsOf
+    idWords changeWords sliceAfter unlessIn focusMoved extraBefore extraAfter absent placeless nowhere updatedAndRemoved rowsBeforePass rowsAfterPass
+    batchNumber refused accepted judged batchRows updateNumber updateBatch update blank seed withoutTreeData startNumber started startBatch start
+    withHostFocus hostFocus
 computed = tt
 
 start-accepted : Right startAccepted
@@ -274,10 +294,24 @@ start-of-pane : Right startOfPane
 unfolding computed startOfPane
 start-of-pane = refl
 
+-- one fact, and the others
+infixr 30 _and_
+_and_ : {A B : Type 0} → A → B → A × B
+x and xs = (x, xs)
+
 -- cases 1 to 14, and more: traps, grafts, the focus, the rows
 pub the-cases : AllRight (cases ++ (traps ++ graftCases ++ focusCases ++ rowCases))
 the-cases =
-    (start-accepted, (child-twice, (child-dropped, (focus-dropped, (child-nowhere, (node-alone, (changed-then-dropped, (dropped-then-changed, (graft-with-child, (graft-made, (pane-started, (pane-without-tree-data, (graft-twice, (focus-on-empty-graft, (graft-moved, (child-of-itself, (new-root-under-old-parent, (new-root-of-pane, (new-root-dropped, (unchanged-then-dropped, (dropped-then-unchanged, (new-root-below, (new-root-named-then-listed, (new-root-listed-then-named, (roots-in-circle, (children-swapped, (named-by-two, (pane-root-keeps-link, (pane-root-marked, (sign-of-zero, (graft-goes-and-claimed, (graft-kept-and-claimed, (root-graft-never-placed, (graft-with-child-twice, (second-graft-placed-first, (root-graft-placed-first, (child-nowhere-and-graft-held, (graft-held, (graft-released-by-gone, (graft-let-go, (graft-unchanged, (tree-let-go, (other-tree-given, (tree-grafted-again, (tree-given-again, (nested-tree-moved, (focus-moves-on, (active-descendant-is-graft, (host-leaves, (tree-without-graft, (listed-twice, (slice-too-short, (state-unsound, (host-of-unsound, (record-broken, (start-broken, (start-without-tree-data, (start-of-pane, tt))))))))))))))))))))))))))))))))))))))))))))))))))))))))))
+    start-accepted and child-twice and child-dropped and focus-dropped and child-nowhere and node-alone and changed-then-dropped
+    and dropped-then-changed and graft-with-child and graft-made and pane-started and pane-without-tree-data and graft-twice and focus-on-empty-graft
+    and graft-moved and child-of-itself and new-root-under-old-parent and new-root-of-pane and new-root-dropped and unchanged-then-dropped
+    and dropped-then-unchanged and new-root-below and new-root-named-then-listed and new-root-listed-then-named and roots-in-circle
+    and children-swapped and named-by-two and pane-root-keeps-link and pane-root-marked and sign-of-zero and graft-goes-and-claimed
+    and graft-kept-and-claimed and root-graft-never-placed and graft-with-child-twice and second-graft-placed-first and root-graft-placed-first
+    and child-nowhere-and-graft-held and graft-held and graft-released-by-gone and graft-let-go and graft-unchanged and tree-let-go
+    and other-tree-given and tree-grafted-again and tree-given-again and nested-tree-moved and focus-moves-on and active-descendant-is-graft
+    and host-leaves and tree-without-graft and listed-twice and slice-too-short and state-unsound and host-of-unsound and record-broken
+    and start-broken and start-without-tree-data and start-of-pane and tt
 
 -- the numbers of cases 1 to 14, as they are said
 says-numbers : (cs : List Case) → AllRight cs → map (λ c. c .got .number) cs ≡ map (λ c. c .says .number) cs
@@ -292,5 +326,6 @@ first-cases [] ds right = tt
 first-cases (c ∷ cs) ds right = (right .0, first-cases cs ds (right .1))
 
 pub case-numbers : caseNumbers ≡ 0 ∷ 9 ∷ 0 ∷ 17 ∷ 14 ∷ 13 ∷ 18 ∷ 19 ∷ 10 ∷ 0 ∷ 0 ∷ 7 ∷ 12 ∷ 15 ∷ 0 ∷ 19 ∷ []
-unfolding computed caseNumbers startAccepted childTwice childDropped focusDropped childNowhere nodeAlone changedThenDropped droppedThenChanged graftWithChild graftMade paneStarted paneWithoutTreeData graftTwice focusOnEmptyGraft graftMoved childOfItself
+unfolding computed caseNumbers startAccepted childTwice childDropped focusDropped childNowhere nodeAlone changedThenDropped droppedThenChanged
+    graftWithChild graftMade paneStarted paneWithoutTreeData graftTwice focusOnEmptyGraft graftMoved childOfItself
 case-numbers = says-numbers cases (first-cases cases (traps ++ graftCases ++ focusCases ++ rowCases) the-cases)

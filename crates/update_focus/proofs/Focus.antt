@@ -12,9 +12,9 @@ use Rattle.base.specs.Tests.{if_then_else_, isNone}
 use Rattle.base.specs.Tables.{row, first}
 use Rattle.ids.specs.Ids.{ROOT}
 use Rattle.ids.specs.declared.TreeId.{TreeId}
-use Rattle.reasons.specs.Reasons.{Reason, accepted, rootAbsent, tooMany}
-use Rattle.reasons.specs.Outcome.{focusWay, lastOf, lastGraft, focusReason}
-use Rattle.reasons.specs.Explain.{reasonIf}
+use Rattle.reasons.specs.Reasons.{Reason, accepted, rootAbsent, tooMany, lastOf}
+use Rattle.reasons_calls.specs.Outcome.{focusWay, lastGraft, focusReason}
+use Rattle.reasons_calls.specs.Explain.{reasonIf}
 use Rattle.reasons_why.specs.declared.Why.{Why}
 use Rattle.reasons_why.specs.Why.{orRoot, why, whyOf, whyFor}
 use Rattle.state.specs.State.{Forest}

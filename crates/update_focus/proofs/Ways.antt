@@ -22,7 +22,8 @@ use Rattle.ids.specs.Ids.{ROOT, idWords}
 use Rattle.ids.specs.declared.TreeId.{TreeId}
 use Rattle.ids.specs.declared.FullNodeId.{FullNodeId}
 use Rattle.record.specs.Batch.{graft?}
-use Rattle.reasons.specs.Outcome.{wayThrough, focusWay, lastOf, lastGraft}
+use Rattle.reasons_calls.specs.Outcome.{wayThrough, focusWay, lastGraft}
+use Rattle.reasons.specs.Reasons.{lastOf}
 use Rattle.reasons_why.specs.Why.{found, firstId, orRoot, wayWords}
 use Rattle.reasons_why.proofs.Found.{found-none, found-some}
 use Rattle.state.specs.State.{Forest, graftAt, subtreeOf}

@@ -2,7 +2,8 @@
 ghost use mathlib.Core.Path.{_≡_};
 ghost use lib.ListN.{length, getD, drop};
 ghost use Rattle.ids.specs.Ids.{idWords};
-ghost use Rattle.reasons.specs.Outcome.{focusWay, lastOf, lastGraft};
+ghost use Rattle.reasons_calls.specs.Outcome.{focusWay, lastGraft};
+ghost use Rattle.reasons.specs.Reasons.{lastOf};
 ghost use Rattle.reasons_why.specs.Why.{found, firstId, orRoot};
 ghost use Rattle.update_focus.specs.Ways.{graftOf, focusOf, wayAfter};
 ghost use Rattle.state.specs.State.{graftAt};

@@ -27,17 +27,17 @@ use Rattle.update.specs.Reports.{changesOf, changeWords}
 use Rattle.update.specs.Outcome.{outcome}
 use Rattle.calls.specs.Rows.{laterRows}
 use lib.Dec.{ltb}
-use Rattle.reasons.specs.Reasons.{Reason, numberOf, graftOverChildren, graftOfRoot, unsoundState, noTreeData, notRoot, notGrafted, notExisting, noNumberLeft, sliceTooShort}
+use Rattle.reasons.specs.Reasons.{Reason, numberOf, graftOverChildren, graftOfRoot, unsoundState, noTreeData, notRoot, notGrafted, notExisting, noNumberLeft, sliceTooShort, firstReason}
 use Rattle.reasons.specs.Shape.{brokenState}
-use Rattle.reasons.specs.Pass.{repeatedAfter, claimerAmong, secondClaim, placing, passReason, passFault, placelessFrom, nowhereFault}
+use Rattle.reasons_calls.specs.Pass.{repeatedAfter, claimerAmong, secondClaim, placing, passReason, passFault, placelessFrom, nowhereFault}
 use Rattle.reasons.proofs.First.{says-else, says-or, says-each}
 use Rattle.record.specs.Batch.{graft?, Listed}
 use Rattle.ids.specs.declared.NodeId.{NodeId}
 use Rattle.ids.specs.Ids.{sameNode}
 use Rattle.update.specs.Words.{here, claim}
 use Rattle.update.specs.Pass.{Event, names, places, events}
-use Rattle.reasons.specs.Explain.{firstReason, reasonsBeforePass, reasonsAfterPass, batchReason, sliceReason, orAccepted, whyUpdate, whyStart}
-use Rattle.reasons.proofs.Numbers.{Tells, told-none, told-row, told-if, before-told, later-told, repeated-some, repeated-number, record-number, record-some, pass-tells, placeless-number, nowhere-number}
+use Rattle.reasons_calls.specs.Explain.{reasonsBeforePass, reasonsAfterPass, batchReason, sliceReason, orAccepted, whyUpdate, whyStart}
+use Rattle.reasons_calls.proofs.Numbers.{Tells, told-none, told-row, told-if, before-told, later-told, repeated-some, repeated-number, record-number, record-some, pass-tells, placeless-number, nowhere-number}
 use Rattle.reasons_why.specs.declared.Why.{Why}
 use Rattle.reasons_why.specs.Why.{whyOf, whyFor, wayOf, wayWords}
 use Rattle.reasons_why.proofs.Numbers.{Proper, proper, why-none}

@@ -6,10 +6,10 @@ use mathlib.Core.Path.{_≡_, refl, sym, ap, _∙_}
 use Prim.Native.Nat.{ℕ}
 use native.Mathlib.Omega.{arith}
 use Rattle.ids.specs.Ids.{idWords}
-use Rattle.reasons.specs.Reasons.{Reason, accepted, unsoundState, brokenRecord, noTreeData, notRoot, listedTwice, notGrafted, notExisting, noNumberLeft, namedTwice, graftOverChildren, graftOfRoot, claimedTwice, claimedFromHolder, withoutPlace, childNowhere, focusIntoNothing, rootAbsent, focusAbsent, updatedAndGone, unsoundOutcome, tooMany, sliceTooShort, numberOf}
-use Rattle.reasons.specs.Explain.{reasonIf, firstReason, orAccepted}
+use Rattle.reasons.specs.Reasons.{Reason, accepted, unsoundState, brokenRecord, noTreeData, notRoot, listedTwice, notGrafted, notExisting, noNumberLeft, namedTwice, graftOverChildren, graftOfRoot, claimedTwice, claimedFromHolder, withoutPlace, childNowhere, focusIntoNothing, rootAbsent, focusAbsent, updatedAndGone, unsoundOutcome, tooMany, sliceTooShort, numberOf, firstReason}
+use Rattle.reasons_calls.specs.Explain.{reasonIf, orAccepted}
 use Rattle.reasons.proofs.First.{IfSome}
-use Rattle.reasons.proofs.Numbers.{Tells}
+use Rattle.reasons_calls.proofs.Numbers.{Tells}
 use Rattle.reasons_why.specs.declared.Why.{Why}
 use Rattle.reasons_why.specs.Why.{whyOf, whyFor, wayOf, wayWords}
 use Rattle.reasons_why.proofs.Numbers.{why-number, Proper, why-none}

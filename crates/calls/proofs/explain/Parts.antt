@@ -29,11 +29,11 @@ use Rattle.update.specs.Numbers.{absent}
 use Rattle.state_array.specs.Layout.{blankWords}
 use Rattle.replies.specs.Replies.{plainId}
 use Rattle.replies.specs.declared.OptionalId.{OptionalId}
-use Rattle.reasons.specs.Reasons.{Reason, numberOf, unsoundOutcome, noTreeData, notRoot, tooMany}
+use Rattle.reasons.specs.Reasons.{Reason, numberOf, unsoundOutcome, noTreeData, notRoot, tooMany, firstReason}
 use Rattle.reasons.specs.Shape.{brokenState, brokenShape}
-use Rattle.reasons.specs.Outcome.{focusWay, focusReason, clashReason, removedReason, outcomeReason}
-use Rattle.reasons.specs.Pass.{repeatedAfter}
-use Rattle.reasons.specs.Explain.{reasonIf, firstReason, reasonsBeforePass}
+use Rattle.reasons_calls.specs.Outcome.{focusWay, focusReason, clashReason, removedReason, outcomeReason}
+use Rattle.reasons_calls.specs.Pass.{repeatedAfter}
+use Rattle.reasons_calls.specs.Explain.{reasonIf, reasonsBeforePass}
 use Rattle.calls.specs.WhyRows.{AgainIs}
 use Rattle.reasons_why.specs.declared.Why.{Why}
 use Rattle.reasons_why.specs.Why.{ofTree, whyBroken, whyOf, whyFor, wayOf, wayWords}
@@ -41,7 +41,7 @@ use Rattle.calls.specs.declared.explain.Explanation.{Explanation}
 use Rattle.calls.specs.Explained.{plainWhy, Explained, ExplainedStart, Explains, ExplainsFor, noWay, wayFor, offenceWhy, recordReason, firstReasons, startReasons, lastReasons}
 use Rattle.calls.proofs.explain.Explained.{Wayless, wayless-of, wayless-if, alone, explains-plain, explains-found, explains-passed, explains-alone}
 use Rattle.calls.proofs.explain.Calls.{none-way}
-use Rattle.reasons.proofs.Numbers.{clash-number, removed-number}
+use Rattle.reasons_calls.proofs.Numbers.{clash-number, removed-number}
 use Rattle.reasons_why.proofs.Numbers.{Proper, proper}
 use Rattle.update.specs.Words.{treeNumber}
 

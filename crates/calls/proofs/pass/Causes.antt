@@ -20,9 +20,9 @@ use Rattle.update.specs.Words.{here}
 use Rattle.update.specs.Pass.{pass, events}
 use Rattle.update.specs.Numbers.{placeless, nowhere}
 use Rattle.reasons.specs.Reasons.{Reason, withoutPlace, childNowhere, numberOf}
-use Rattle.reasons.specs.Pass.{passFault, placelessFrom, nowhereUnder, nowhereFault}
-use Rattle.reasons.specs.Explain.{orAccepted}
-use Rattle.reasons.proofs.Numbers.{told-none, told-row, told-found, tells-number, pass-tells, placeless-some, placeless-number, nowhere-some, nowhere-number}
+use Rattle.reasons_calls.specs.Pass.{passFault, placelessFrom, nowhereUnder, nowhereFault}
+use Rattle.reasons_calls.specs.Explain.{orAccepted}
+use Rattle.reasons_calls.proofs.Numbers.{told-none, told-row, told-found, tells-number, pass-tells, placeless-some, placeless-number, nowhere-some, nowhere-number}
 use Rattle.calls.proofs.notes.Positions.{first-cong, first-given-at}
 use Rattle.calls.specs.declared.pass.Cause.{Cause}
 use Rattle.calls.specs.declared.pass.Cause.the-variants.{Nothing, NamedTwice, GraftOverChildren, GraftOfRoot, ClaimedTwice, WithoutPlace, ChildNowhere}

@@ -27,9 +27,9 @@ use Rattle.state.specs.State.{Forest, graftAt}
 use Rattle.update.specs.Words.{here, claim}
 use Rattle.update.specs.Pass.{places}
 use Rattle.reasons.specs.Reasons.{Reason}
-use Rattle.reasons.specs.Pass as reasons
-use Rattle.reasons.specs.Pass.{claimerAmong}
-use Rattle.reasons.proofs.Steps.{crowded, claimer-last, claimer-before, places-stops, places-goes, placing-crowded, placing-claimless, placing-root, placing-claimed, placing-claim}
+use Rattle.reasons_calls.specs.Pass as reasons
+use Rattle.reasons_calls.specs.Pass.{claimerAmong}
+use Rattle.reasons_calls.proofs.Steps.{crowded, claimer-last, claimer-before, places-stops, places-goes, placing-crowded, placing-claimless, placing-root, placing-claimed, placing-claim}
 use Rattle.calls.specs.Layout.{CLAIMS}
 use Rattle.calls.specs.declared.notes.Scope.{Scope}
 use Rattle.calls.specs.Setting.{asked, forest}

@@ -11,7 +11,7 @@ use Rattle.ids.specs.declared.TreeId.{TreeId}
 use Rattle.record.specs.Batch.{Batch, namedIds, NodeData, Listed}
 use Rattle.state.specs.State.{Forest}
 use Rattle.update.specs.Pass.{Event, names, places, placedAtTurn, namings, events}
-use Rattle.reasons.specs.Pass.{claimerAmong, passReason, passFault}
+use Rattle.reasons_calls.specs.Pass.{claimerAmong, passReason, passFault}
 use Rattle.calls.specs.declared.notes.Scope.{Scope}
 use Rattle.calls.specs.Setting.{asked, forest}
 use Rattle.calls.specs.Says.{Told, READ}

@@ -20,8 +20,8 @@ use Rattle.state.specs.State.{Forest}
 use Rattle.state_array.specs.View.{slotsOf}
 use Rattle.update.specs.Words.{listing, here, turn}
 use Rattle.update.specs.Pass.{Event, places, placedAtTurn}
-use Rattle.reasons.specs.Pass.{passReason}
-use Rattle.reasons.proofs.Steps.{names-twice, names-once}
+use Rattle.reasons_calls.specs.Pass.{passReason}
+use Rattle.reasons_calls.proofs.Steps.{names-twice, names-once}
 use Rattle.calls.specs.Layout.{NAMED, ENDS, NAMED-SLOTS, NAMINGS}
 use Rattle.calls.specs.declared.notes.Scope.{Scope}
 use Rattle.calls.specs.Setting.{asked, forest}

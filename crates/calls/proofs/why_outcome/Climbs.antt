@@ -15,7 +15,7 @@ use Rattle.ids.specs.Ids.{ROOT}
 use Rattle.ids.specs.declared.FullNodeId.{FullNodeId}
 use Rattle.record.specs.Batch.{Batch}
 use Rattle.reasons.specs.Reasons.{Dropped, accepted, updatedAndGone}
-use Rattle.reasons.specs.Outcome.{dropper, droppedWithin, removedReason}
+use Rattle.reasons_calls.specs.Outcome.{dropper, droppedWithin, removedReason}
 use Rattle.reasons_why.specs.declared.Why.{Why}
 use Rattle.reasons_why.specs.Why.{found, droppedNode, droppedBy, whyOf, whyFor}
 use Rattle.record_reader.specs.Reader.{noListed, listedAt}

@@ -21,7 +21,7 @@ use Rattle.record.specs.Batch.{NodeData, graft?, Batch, listedIds}
 use Rattle.record.proofs.Batch.{listed-length}
 use Rattle.reasons.specs.Reasons.{accepted, claimedFromHolder}
 use Rattle.reasons.specs.Shape.{graftTwiceFrom}
-use Rattle.reasons.specs.Outcome.{claims, clashReason}
+use Rattle.reasons_calls.specs.Outcome.{claims, clashReason}
 use Rattle.reasons_why.specs.declared.Why.{Why}
 use Rattle.reasons_why.specs.Why.{found, whyOf, whyFor}
 use Rattle.reasons_why.proofs.Found.{found-none, found-some}

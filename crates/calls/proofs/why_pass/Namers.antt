@@ -22,7 +22,7 @@ use Rattle.record.specs.Batch.{Listed, Batch, namedIds}
 use Rattle.record_reader.specs.Reader.{noListed, listedAt}
 use Rattle.state.specs.State.{Forest}
 use Rattle.update.specs.Words.{here}
-use Rattle.reasons.specs.Pass.{namersAmong, namersOf}
+use Rattle.reasons_calls.specs.Pass.{namersAmong, namersOf}
 use Rattle.reasons_why.specs.Why.{firstId, secondId}
 use Rattle.calls.proofs.notes.Positions.{first-given-at}
 use Rattle.calls.specs.Causes.{Entry, entries, noEntry}

@@ -26,7 +26,7 @@ use Rattle.calls.specs.Parts.{ListedAgain}
 use Rattle.calls.specs.declared.rows.Again.{Again}
 use Rattle.calls.proofs.rows.Clashes.{listedId, listed-ids}
 use Rattle.reasons.specs.Reasons.{Reason, accepted, listedTwice}
-use Rattle.reasons.specs.Pass.{repeatedAfter}
+use Rattle.reasons_calls.specs.Pass.{repeatedAfter}
 use Rattle.reasons_why.specs.declared.Why.{Why}
 use Rattle.reasons_why.specs.Why.{why, whyOf, whyFor}
 use Rattle.ids.specs.declared.TreeIndex.{TreeIndex}

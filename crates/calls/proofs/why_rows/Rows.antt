@@ -17,10 +17,10 @@ use Rattle.calls.specs.Says.{REPORTED}
 use Rattle.calls.specs.Slice.{ListsWritten, changesNoted}
 use Rattle.calls.proofs.reports.Picked.{lists-noted}
 use Rattle.calls.specs.declared.reports.Lists.{Lists}
-use Rattle.reasons.specs.Reasons.{Reason, accepted, notGrafted, notExisting, noNumberLeft}
-use Rattle.reasons.specs.Pass.{repeatedAfter}
-use Rattle.reasons.specs.Explain.{firstReason, reasonIf, reasonsBeforePass, sliceReason}
-use Rattle.reasons.proofs.Numbers.{repeated-number}
+use Rattle.reasons.specs.Reasons.{Reason, accepted, notGrafted, notExisting, noNumberLeft, firstReason}
+use Rattle.reasons_calls.specs.Pass.{repeatedAfter}
+use Rattle.reasons_calls.specs.Explain.{reasonIf, reasonsBeforePass, sliceReason}
+use Rattle.reasons_calls.proofs.Numbers.{repeated-number}
 use Rattle.reasons_why.proofs.Numbers.{proper, first-found, first-passed}
 use Rattle.calls.specs.Parts.{ungrafted, missing, full}
 use Rattle.record.specs.Parse.{batchOf}

@@ -2,7 +2,7 @@
 ghost use mathlib.Core.Path.{_≡_};
 ghost use Prim.Native.Nat.{_<_, _+_};
 ghost use lib.ListN.{drop};
-ghost use Rattle.reasons.specs.Outcome.{claims};
+ghost use Rattle.reasons_calls.specs.Outcome.{claims};
 ghost use Rattle.reasons.specs.Shape.{graftTwiceFrom};
 ghost use Rattle.reasons_why.specs.Why.{found};
 ghost use Rattle.calls.specs.Regrafts.{regraftOf, regrafter};

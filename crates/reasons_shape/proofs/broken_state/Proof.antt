@@ -7,7 +7,8 @@ use Rattle.reasons_shape.proofs.broken_state.Tie as tie
 returns-5 : tie.Need-returns-5
 returns-5 c =
     state-in-order _ _
-    (rule-next _ _ _ (c .before .before .before .before .before .before .before .before .before .before .before .before .node-count .ensures) (c .before .before .before .before .before .before .before .before .before .before .if1 .left)
+    (rule-next _ _ _ (c .before .before .before .before .before .before .before .before .before .before .before .before .node-count .ensures)
+    (c .before .before .before .before .before .before .before .before .before .before .if1 .left)
     (rule-next _ _ _ (c .before .before .before .before .before .before .before .before .before .tree-count .ensures) (c .before .before .before .before .before .before .before .if2 .left)
     (rule-next _ _ _ (c .before .before .before .before .before .before .shape .ensures) (c .before .before .before .before .if3 .left)
     (rule-next _ _ _ (c .before .before .before .fields .ensures) (c .before .if4 .left) (rule-last _ _ (c .focus .ensures))))))

@@ -136,7 +136,13 @@ module _ {s : List ℕ} {x : FullNodeId} {n i : ℕ} {r : Links} (g : Meeting s 
         let out : has sameId (reachedIn s) (idIn s i) ≡ false = sym (marked .says i (omega arith)) ∙ ap not (eq-eqb _ 0 e) in
         record {
           within = omega arith;
-          told = rw (list-of-more i (nodeIn s), links-more (view s .forest) (reachedIn s) x (listOf i (nodeIn s)) (nodeIn s i), out, append-nil (linksFrom (view s .forest) (reachedIn s) x (listOf i (nodeIn s)))) (g .told);
+          told =
+              rw (
+                list-of-more i (nodeIn s),
+                links-more (view s .forest) (reachedIn s) x (listOf i (nodeIn s)) (nodeIn s i),
+                out,
+                append-nil (linksFrom (view s .forest) (reachedIn s) x (listOf i (nodeIn s))),
+              ) (g .told);
         }
 
     -- one that is

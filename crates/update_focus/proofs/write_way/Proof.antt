@@ -4,7 +4,7 @@ use lib.ListN.{getD}
 use native.Mathlib.Omega.{arith}
 use Rattle.base.proofs.Loops.{Filling, filling-begins}
 use Rattle.ids.specs.Ids.{idWords}
-use Rattle.reasons.specs.Outcome.{focusWay}
+use Rattle.reasons_calls.specs.Outcome.{focusWay}
 use Rattle.state_array.specs.View.{view}
 use borrow.Author.Needs.{needs}
 use Rattle.update_focus.proofs.Ways.{words-go, words-are}

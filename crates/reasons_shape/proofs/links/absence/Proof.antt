@@ -7,7 +7,8 @@ use Rattle.reasons_shape.proofs.links.absence.Tie as tie
 
 returns-3 : tie.Need-returns-3
 returns-3 c =
-    absence-below _ (c .before .before .before .before .before .before .before .before .least-absent .ensures) (c .before .before .before .before .before .before .least .given .1) (c .before .before .before .slots .ensures) (c .before .before .before .before .first-above .ensures) (omega arith)
+    absence-below _ (c .before .before .before .before .before .before .before .before .least-absent .ensures)
+    (c .before .before .before .before .before .before .least .given .1) (c .before .before .before .slots .ensures) (c .before .before .before .before .first-above .ensures) (omega arith)
     (c .before .id-found .ensures) (c .of-node .ensures)
 
 pub absence-spec : {M : Type 1} → statement M

@@ -7,7 +7,8 @@ use Rattle.reasons_shape.proofs.links.broken_ways.Tie as tie
 returns-4 : tie.Need-returns-4
 returns-4 c =
     ways-in-order _ _
-    (rule-next _ _ _ (c .before .before .before .before .before .before .before .before .before .before .before .met-twice .ensures) (c .before .before .before .before .before .before .before .before .before .if1 .left)
+    (rule-next _ _ _ (c .before .before .before .before .before .before .before .before .before .before .before .met-twice .ensures)
+    (c .before .before .before .before .before .before .before .before .before .if1 .left)
     (rule-next _ _ _ (c .before .before .before .before .before .before .before .never-met .ensures) (c .before .before .before .before .before .if2 .left)
     (rule-next _ _ _ (c .before .before .before .wrong-link .ensures) (c .before .if3 .left) (rule-last _ _ (c .burdened .ensures)))))
 

@@ -13,8 +13,12 @@ abbrev μ-loop : tie.MeasureT-loop
 
 returns : tie.Need-returns Inv-loop μ-loop
 returns c =
-    agreeing-fails (c .before .before .before .before .before .before .before .before .before .before .before .loop .inv) (c .before .before .before .before .before .before .before .before .before .before .before .before .slots .ensures) (c .before .before .before .before .before .before .before .before .before .before .loop-test .taken) (c .before .before .before .before .before .before .before .before .before .link-at .ensures) (c .before .before .before .before .before .before .before .before .id-at .ensures)
-    (c .before .before .before .before .before .before .before .met-links .ensures) (c .before .before .before .before .before .same-link .ensures) (c .before .before .before .before .if1 .taken) (c .before .before .before .id-found .ensures) (c .before .before .parent-of .ensures)
+    agreeing-fails (c .before .before .before .before .before .before .before .before .before .before .before .loop .inv)
+    (c .before .before .before .before .before .before .before .before .before .before .before .before .slots .ensures)
+    (c .before .before .before .before .before .before .before .before .before .before .loop-test .taken)
+    (c .before .before .before .before .before .before .before .before .before .link-at .ensures) (c .before .before .before .before .before .before .before .before .id-at .ensures)
+    (c .before .before .before .before .before .before .before .met-links .ensures) (c .before .before .before .before .before .same-link .ensures)
+    (c .before .before .before .before .if1 .taken) (c .before .before .before .id-found .ensures) (c .before .before .parent-of .ensures)
     (c .before .parent-of2 .ensures) (c .of-node .ensures)
 
 pub wrong-link-spec : {M : Type 1} → statement M

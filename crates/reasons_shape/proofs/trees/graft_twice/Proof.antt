@@ -14,7 +14,10 @@ abbrev μ-loop : tie.MeasureT-loop
 
 returns : tie.Need-returns Inv-loop μ-loop
 returns c =
-    regrafting-fails (c .before .before .before .before .before .before .before .before .before .before .loop .inv) (c .before .before .before .before .before .before .before .before .before .before .before .slots .ensures) (c .before .before .before .before .before .before .before .before .before .loop-test .taken) (c .before .before .before .before .before .before .before .before .shape-at .ensures) (c .before .before .before .before .before .before .before .is-graft .ensures)
+    regrafting-fails (c .before .before .before .before .before .before .before .before .before .before .loop .inv)
+    (c .before .before .before .before .before .before .before .before .before .before .before .slots .ensures)
+    (c .before .before .before .before .before .before .before .before .before .loop-test .taken)
+    (c .before .before .before .before .before .before .before .before .shape-at .ensures) (c .before .before .before .before .before .before .before .is-graft .ensures)
     (c .before .before .before .before .before .before .if1 .left) _ (c .before .before .before .before .later-graft .ensures) (c .before .before .other .given .1) (c .id-found .ensures) refl refl
 
 pub graft-twice-spec : {M : Type 1} → statement M

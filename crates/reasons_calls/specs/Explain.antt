@@ -5,7 +5,7 @@ use mathlib.Core.Option.{Option, none, some}
 use Prim.Native.Nat.{ℕ}
 use lib.Dec.{ltb, leb}
 use lib.ListN.{length}
-use Rattle.base.specs.Tests.{_&&_, if_then_else_, isNone, firstGiven}
+use Rattle.base.specs.Tests.{_&&_, if_then_else_, isNone}
 use Rattle.ids.specs.Ids.{ROOT, sameTree}
 use Rattle.record.specs.Batch.{Batch, listedIds}
 use Rattle.record.specs.Parse.{parse}
@@ -15,19 +15,16 @@ use Rattle.update.specs.Words.{known, withTreeData}
 use Rattle.update.specs.Outcome.{outcome}
 use Rattle.update.specs.Reports.{changesOf, changeWords}
 use Rattle.update.specs.Calls.{seed, withoutTreeData}
-use Rattle.reasons.specs.Reasons.{Reason, accepted, unsoundState, brokenRecord, noTreeData, notRoot, notGrafted, notExisting, noNumberLeft, tooMany, sliceTooShort}
+use Rattle.reasons.specs.Reasons.{Reason, firstReason, accepted, unsoundState, brokenRecord, noTreeData, notRoot, notGrafted, notExisting}
+use Rattle.reasons.specs.Reasons.{noNumberLeft, tooMany, sliceTooShort}
 use Rattle.record_rules.specs.Rules.{recordFault}
 use Rattle.reasons.specs.Shape.{brokenState}
-use Rattle.reasons.specs.Pass.{repeatedAfter, passFault, placelessFrom, nowhereFault}
-use Rattle.reasons.specs.Outcome.{clashReason, focusReason, removedReason, outcomeReason}
+use Rattle.reasons_calls.specs.Pass.{repeatedAfter, passFault, placelessFrom, nowhereFault}
+use Rattle.reasons_calls.specs.Outcome.{clashReason, focusReason, removedReason, outcomeReason}
 
 -- a reason where a test holds
 abbrev pub reasonIf : Bool → Reason → Option Reason
 reasonIf test r = if test then some r else none
-
--- the first reason of some
-abbrev pub firstReason : List (Option Reason) → Option Reason
-firstReason = firstGiven (λ o. o)
 
 -- 5 to 8 of a batch
 unfoldable pub reasonsBeforePass : Forest → Batch → List (Option Reason)

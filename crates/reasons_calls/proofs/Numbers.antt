@@ -19,7 +19,7 @@ use Rattle.ids.specs.declared.NodeId.{NodeId}
 use Rattle.record.specs.Batch.{graft?, Listed, Batch, listedIds, namedIds}
 use Rattle.record.specs.Parse.{parse}
 use Rattle.record.proofs.Parse.{parses}
-use Rattle.state.specs.State.{NodeState, Forest, State, blank, holder}
+use Rattle.state.specs.State.{Forest, State, blank}
 use Rattle.state.specs.Down.{rootOf}
 use Rattle.state.specs.Focus.{effectiveFocus}
 use Rattle.state.specs.Sound.{graftsDiffer, soundShape, sound}
@@ -28,15 +28,18 @@ use Rattle.update.specs.Pass.{Event, names, places, events, fault, pass}
 use Rattle.update.specs.Numbers.{absent, placeless, nowhere, updatedAndRemoved, rowsBeforePass, rowsAfterPass, batchNumber}
 use Rattle.update.specs.Outcome.{outcome}
 use Rattle.update.specs.Reports.{changesOf, changeWords}
-use Rattle.update.specs.Calls.{Answer, refused, accepted, judged, batchRows, updateNumber, updateBatch, update, seed, withoutTreeData, startNumber, started, startBatch, start}
+use Rattle.update.specs.Calls.{Answer, refused, accepted, judged, batchRows, updateNumber, updateBatch, update, seed, withoutTreeData, startNumber}
+use Rattle.update.specs.Calls.{started, startBatch, start}
 use Rattle.record_rules.specs.Rules.{Offence, recordFault}
 use Rattle.record_rules.proofs.Rules.{fault-none}
-use Rattle.reasons.specs.Reasons.{Reason, numberOf, brokenRecord, noTreeData, notRoot, notGrafted, notExisting, noNumberLeft, childNowhere, tooMany, unsoundState, sliceTooShort}
+use Rattle.reasons.specs.Reasons.{Reason, numberOf, brokenRecord, noTreeData, notRoot, notGrafted, notExisting, noNumberLeft, childNowhere, tooMany}
+use Rattle.reasons.specs.Reasons.{unsoundState, sliceTooShort, firstReason}
 use Rattle.reasons.specs.Shape.{graftTwiceFrom, brokenState}
-use Rattle.reasons.specs.Pass.{repeatedAfter, claimerAmong, secondClaim, placing, passReason, passFault, placelessFrom, nowhereUnder, nowhereFault}
-use Rattle.reasons.specs.Outcome.{focusReason, removedReason, claims, clashReason, outcomeReason}
-use Rattle.reasons.specs.Explain.{reasonIf, firstReason, reasonsBeforePass, reasonsAfterPass, batchReason, sliceReason, orAccepted, whyUpdate, whyStart}
+use Rattle.reasons_calls.specs.Pass.{repeatedAfter, claimerAmong, secondClaim, placing, passReason, passFault, placelessFrom, nowhereUnder, nowhereFault}
+use Rattle.reasons_calls.specs.Outcome.{focusReason, removedReason, claims, clashReason, outcomeReason}
+use Rattle.reasons_calls.specs.Explain.{reasonIf, reasonsBeforePass, reasonsAfterPass, batchReason, sliceReason, orAccepted, whyUpdate, whyStart}
 use Rattle.reasons.proofs.First.{IfSome, says-if, says-else, says-first}
+use Rattle.reasons.proofs.Grafts.{has-tree, grafts-some}
 
 -- ## A reason where a row holds
 
@@ -74,12 +77,6 @@ told-found (some r) n {rs} e rest = record { tells = rw (found-counts n rs (λ z
 
 -- ## Where a reason is there
 
--- t is among the trees that some give where one of them gives it
-has-tree : {A : Type 0} (f : A → Option TreeId) (xs : List A) (t : TreeId) → any (λ x. sameOption sameTree (f x) (some t)) xs ≡ has sameTree (given f xs) t
-has-tree f [] t = refl
-has-tree f (x ∷ xs) t =
-    by-option (f x) (λ q. rw (q, given) (has-tree f xs t)) (λ u q. rw (q, given, same-tree-sym u t, has-tree f xs t))
-
 -- none of xs is among some and x, where none is among these and x is not among xs
 apart : (earlier xs : List NodeId) (x : NodeId)
     → all (λ y. not (has sameNode (earlier ++ x ∷ []) y)) xs ≡ (all (λ y. not (has sameNode earlier y)) xs && not (has sameNode xs x))
@@ -87,7 +84,8 @@ unfolding _&&_
 apart earlier [] x = refl
 apart earlier (y ∷ ys) x =
     rw (any-append (sameNode y) earlier (x ∷ []), apart earlier ys x, same-node-sym y x)
-    (by-test (has sameNode earlier y) (λ e. rw e) (λ e. by-test (sameNode x y) (λ f. rw (e, f) (sym (and-false (all (λ y. not (has sameNode earlier y)) ys)))) (λ f. rw (e, f))))
+    (by-test (has sameNode earlier y) (λ e. rw e)
+    (λ e. by-test (sameNode x y) (λ f. rw (e, f) (sym (and-false (all (λ y. not (has sameNode earlier y)) ys)))) (λ f. rw (e, f))))
 
 module _ (s : Forest) (b : Batch) where
   -- row 5
@@ -102,7 +100,9 @@ module _ (s : Forest) (b : Batch) where
 
   pub repeated-some : isSome (repeatedAfter s b [] (listedIds (b .nodes))) ≡ not (distinct sameNode (listedIds (b .nodes)))
   unfolding _&&_
-  repeated-some = sym (not-not (isSome (repeatedAfter s b [] (listedIds (b .nodes))))) ∙ ap not (repeated [] (listedIds (b .nodes)) ∙ all-true (listedIds (b .nodes)) (distinct sameNode (listedIds (b .nodes))))
+  repeated-some =
+      sym (not-not (isSome (repeatedAfter s b [] (listedIds (b .nodes)))))
+      ∙ ap not (repeated [] (listedIds (b .nodes)) ∙ all-true (listedIds (b .nodes)) (distinct sameNode (listedIds (b .nodes))))
     where
       all-true : (xs : List NodeId) (c : Bool) → (all (λ x. not (has sameNode [] x)) xs && c) ≡ c
       all-true [] c = refl
@@ -138,7 +138,8 @@ module _ (s : Forest) (b : Batch) where
   given-more l placed = by-option (claim s b l) (λ q. rw (q, given)) (λ t q. rw (q, given))
 
   -- rows 9 to 12
-  pub pass-tells : (seen : List NodeId) (placed : List Listed) (es : List Event) → Tells (passReason s b seen placed es) (fault s b seen (given (claim s b) placed) es)
+  pub pass-tells : (seen : List NodeId) (placed : List Listed) (es : List Event)
+      → Tells (passReason s b seen placed es) (fault s b seen (given (claim s b) placed) es)
   unfolding passReason fault first numberOf
   pass-tells seen placed [] = refl
   pass-tells seen placed (names c ∷ es) =
@@ -166,20 +167,6 @@ module _ (s : Forest) (b : Batch) where
       let under = first-given-some (nowhere s b) (λ c. childNowhere (here s b (l .id)) (here s b c)) (l .body .children) in
       rw (any-append (nowhere s b) (l .body .children) (namedIds ls), ← under, ← nowhere-some ls)
       (by-option (nowhereUnder s b l) (λ q. rw (q, firstGiven)) (λ r q. rw (q, firstGiven)))
-
--- row 12's second part
-holder-some : (ns : List NodeState) (t : TreeId) → isSome (holder ns t) ≡ has sameTree (given (λ n. graft? (n .body)) ns) t
-unfolding holder
-holder-some ns t = first-given-some (λ n. sameOption sameTree (graft? (n .body)) (some t)) (λ n. n .id) ns ∙ has-tree (λ n. graft? (n .body)) ns t
-
-pub grafts-some : (k : ℕ) (ns : List NodeState) → isSome (graftTwiceFrom k ns) ≡ not (graftsDiffer ns)
-unfolding graftTwiceFrom graftsDiffer _&&_
-grafts-some k [] = refl
-grafts-some k (n ∷ ns) =
-    let rest = grafts-some (suc k) ns in
-    by-option (graft? (n .body)) (λ q. rw (q, graftTwiceFrom, given) rest)
-    (λ t q. let some? = holder-some ns t in
-    by-option (holder ns t) (λ h. rw (q, graftTwiceFrom, given, h) (rw (← some?, h) rest)) (λ y h. rw (q, graftTwiceFrom, given, h) (rw (← some?, h))))
 
 -- ## Its number
 
@@ -291,7 +278,8 @@ fault-parse bytes small = sym (not-not (isSome (recordFault bytes))) ∙ ap not 
 pub record-told : (bytes : List ℕ) → ((i : ℕ) → getD bytes i 0 < 256) → (parsed : Option Batch) → parse bytes ≡ parsed
     → {os : List (Option Reason)} {rs : List Row} → Told os rs → Told (recordReason (recordFault bytes) ∷ os) (row 2 (isNone parsed) ∷ rs)
 record-told bytes small parsed e rest =
-    told-row (recordReason (recordFault bytes)) 2 (omega arith) (record-some (recordFault bytes) ∙ fault-parse bytes small ∙ ap isNone e) (record-number (recordFault bytes)) rest
+    told-row (recordReason (recordFault bytes)) 2 (omega arith) (record-some (recordFault bytes) ∙ fault-parse bytes small ∙ ap isNone e)
+    (record-number (recordFault bytes)) rest
 
 -- the number of a reason that tells one
 pub tells-number : (o : Option Reason) (n : ℕ) → Tells o n → numberOf (orAccepted o) ≡ n
@@ -339,7 +327,11 @@ abbrev reasonsOfStart : Option Batch → List (Option Reason)
 reasonsOfStart parsed =
     elim parsed [
       | none ↦ []
-      | some b ↦ reasonIf (isNone (b .root)) noTreeData ∷ reasonIf (not (sameTree (b .tree) ROOT)) (notRoot (b .tree)) ∷ batchReason (seed b) (withoutTreeData b) ∷ []
+      | some b ↦
+          reasonIf (isNone (b .root)) noTreeData
+          ∷ reasonIf (not (sameTree (b .tree) ROOT)) (notRoot (b .tree))
+          ∷ batchReason (seed b) (withoutTreeData b)
+          ∷ []
     ]
 
 abbrev rowsOfStart : Option Batch → List Row

@@ -16,8 +16,8 @@ use Rattle.state.specs.Sound.{soundShape}
 use Rattle.update.specs.Words.{here, listing, listed, claim}
 use Rattle.update.specs.Gone.{stays, goes, asParent, fate}
 use Rattle.update.specs.Numbers.{absent, updatedAndRemoved}
-use Rattle.reasons.specs.Reasons.{Dropped, Reason, claimedFromHolder, focusIntoNothing, rootAbsent, focusAbsent, updatedAndGone, unsoundOutcome}
+use Rattle.reasons.specs.Reasons.{lastOf, Dropped, Reason, claimedFromHolder, focusIntoNothing, rootAbsent, focusAbsent, updatedAndGone, unsoundOutcome}
 use Rattle.reasons.specs.Shape.{graftTwiceFrom, brokenShape}
 
 -- ## The way through the grafts
 
@@ -33,11 +33,6 @@ wayThrough (suc room) s x =
 -- from ROOT's focus on
 unfoldable pub focusWay : Forest → List FullNodeId
 focusWay s = elim (subtreeOf s ROOT) [ none ↦ [] | some u ↦ wayThrough (suc (length (s .trees))) s (u .focus) ]
-
--- the last of some ids
-unfoldable pub lastOf : List FullNodeId → Option FullNodeId
-lastOf [] = none
-lastOf (x ∷ xs) = elim (lastOf xs) [ none ↦ some x | some y ↦ some y ]
 
 -- the tree that the last node of a way grafts
 unfoldable pub lastGraft : Forest → List FullNodeId → Option TreeId

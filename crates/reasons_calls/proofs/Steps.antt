@@ -1,20 +1,18 @@
 -- Laws of the reason of the pass: what each event meets, and that its number is the pass's. Assumes nothing.
 use mathlib.Core.Bool.{Bool, true, false, not}
-use mathlib.Core.List.{List, [], _∷_}
-use mathlib.Core.Option.{Option, none, some}
-use mathlib.Core.Path.{_≡_, refl, sym, _∙_}
-use Rattle.base.specs.Tests.{_&&_, isSome, isNil, any, has, sameOption, given, firstGiven}
-use Rattle.base.proofs.Lists.{any-given, first-given-some}
+use mathlib.Core.List.{List, _∷_}
+use mathlib.Core.Option.{none, some}
+use mathlib.Core.Path.{_≡_}
+use Rattle.base.specs.Tests.{_&&_, isSome, isNil, has, sameOption, firstGiven}
 use Rattle.ids.specs.Ids.{ROOT, sameTree, sameNode}
-use Rattle.ids.proofs.Ids.{same-tree-sym}
 use Rattle.ids.specs.declared.TreeId.{TreeId}
 use Rattle.ids.specs.declared.NodeId.{NodeId}
 use Rattle.record.specs.Batch.{graft?, NodeData, Listed, Batch}
 use Rattle.state.specs.State.{Forest}
 use Rattle.update.specs.Words.{here, claim}
 use Rattle.update.specs.Pass.{Event, names, places}
 use Rattle.reasons.specs.Reasons.{Reason, namedTwice, graftOverChildren, graftOfRoot, claimedTwice}
-use Rattle.reasons.specs.Pass.{namersOf, claimerAmong, secondClaim, placing, passReason}
+use Rattle.reasons_calls.specs.Pass.{namersOf, claimerAmong, secondClaim, placing, passReason}
 
 -- a graft node with children
 abbrev pub crowded : NodeData → Bool
@@ -34,21 +32,6 @@ module _ (s : Forest) (b : Batch) where
       → claimerAmong s b (l ∷ placed) t ≡ claimerAmong s b placed t
   unfolding claimerAmong
   claimer-before placed l t e = rw (e, firstGiven)
-
-  -- there is one where the tree is claimed
-  claimer-some : (placed : List Listed) (t : TreeId) → isSome (claimerAmong s b placed t) ≡ has sameTree (given (claim s b) placed) t
-  unfolding claimerAmong
-  claimer-some placed t =
-      first-given-some (λ l. sameOption sameTree (claim s b l) (some t)) (λ l. l) placed
-      ∙ sym (any-given (sameTree t) (claim s b) placed ∙ turned placed)
-    where
-      turn : (o : Option TreeId) → (elim o as (λ _. Bool) [ none ↦ false | some y ↦ sameTree t y ]) ≡ sameOption sameTree o (some t)
-      turn none = refl
-      turn (some y) = same-tree-sym t y
-
-      turned : (ls : List Listed) → any (λ l. elim (claim s b l) [ none ↦ false | some y ↦ sameTree t y ]) ls ≡ any (λ l. sameOption sameTree (claim s b l) (some t)) ls
-      turned [] = refl
-      turned (l ∷ ls) = rw (turn (claim s b l), turned ls)
 
   -- ## A child that is named
 
@@ -95,7 +78,8 @@ module _ (s : Forest) (b : Batch) where
 
         module _ (other : sameTree t ROOT ≡ false) where
           -- row 12
-          pub placing-claimed : (k : Listed) → claimerAmong s b placed t ≡ some k → placing s b placed l ≡ some (claimedTwice t (here s b (k .id)) (here s b (l .id)))
+          pub placing-claimed : (k : Listed) → claimerAmong s b placed t ≡ some k
+              → placing s b placed l ≡ some (claimedTwice t (here s b (k .id)) (here s b (l .id)))
           unfolding placing secondClaim
           placing-claimed k q = rw (few, e, secondClaim, other, q, secondClaim)
 

@@ -1,7 +1,8 @@
 -- Laws of the pass over the nodes: it names every child that the nodes name, in order, and places listed nodes that have a place, each once.
 -- Assumes nothing.
 use mathlib.Core.Bool.{Bool, true, false, _||_, false≢true}
-use mathlib.Core.List.{List, [], _∷_, _++_, append-nil, append-assoc, List·Memᴰ, List·Memᴰ·head, List·Memᴰ·tail, List·Memᴰ·not-nil, List·Memᴰ·eq-of-singleton, List·Memᴰ·cases-cons, List·Memᴰ·append-cases, Memᴰ·append-left, Memᴰ·append-right, Memᴰ·cast}
+use mathlib.Core.List.{List, [], _∷_, _++_, append-nil, append-assoc, List·Memᴰ, List·Memᴰ·head, List·Memᴰ·tail, List·Memᴰ·not-nil}
+use mathlib.Core.List.{List·Memᴰ·eq-of-singleton, List·Memᴰ·cases-cons, List·Memᴰ·append-cases, Memᴰ·append-left, Memᴰ·append-right, Memᴰ·cast}
 use mathlib.Core.Logic.{⊎-elim}
 use mathlib.Core.Option.{some, Option·none-ne-some, Option·some-injective}
 use mathlib.Core.Path.{_≡_, refl, sym, ap, _∙_}
@@ -74,7 +75,13 @@ module _ (s : Forest) (b : Batch) where
   names-events earlier [] = refl
   names-events earlier (l ∷ ls) =
       names-append (namings s b earlier (l .body .children) ++ own) (events s b (earlier ++ l ∷ []) ls)
-      ∙ rw (names-append (namings s b earlier (l .body .children)) own, names-namings earlier (l .body .children), names-own turn l, append-nil, names-events (earlier ++ l ∷ []) ls)
+      ∙ rw (
+        names-append (namings s b earlier (l .body .children)) own,
+        names-namings earlier (l .body .children),
+        names-own turn l,
+        append-nil,
+        names-events (earlier ++ l ∷ []) ls,
+      )
     where
       turn : Bool
       turn = placedAtTurn s b (l .id) || has sameNode (namedIds earlier ++ l .body .children) (l .id)
@@ -120,8 +127,11 @@ module _ (s : Forest) (b : Batch) where
   places-events earlier [] l i = absurd (List·Memᴰ·not-nil i)
   places-events earlier (k ∷ ls) l i =
       ⊎-elim (λ j. ⊎-elim
-      (λ m. let z = places-namings earlier (k .body .children) l m in
-      (Memᴰ·append-left (k ∷ ls) (z .0), or-right (placedAtTurn s b (l .id)) (in-both (l .id) (has-right sameNode (namedIds earlier) (k .body .children) (l .id) (z .1)))))
+      (λ m. let z = places-namings earlier (k .body .children) l m in (
+        Memᴰ·append-left (k ∷ ls) (z .0),
+        or-right (placedAtTurn s b (l .id))
+            (in-both (l .id) (has-right sameNode (namedIds earlier) (k .body .children) (l .id) (z .1))),
+      ))
       (λ m. by-test turn
       (λ t. let same : l ≡ k = placed (List·Memᴰ·eq-of-singleton (rw t at m)) in (
         Memᴰ·append-right earlier (List·Memᴰ·head same),
@@ -231,11 +241,13 @@ module _ (s : Forest) (b : Batch) where
       λ n e. by-test (has sameNode (namedIds earlier) n) (λ t. old n (named n t))
       (λ t. new n (rw (any-append (sameNode n) (namedIds earlier) (l .body .children), t) at e)) in
       let rest : (placed″ : List NodeId) → Earlier (earlier ++ l ∷ []) seen′ placed″ → Once seen′ placed″ (events s b (earlier ++ l ∷ []) ls) =
-      λ placed″ h″. once-events (earlier ++ l ∷ []) ls seen′ placed″ h″ (λ n e. here-named n (rw (named-snoc earlier l) at e)) (λ n e. apart-next earlier l ls apart d n e) (both d .1) in
+      λ placed″ h″. once-events (earlier ++ l ∷ []) ls seen′ placed″ h″ (λ n e. here-named n (rw (named-snoc earlier l) at e))
+      (λ n e. apart-next earlier l ls apart d n e) (both d .1) in
       by-test turn
       (λ t. rw t (
         refuted (λ e. clash (apart (l .id) (h′ .listed (l .id) e)) (rw (same-node-refl (l .id)))),
-        rest (l .id ∷ placed′) (earlier-places (l .id) (rw (listed-snoc earlier l) (has-right sameNode (listedIds earlier) (l .id ∷ []) (l .id) (rw (same-node-refl (l .id)))))
+        rest (l .id ∷ placed′) (earlier-places (l .id)
+            (rw (listed-snoc earlier l) (has-right sameNode (listedIds earlier) (l .id ∷ []) (l .id) (rw (same-node-refl (l .id)))))
             (by-test (placedAtTurn s b (l .id)) (λ p. rw p) (λ p. rw p (here-named (l .id) (rw p at t)))) (earlier-more l h′)),
       ))
       (λ t. rw t (rest placed′ (earlier-more l h′)))))

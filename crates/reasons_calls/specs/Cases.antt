@@ -11,8 +11,10 @@ use Rattle.state.specs.ExampleStates.{id, root, under, tree, state}
 use Rattle.state.specs.State.{State}
 use Rattle.update.specs.Cases.{S, withGraft, withT}
 use Rattle.update.specs.Traps.{twoInT}
-use Rattle.reasons.specs.Reasons.{Spot, Reason, absentBelow, metTwice, neverMet, wrongLink, listedTwice, notGrafted, notExisting, namedTwice, graftOverChildren, graftOfRoot, claimedTwice, claimedFromHolder, withoutPlace, childNowhere, focusIntoNothing, rootAbsent, updatedAndGone, unsoundOutcome}
-use Rattle.reasons.specs.Explain.{batchReason}
+use Rattle.reasons.specs.Reasons.{Spot, Reason, absentBelow, metTwice, neverMet, wrongLink, listedTwice, notGrafted, notExisting, namedTwice}
+use Rattle.reasons.specs.Reasons.{graftOverChildren, graftOfRoot, claimedTwice, claimedFromHolder, withoutPlace, childNowhere, focusIntoNothing}
+use Rattle.reasons.specs.Reasons.{rootAbsent, updatedAndGone, unsoundOutcome}
+use Rattle.reasons_calls.specs.Explain.{batchReason}
 
 -- the reason that a batch on a state gets, and the one that it should get
 pub record Case : Type 0 where

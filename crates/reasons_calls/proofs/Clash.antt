@@ -31,17 +31,17 @@ use Rattle.update.specs.Numbers.{placeless}
 use Rattle.update.proofs.Write.{merged, listing-some}
 use Rattle.update.proofs.Outcome.{foundWritten, foundAfter, find-outcome, ascending-outcome}
 use Rattle.update.proofs.Pass.{named-has, events-place}
-use Rattle.reasons.specs.Pass.{claimerAmong, secondClaim, placing, passReason, passFault}
-use Rattle.reasons.specs.Outcome.{claims, clashReason}
-use Rattle.reasons.proofs.Numbers.{claimer-some}
-use Rattle.reasons.proofs.Events.{listing-member}
-use Rattle.reasons.proofs.Unbroken.{none-made, none-if, none-or}
+use Rattle.reasons_calls.specs.Pass.{claimerAmong, secondClaim, placing, passReason, passFault}
+use Rattle.reasons_calls.specs.Outcome.{claims, clashReason}
+use Rattle.reasons_calls.proofs.Numbers.{claimer-some, pass-none}
+use Rattle.reasons_calls.proofs.Events.{listing-member}
 use Rattle.reasons.specs.Reasons.{claimedTwice, claimedFromHolder, graftedTwice, Regraft}
 use Rattle.reasons.specs.Shape.{graftTwiceFrom}
-use Rattle.reasons.specs.Holds.{Grafts, Claims, Breaks, OfBatch}
-use Rattle.reasons.proofs.First.{IfSome, said}
+use Rattle.reasons.specs.Breaks.{Breaks}
+use Rattle.reasons_calls.specs.Holds.{Grafts, Claims, OfBatch}
+use Rattle.reasons.proofs.First.{IfSome, said, none-made, none-if, none-or}
 use Rattle.reasons.proofs.Places.{at-member, from-start, ascending-places}
 use Rattle.reasons.proofs.Broken.{regraft-says}
 
 -- two nodes in order that graft one tree have two ids
 regraft-apart : (s : Forest) → ascending (s .nodes) ≡ true → (g : Regraft) → Breaks s (graftedTwice g)
@@ -70,10 +70,12 @@ module _ (s : Forest) (b : Batch) where
   -- ## The pass
 
   -- what a pass without reason says of a node that is placed: none of those placed before claims its tree
-  placing-none : (placed : List Listed) (l : Listed) → placing s b placed l ≡ none → (t : TreeId) → claim s b l ≡ some t → has sameTree (given (claim s b) placed) t ≡ false
+  pub placing-none : (placed : List Listed) (l : Listed) → placing s b placed l ≡ none → (t : TreeId) → claim s b l ≡ some t
+      → has sameTree (given (claim s b) placed) t ≡ false
   unfolding placing secondClaim
   placing-none placed l e t q =
-      let past = none-if (sameOption sameTree (claim s b l) (some ROOT)) _ _ (none-if (isSome (graft? (l .body)) && not (isNil (l .body .children))) _ _ e .1) in
+      let past = none-if (sameOption sameTree (claim s b l) (some ROOT)) _ _
+      (none-if (isSome (graft? (l .body)) && not (isNil (l .body .children))) _ _ e .1) in
       sym (claimer-some s b placed t)
       ∙ ap isSome (none-made (λ k. claimedTwice t (here s b (k .id)) (here s b (l .id))) (claimerAmong s b placed t) (rw (q, secondClaim) at (past .1)))
 
@@ -106,7 +108,8 @@ module _ (s : Forest) (b : Batch) where
       ⊎-elim
       (λ x. let a : k ≡ m = cc in
       ⊎-elim (λ y. let c : l ≡ m = cc in a ∙ sym c) (λ y. absurd (first l y (ap (claim s b) (sym a) ∙ p) q)) (List·Memᴰ·cases-cons j))
-      (λ x. ⊎-elim (λ y. let c : l ≡ m = cc in absurd (first k x (ap (claim s b) (sym c) ∙ q) p)) (λ y. claims-one seen (m ∷ placed) es rest t k l x y p q) (List·Memᴰ·cases-cons j))
+      (λ x. ⊎-elim (λ y. let c : l ≡ m = cc in absurd (first k x (ap (claim s b) (sym c) ∙ q) p))
+      (λ y. claims-one seen (m ∷ placed) es rest t k l x y p q) (List·Memᴰ·cases-cons j))
       (List·Memᴰ·cases-cons i)
 
   -- ## The outcome
@@ -147,7 +150,8 @@ module _ (s : Forest) (b : Batch) where
   role-written x m t f q =
       by-test (mine s b x)
       (λ h. by-option (listing (b .nodes) (x .node)) (λ l. holds (held (rw (h, l) at f)) (claims-unlisted x h l))
-      (λ d l. role-listed x d t h l (sym (same-graft d (find x (s .nodes))) ∙ ap (λ (n : NodeState). graft? (n .body)) (Option·some-injective _ m (rw (h, l) at f)) ∙ q)))
+      (λ d l. role-listed x d t h l (sym (same-graft d (find x (s .nodes)))
+      ∙ ap (λ (n : NodeState). graft? (n .body)) (Option·some-injective _ m (rw (h, l) at f)) ∙ q)))
       (λ h. holds (held (rw h at f)) (not-mine h))
     where
       held : find x (s .nodes) ≡ some m → graftAt (s .nodes) x ≡ some t
@@ -185,7 +189,8 @@ module _ (s : Forest) (b : Batch) where
     has-place l i = any-member (placeless s b) (b .nodes) l placed i
 
     -- one claims the tree, the other holds it
-    role-claims : (x y : FullNodeId) (t : TreeId) → sameId x y ≡ false → Role x t → Role y t → claims s b x ≡ true → (graftAt (s .nodes) y ≡ some t) × Claims s b x t
+    role-claims : (x y : FullNodeId) (t : TreeId) → sameId x y ≡ false → Role x t → Role y t → claims s b x ≡ true
+        → (graftAt (s .nodes) y ≡ some t) × Claims s b x t
     unfolding passFault
     role-claims x y t apart (holds p c) role e = absurd (clash c e)
     role-claims x y t apart (claiming k i f p c) (holds q d) e = (q, (k, i, f, (has-place k i, p)))
@@ -194,7 +199,8 @@ module _ (s : Forest) (b : Batch) where
         absurd (clash apart (subst (λ (z : FullNodeId). sameId x z ≡ true) (sym f ∙ ap (λ (z : Listed). here s b (z .id)) same ∙ g) (same-id-refl x)))
 
     -- one holds it, the other claims it
-    role-holds : (x y : FullNodeId) (t : TreeId) → sameId x y ≡ false → Role x t → Role y t → claims s b x ≡ false → (graftAt (s .nodes) x ≡ some t) × Claims s b y t
+    role-holds : (x y : FullNodeId) (t : TreeId) → sameId x y ≡ false → Role x t → Role y t → claims s b x ≡ false
+        → (graftAt (s .nodes) x ≡ some t) × Claims s b y t
     role-holds x y t apart (claiming k i f p c) role e = absurd (clash e c)
     role-holds x y t apart (holds p c) (claiming l j f q d) e = (p, (l, j, f, (has-place l j, q)))
     role-holds x y t apart (holds p c) (holds q d) e =
@@ -216,9 +222,10 @@ module _ (s : Forest) (b : Batch) where
             → (c : Bool) → claims s b (g .node .id) ≡ c
             → OfBatch s b (if c then claimedFromHolder (g .tree) (g .other) (g .node .id) else claimedFromHolder (g .tree) (g .node .id) (g .other))
         on g n m apart true e =
-            let z = role-claims (g .node .id) (g .other) (g .tree) (same-id-sym (g .node .id) (g .other) ∙ apart) (role (g .node .id) (g .tree) n) (role (g .other) (g .tree) m) e in
-            (m, n, z .0, z .1, apart)
+            let z = role-claims (g .node .id) (g .other) (g .tree) (same-id-sym (g .node .id) (g .other) ∙ apart) (role (g .node .id) (g .tree) n)
+            (role (g .other) (g .tree) m) e in
+            (pass-none s b passed, apart, m, n, z .0, z .1)
         on g n m apart false e =
             let differ : sameId (g .node .id) (g .other) ≡ false = same-id-sym (g .node .id) (g .other) ∙ apart in
             let z = role-holds (g .node .id) (g .other) (g .tree) differ (role (g .node .id) (g .tree) n) (role (g .other) (g .tree) m) e in
-            (n, m, z .0, z .1, differ)
+            (pass-none s b passed, differ, n, m, z .0, z .1)

@@ -1,0 +1,11 @@
+pub mod Numbers
+pub mod Steps
+pub mod Exact
+pub mod Events
+pub mod Pass
+pub mod Dropped
+pub mod Focus
+pub mod Clash
+pub mod Truth
+pub mod Only
+pub mod Cases

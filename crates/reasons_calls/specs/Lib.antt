@@ -1,0 +1,5 @@
+pub mod Pass
+pub mod Outcome
+pub mod Explain
+pub mod Holds
+pub mod Cases
