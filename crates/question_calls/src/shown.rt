@@ -303,10 +303,8 @@ pub(crate) fn shown_sibling(
     if n <= first {
         return Start { known, place: end };
     }
-    Start {
-        known,
-        place: shown_from(state, parents, focused, filter, known, side, next),
-    }
+    let place = shown_from(state, parents, focused, filter, known, side, next);
+    Start { known, place }
 }
 
 // Collects the ids that are listed from a place on; answers how many there are.
