@@ -2,11 +2,12 @@
 use mathlib.Core.List.{List}
 use mathlib.Core.Path.{_≡_}
 use Prim.Native.Nat.{ℕ}
-use lib.ListN.{length, set}
+use lib.ListN.{length}
 use Rattle.base.specs.Tests.{if_then_else_}
 use Rattle.record.specs.Parse.{batchOf}
 use Rattle.state.specs.State.{State}
-use Rattle.state_array.specs.Layout.{WORDS, HOST}
+use Rattle.state_array.specs.Layout.{WORDS}
+use Rattle.state_array.specs.Put.{hostPut}
 use Rattle.state_focus.specs.Focus.{foundOf}
 use Rattle.update.specs.Calls.{seed}
 use Rattle.calls.specs.declared.reports.Report as reports
@@ -35,4 +36,4 @@ seeded bytes host = record { forest = seed (batchOf bytes); hostFocused = isSet 
 -- the flag's word is put, and there was one
 pub record HostPut (s : List ℕ) (host : ℕ) (t : List ℕ) : Type 0 where
   pub long : length s ≡ WORDS
-  pub put : t ≡ set s HOST (if isSet host then 1 else 0)
+  pub put : t ≡ hostPut (if isSet host then 1 else 0) s

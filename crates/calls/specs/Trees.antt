@@ -1,19 +1,22 @@
--- The table of trees after a batch: its rows, and the words that they are in memory. Assumes nothing.
-use mathlib.Core.List.{List, [], _∷_}
+-- The table of trees after a batch. Assumes nothing.
+use mathlib.Core.Bool.{Bool}
+use mathlib.Core.List.{List}
 use mathlib.Core.Option.{none, some}
-use Prim.Native.Nat.{ℕ}
-use lib.ListN.{length, getD}
-use Rattle.base.specs.Tests.{if_then_else_}
-use Rattle.base.specs.Regions.{Region, region, fills}
+use Prim.Native.Nat.{ℕ, _+_}
+use lib.Dec.{eqb, ltb}
+use lib.ListN.{getD}
+use Rattle.base.specs.Tests.{_&&_, if_then_else_}
+use Rattle.ids.specs.declared.TreeIndex.{TreeIndex}
+use Rattle.ids.specs.declared.FullNodeId.{FullNodeId}
 use Rattle.record.specs.Batch.{Batch}
 use Rattle.state.specs.State.{TreeEntry}
-use Rattle.state_array.specs.declared.TreeRow.{TreeRow}
-use Rattle.state_array.specs.Layout.{entryPlace, TREE-HIGH, TREE-LOW, TREE-ROOT, TREE-FOCUS, TREE-EXISTS}
+use Rattle.state_array.specs.View.{treesOf, slotsOf}
 use Rattle.state_array.specs.Stored.{noTree}
-use Rattle.state_array.proofs.Filled.{treeRegions, TABLE-FIELDS}
 use Rattle.update.specs.Outcome.{outcome}
 use Rattle.calls.specs.declared.notes.Scope.{Scope}
+use Rattle.calls.specs.Layout.{FATES}
 use Rattle.calls.specs.Setting.{asked, forest}
+use Rattle.calls.specs.Codes.{slotAt}
 
 -- the trees after the batch, and tree k of them
 abbrev pub treesAfter : List ℕ → List ℕ → Scope → List TreeEntry
@@ -26,16 +29,10 @@ treeAfter state bytes c k = getD (treesAfter state bytes c) k noTree
 unfoldable pub ownEntry : Batch → Scope → TreeEntry
 ownEntry b c = record { id = b .tree; subtree = if c .rooted then some (record { root = c .root; focus = b .focus }) else none }
 
--- one row in its places
-abbrev pub rowRegions : TreeRow → List Region
-rowRegions t =
-    region (entryPlace TREE-HIGH 0) (λ k. t .id .high)
-    ∷ region (entryPlace TREE-LOW 0) (λ k. t .id .low)
-    ∷ region (entryPlace TREE-ROOT 0) (λ k. t .root .0)
-    ∷ region (entryPlace TREE-FOCUS 0) (λ k. t .focus .0)
-    ∷ region (entryPlace TREE-EXISTS 0) (λ k. t .exists)
-    ∷ []
+-- how many trees have numbers after a batch of a tree: a new one takes the next
+unfoldable pub treesCounted : List ℕ → TreeIndex → ℕ
+treesCounted state k = if ltb (k .0) (treesOf state) then treesOf state else treesOf state + 1
 
--- all trees in their places
-abbrev pub treesWritten : List TreeEntry → List ℕ → List ℕ
-treesWritten ts s = fills (treeRegions ts TABLE-FIELDS) (length ts) s
+-- whether the notes mark the node with an id as one that goes
+unfoldable pub markedGone : List ℕ → List ℕ → FullNodeId → Bool
+markedGone state notes x = ltb (slotAt (forest state) x) (slotsOf state) && eqb (getD notes (FATES + slotAt (forest state) x) 0) 1

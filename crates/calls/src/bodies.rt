@@ -68,10 +68,10 @@ fn same_data<'a>(
     }
     let own = state_array::id_at(state, slot);
     let shape = state_array::shape_at(state, slot);
-    let from = state_array::CHILDREN + first_entry(shape.first_child);
+    let from = first_entry(shape.first_child);
     let to = notes::NAMED + record_reader::first_child(batch, i);
     let count = shape.child_count as usize;
-    let entries: &[u64] = state;
+    let entries = state_array::child_entries(state);
     let named: &[u64] = notes;
     update_bodies::same_run(entries, from, named, to, own.node.0, count)
 }

@@ -64,12 +64,12 @@ pub fn host_focus(state: &mut State, host_focused: u32) -> Reply
     answers::accepted(replies::no_lengths(), reports::report_host(before, after))
 }
 
-// The flag's word; `size` tells that there is one.
+// The flag; `size` tells that there is a word for it.
 fn put_host(state: &mut State, host_focused: u32)
     ensures { λ _. ⌜ HostPut (now (state .entry)) «host_focused» (now (state .exit)) ⌝ }
 {
     state_array::size(state);
-    state[state_array::HOST] = replies::host_flag(host_focused);
+    state_array::put_host(state, replies::host_flag(host_focused));
 }
 
 // A start that passed rows 2 to 5: a batch on a forest that has ROOT's root and no node.

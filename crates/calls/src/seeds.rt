@@ -4,7 +4,9 @@ ghost use Rattle.state_array.specs.Layout.{blankWords};
 ghost use Rattle.state_array.specs.View.{view};
 ghost use Rattle.calls.specs.Rows.{startRows};
 ghost use Rattle.calls.specs.Plain.{seeded};
+use ids::TreeId;
 use state_array::State;
+use state_array::TreeRow;
 
 // ROOT alone, with the root and the focus of the record, in the blank state.
 pub(crate) fn seed(state: &mut State, batch: &[u8], host_focused: u32)
@@ -14,9 +16,12 @@ pub(crate) fn seed(state: &mut State, batch: &[u8], host_focused: u32)
 {
     let root = record_reader::tree_root(batch);
     let focus = record_reader::tree_focus(batch);
-    state[state_array::TREE_COUNT] = 1;
-    state[state_array::HOST] = replies::host_flag(host_focused);
-    state[state_array::TABLE + state_array::TREES * state_array::TREE_ROOT] = root.0;
-    state[state_array::TABLE + state_array::TREES * state_array::TREE_FOCUS] = focus.0;
-    state[state_array::TABLE + state_array::TREES * state_array::TREE_EXISTS] = 1;
+    let row = TreeRow {
+        id: TreeId { high: 0, low: 0 },
+        root,
+        focus,
+        exists: 1,
+    };
+    state_array::put_tree(state, 0, row);
+    state_array::put_head(state, 0, 1, replies::host_flag(host_focused));
 }

@@ -1,16 +1,17 @@
 // The table of trees after a batch, written into the next state.
+ghost use mathlib.Core.Bool.{true};
 ghost use mathlib.Core.Path.{_≡_};
 ghost use Prim.Native.Nat.{_<_};
-ghost use lib.ListN.{length, set};
+ghost use lib.ListN.{length};
 ghost use mathlib.Core.Option.{none};
-ghost use Rattle.base.specs.Regions.{row};
 ghost use Rattle.record.specs.Parse.{batchOf};
-ghost use Rattle.state_array.specs.Layout.{TREES, TREE-FIELDS, entryPlace};
+ghost use Rattle.state.specs.Sound.{ascending};
+ghost use Rattle.state_array.specs.Layout.{TREES};
 ghost use Rattle.state_array.specs.Stored.{treeRow};
-ghost use Rattle.update.specs.Gone.{gone};
-ghost use Rattle.calls.specs.Setting.{forest, asked};
+ghost use Rattle.state_array.specs.Filled.{treesWritten};
+ghost use Rattle.calls.specs.Setting.{forest};
 ghost use Rattle.calls.specs.Says.{Told, PLANNED};
-ghost use Rattle.calls.specs.Trees.{treesAfter, treeAfter, rowRegions, treesWritten, ownEntry};
+ghost use Rattle.calls.specs.Trees.{treesAfter, treeAfter, ownEntry, treesCounted, markedGone};
 use crate::notes;
 use crate::notes::Notes;
 use crate::notes::Scope;
@@ -32,27 +33,21 @@ pub(crate) fn write_trees<'a>(
     requires { ⌜ Told PLANNED (now state) (now batch) scope (now notes) ⌝ }
     ensures { λ _. ⌜ now (next .exit) ≡ treesWritten (treesAfter (now (state .entry)) (now (batch .entry)) scope) (now (next .entry)) ⌝ }
 {
-    let count = tree_count(state, batch, scope, notes);
+    let count = tree_count(state, scope.tree);
     let mut k = 0usize;
     while k < count {
         let row = tree_after(state, batch, scope, notes, k);
-        put_tree(next, k, row);
+        state_array::put_tree(next, k, row);
         k += 1;
     }
 }
 
-// How many trees have numbers after the batch.
-pub(crate) fn tree_count<'a>(
-    state: &'a State,
-    batch: &'a [u8],
-    scope: Scope,
-    notes: &'a Notes,
-) -> usize
-    requires { ⌜ Told PLANNED (now state) (now batch) scope (now notes) ⌝ }
-    ensures { λ r. ⌜ r ≡ length (treesAfter (now (state .entry)) (now (batch .entry)) scope) ⌝ }
+// How many trees have numbers after a batch of a tree.
+pub(crate) fn tree_count(state: &State, tree: TreeIndex) -> usize
+    ensures { λ r. ⌜ r ≡ treesCounted (now (state .entry)) tree ⌝ }
 {
     let count = state_array::trees(state);
-    if (scope.tree.0 as usize) < count {
+    if (tree.0 as usize) < count {
         return count;
     }
     count + 1
@@ -79,7 +74,7 @@ fn tree_after<'a>(
         return absent(id);
     }
     let root = row.root;
-    if root_goes(state, batch, scope, notes, k, root) {
+    if root_goes(state, notes, k, root) {
         return absent(id);
     }
     let focus = row.focus;
@@ -121,18 +116,10 @@ fn absent(id: TreeId) -> TreeRow
     }
 }
 
-// Whether the root of tree k goes.
-fn root_goes<'a>(
-    state: &'a State,
-    batch: &'a [u8],
-    scope: Scope,
-    notes: &'a Notes,
-    k: usize,
-    root: NodeId,
-) -> bool
-    requires { ⌜ Told PLANNED (now state) (now batch) scope (now notes) ⌝ }
-    requires { ⌜ k < TREES ⌝ }
-    ensures { λ r. ⌜ r ≡ gone (forest (now (state .entry))) (asked (now (batch .entry)) scope) (record { tree = record { 0 = k }; node = root }) ⌝ }
+// Whether the notes mark the root of tree k as one that goes.
+fn root_goes<'a>(state: &'a State, notes: &'a Notes, k: usize, root: NodeId) -> bool
+    requires { ⌜ (ascending (forest (now state) .nodes) ≡ true) × (k < TREES) ⌝ }
+    ensures { λ r. ⌜ r ≡ markedGone (now (state .entry)) (now (notes .entry)) (record { tree = record { 0 = k }; node = root }) ⌝ }
 {
     let tree = TreeIndex(k as u32);
     let slot = state_lookup::slot_of(state, FullNodeId { tree, node: root });
@@ -140,24 +127,4 @@ fn root_goes<'a>(
         return false;
     }
     notes[notes::FATES + slot] == 1
-}
-
-// Stores the row of tree k.
-fn put_tree(next: &mut State, k: usize, t: TreeRow)
-    requires { ⌜ k < TREES ⌝ }
-    ensures { λ _. ⌜ now (next .exit) ≡ row (rowRegions t) k (now (next .entry)) ⌝ }
-{
-    put_entry(next, state_array::TREE_HIGH, k, t.id.high);
-    put_entry(next, state_array::TREE_LOW, k, t.id.low);
-    put_entry(next, state_array::TREE_ROOT, k, t.root.0);
-    put_entry(next, state_array::TREE_FOCUS, k, t.focus.0);
-    put_entry(next, state_array::TREE_EXISTS, k, t.exists);
-}
-
-// Stores field j of tree k.
-fn put_entry(next: &mut State, j: usize, k: usize, v: u64)
-    requires { ⌜ (j < TREE-FIELDS) × (k < TREES) ⌝ }
-    ensures { λ _. ⌜ now (next .exit) ≡ set (now (next .entry)) (entryPlace j k) v ⌝ }
-{
-    next[state_array::TABLE + state_array::TREES * j + k] = v;
 }

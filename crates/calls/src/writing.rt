@@ -1,21 +1,19 @@
 // The outcome of a batch, written into a second array: words that it does not use stay 0.
 ghost use mathlib.Core.Path.{_≡_};
 ghost use Prim.Native.Nat.{_+_, _≤_, _<_};
-ghost use lib.ListN.{length, set};
-ghost use Rattle.base.specs.Regions.{fill};
-ghost use Rattle.state_array.specs.Layout.{blankWords, SLOTS, ENTRIES, NODE-FIELDS, place, TREE, PARENT-TREE};
-ghost use Rattle.state_array.specs.Stored.{headWord, stored};
+ghost use lib.ListN.{length, getD};
+ghost use Rattle.state_array.specs.Layout.{blankWords, ENTRIES};
+ghost use Rattle.state_array.specs.Stored.{noNode, stored};
+ghost use Rattle.state_array.specs.Filled.{nodesWritten, runWritten, childrenWritten, headWritten};
 ghost use Rattle.calls.specs.Says.{Told, PLANNED};
-ghost use Rattle.calls.specs.Written.{nodesAfter, nodesWritten, idPair, linkWords, wordsPut, bodyPut, sourceChildren, slotChild, kidWord, runWritten, childrenWritten, hostWord};
+ghost use Rattle.calls.specs.Written.{nodesAfter, sourceChildren, slotChild, hostWord};
 ghost use Rattle.calls.specs.Says.{outcomeState};
 use crate::links;
 use crate::notes;
 use crate::notes::Notes;
 use crate::notes::Scope;
 use crate::trees;
-use ids::FullNodeId;
-use state_array::Body;
-use state_array::LinkRow;
+use ids::NodeId;
 use state_array::State;
 
 // The outcome, written into an array of zeros: its nodes, their children, the table of trees, the head.
@@ -55,69 +53,11 @@ fn write_nodes<'a>(
         let l = links::link_of(state, batch, scope, notes, code);
         let source = notes[notes::SOURCES + r] as usize;
         let body = update_bodies::body_of(state, batch, source);
-        put_id(next, r, x);
-        put_link(next, r, l);
-        put_body(next, r, body);
+        state_array::put_id(next, r, x);
+        state_array::put_link(next, r, l);
+        state_array::put_body(next, r, body);
         r += 1;
     }
-}
-
-// Stores the id of slot r.
-fn put_id(next: &mut State, r: usize, x: FullNodeId)
-    requires { ⌜ r < SLOTS ⌝ }
-    ensures { λ _. ⌜ now (next .exit) ≡ wordsPut TREE r (idPair x) (now (next .entry)) ⌝ }
-{
-    let words = [x.tree.0 as u64, x.node.0];
-    put_words(next, state_array::TREE, r, &words);
-}
-
-// Stores its link.
-fn put_link(next: &mut State, r: usize, l: LinkRow)
-    requires { ⌜ r < SLOTS ⌝ }
-    ensures { λ _. ⌜ now (next .exit) ≡ wordsPut PARENT-TREE r (linkWords l) (now (next .entry)) ⌝ }
-{
-    let words = [l.parent.tree.0 as u64, l.parent.node.0, l.index, l.linked];
-    put_words(next, state_array::PARENT_TREE, r, &words);
-}
-
-// Stores its data, the children aside.
-fn put_body(next: &mut State, r: usize, body: Body)
-    requires { ⌜ r < SLOTS ⌝ }
-    ensures { λ _. ⌜ now (next .exit) ≡ bodyPut r body (now (next .entry)) ⌝ }
-{
-    let graft = [body.graft.high, body.graft.low, body.flags];
-    put_words(next, state_array::GRAFT_HIGH, r, &graft);
-    let counts = [
-        body.child_count,
-        body.active_descendant.0,
-        body.role,
-        body.label_length,
-    ];
-    put_words(next, state_array::CHILD_COUNT, r, &counts);
-    let label = body.label;
-    put_words(next, state_array::LABEL, r, &label);
-    let floats = body.floats;
-    put_words(next, state_array::FLOATS, r, &floats);
-}
-
-// Stores words as the fields from f on of slot r.
-fn put_words(next: &mut State, f: usize, r: usize, words: &[u64])
-    requires { ⌜ (f + length (now words) ≤ NODE-FIELDS) × (r < SLOTS) ⌝ }
-    ensures { λ _. ⌜ now (next .exit) ≡ wordsPut f r (now (words .entry)) (now (next .entry)) ⌝ }
-{
-    let mut k = 0usize;
-    while k < words.len() {
-        put_word(next, f + k, r, words[k]);
-        k += 1;
-    }
-}
-
-// Stores field f of slot r.
-fn put_word(next: &mut State, f: usize, r: usize, v: u64)
-    requires { ⌜ (f < NODE-FIELDS) × (r < SLOTS) ⌝ }
-    ensures { λ _. ⌜ now (next .exit) ≡ set (now (next .entry)) (place f r) v ⌝ }
-{
-    next[state_array::NODES + state_array::SLOTS * f + r] = v;
 }
 
 // The children of the outcome's nodes, run after run, and where the run of each starts.
@@ -136,7 +76,7 @@ fn write_children<'a>(
     let mut r = 0usize;
     while r < count {
         let source = notes[notes::SOURCES + r] as usize;
-        put_word(next, state_array::FIRST_CHILD, r, first as u64);
+        state_array::put_first_child(next, r, first as u64);
         first = write_run(state, batch, next, source, first);
         r += 1;
     }
@@ -158,7 +98,7 @@ fn write_run<'a>(
     let mut j = 0usize;
     while j < count {
         let x = child_of(state, batch, source, j);
-        next[state_array::CHILDREN + first + j] = x;
+        state_array::put_child(next, first + j, x);
         j += 1;
     }
     first + count
@@ -175,26 +115,24 @@ fn child_count<'a>(state: &'a State, batch: &'a [u8], source: usize) -> usize
     record_reader::child_count(batch, source - state_array::SLOTS)
 }
 
-// The number of child j of those that a source names.
-fn child_of<'a>(state: &'a State, batch: &'a [u8], source: usize, j: usize) -> u64
+// Child j of those that a source names.
+fn child_of<'a>(state: &'a State, batch: &'a [u8], source: usize, j: usize) -> NodeId
     requires { ⌜ j < length (sourceChildren (now state) (now batch) source) ⌝ }
-    ensures { λ r. ⌜ r ≡ kidWord (sourceChildren (now (state .entry)) (now (batch .entry)) source) j ⌝ }
+    ensures { λ r. ⌜ r ≡ getD (sourceChildren (now (state .entry)) (now (batch .entry)) source) j noNode ⌝ }
 {
     if source < state_array::SLOTS {
         return old_child(state, source, j);
     }
-    let x = record_reader::child(batch, source - state_array::SLOTS, j);
-    x.0
+    record_reader::child(batch, source - state_array::SLOTS, j)
 }
 
-// The number of child j of the node in a slot, its own where there is no such entry.
-fn old_child(state: &State, slot: usize, j: usize) -> u64
+// Child j of the node in a slot, the node itself where there is no such entry.
+fn old_child(state: &State, slot: usize, j: usize) -> NodeId
     ensures { λ r. ⌜ r ≡ slotChild (now (state .entry)) slot j ⌝ }
 {
     let x = state_array::id_at(state, slot);
     let d = state_array::shape_at(state, slot);
-    let child = state_array::child_at(state, x.node, d.first_child, j);
-    child.0
+    state_array::child_at(state, x.node, d.first_child, j)
 }
 
 // The head: how many nodes and trees, and the host flag as it was.
@@ -206,13 +144,11 @@ fn write_head<'a>(
     next: &mut State,
 )
     requires { ⌜ Told PLANNED (now state) (now batch) scope (now notes) ⌝ }
-    ensures { λ _. ⌜ now (next .exit) ≡ fill 0 3 (headWord (outcomeState (now (state .entry)) (now (batch .entry)) scope)) (now (next .entry)) ⌝ }
+    ensures { λ _. ⌜ now (next .exit) ≡ headWritten (outcomeState (now (state .entry)) (now (batch .entry)) scope) (now (next .entry)) ⌝ }
 {
-    let trees = trees::tree_count(state, batch, scope, notes);
+    let trees = trees::tree_count(state, scope.tree);
     let host = host_flag(state);
-    next[state_array::COUNT] = notes[notes::COUNT];
-    next[state_array::TREE_COUNT] = trees as u64;
-    next[state_array::HOST] = host;
+    state_array::put_head(next, notes[notes::COUNT], trees as u64, host);
 }
 
 // 1 where the host has the focus, else 0.

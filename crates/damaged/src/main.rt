@@ -99,7 +99,7 @@ fn with_word(state: &mut State, line: &[u8], c: Cursor) -> Cursor {
     word
 }
 
-// Which field a word names: the 28 of the nodes, the 5 of the trees, the child entries, the head.
+// Which field a word names: those of the nodes, those of the trees, the child entries, the head.
 fn which_field(line: &[u8], c: Cursor) -> u64 {
     cursor::which(
         line,
@@ -114,15 +114,17 @@ fn which_field(line: &[u8], c: Cursor) -> u64 {
 fn place(field: u64, i: u64) -> usize {
     let f = (field % 64) as usize;
     let at = (i % 512) as usize;
-    if f < 28 {
-        return state_array::NODES + state_array::SLOTS * f + at;
+    let fields = state_array::FIELDS;
+    if f < fields {
+        return state_array::node_place(f, at);
     }
-    if f < 33 {
-        return state_array::TABLE + state_array::TREES * (f - 28) + at;
+    let j = f - fields;
+    if j < state_array::TREE_FIELDS {
+        return state_array::tree_place(j, at);
     }
-    match f {
-        33 => state_array::CHILDREN + at,
-        34 => at,
+    match j - state_array::TREE_FIELDS {
+        0 => state_array::child_place(at),
+        1 => at,
         _ => state_array::WORDS,
     }
 }

@@ -5,10 +5,9 @@ use mathlib.Core.Option.{Option, none, some}
 use mathlib.Core.Path.{_≡_}
 use Prim.Native.Nat.{ℕ}
 use lib.Dec.{eqb}
-use lib.ListN.{set}
 use Rattle.base.specs.Tests.{if_then_else_}
 use Rattle.ids.specs.declared.FullNodeId.{FullNodeId}
-use Rattle.state_array.specs.Layout.{HOST}
+use Rattle.state_array.specs.Put.{hostPut}
 use Rattle.state_array.specs.Stored.{stored}
 use Rattle.state_array.specs.View.{view}
 use Rattle.update.specs.Calls as definition
@@ -65,4 +64,4 @@ Updates s bytes lent t r slice = let d = definition.update (view s) bytes lent i
 
 -- a host focus change of the state s: the flag's word alone
 abbrev pub HostFocuses : List ℕ → ℕ → List ℕ → Reply → Type 0
-HostFocuses s host t r = Answers (definition.hostFocus (view s) (isSet host)) s (set s HOST (if isSet host then 1 else 0)) t r []
+HostFocuses s host t r = Answers (definition.hostFocus (view s) (isSet host)) s (hostPut (if isSet host then 1 else 0) s) t r []

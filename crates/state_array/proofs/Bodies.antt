@@ -16,7 +16,7 @@ use Rattle.base.proofs.Bytes.{length-list-of, list-of-at}
 use Rattle.geometry.specs.Geometry.{rectTest, affineTest}
 use Rattle.record.specs.Batch.{NodeData, fieldsOk}
 use Rattle.record.proofs.Batch.{field-rules}
-use Rattle.state_array.specs.Layout.{word, child}
+use Rattle.state_array.specs.Layout.{FIRST-CHILD, CHILD-COUNT, LABEL-LENGTH, LABEL, word, child}
 use Rattle.state_array.specs.View.{idIn, shapeIn, childrenIn, labelByte, labelIn, boundsIn, transformIn, bodyIn}
 use Rattle.state_array.specs.Stored.{labelWord, floatsOf, bodyOf, floatWords, bodyWords}
 use Rattle.state_array.proofs.Labels.{shift-bytes, le-cut, float-back, float-fits}
@@ -52,28 +52,28 @@ floats-finite d h =
 -- ## A slot
 
 module _ (s : List ℕ) (i : ℕ) where
-  pub children-length : length (bodyIn s i .children) ≡ word s 10 i
+  pub children-length : length (bodyIn s i .children) ≡ word s CHILD-COUNT i
   unfolding bodyIn childrenIn shapeIn
-  children-length = length-list-of (word s 10 i) (λ j. record { 0 = child s (idIn s i .node .0) (word s 9 i + j) })
+  children-length = length-list-of (word s CHILD-COUNT i) (λ j. record { 0 = child s (idIn s i .node .0) (word s FIRST-CHILD i + j) })
 
-  pub label-length : length (bodyIn s i .label) ≡ word s 13 i
+  pub label-length : length (bodyIn s i .label) ≡ word s LABEL-LENGTH i
   unfolding bodyIn labelIn
-  label-length = length-list-of (word s 13 i) (labelByte s i)
+  label-length = length-list-of (word s LABEL-LENGTH i) (labelByte s i)
 
   -- a label's word is the slot's, cut at the label's end
-  pub label-cut : (k : ℕ) → k < 4 → labelWord (labelIn s i) k ≡ word s (14 + k) i % 256 ^ min 8 (word s 13 i - 8 * k)
+  pub label-cut : (k : ℕ) → k < 4 → labelWord (labelIn s i) k ≡ word s (LABEL + k) i % 256 ^ min 8 (word s LABEL-LENGTH i - 8 * k)
   unfolding labelIn labelByte
-  label-cut k h = le-cut 8 (word s 13 i - 8 * k) (word s (14 + k) i) (8 * k) (labelIn s i) inside past
+  label-cut k h = le-cut 8 (word s LABEL-LENGTH i - 8 * k) (word s (LABEL + k) i) (8 * k) (labelIn s i) inside past
     where
-      inside : (m : ℕ) → m < 8 → m < word s 13 i - 8 * k → getD (labelIn s i) (8 * k + m) 0 ≡ word s (14 + k) i / 256 ^ m % 256
+      inside : (m : ℕ) → m < 8 → m < word s LABEL-LENGTH i - 8 * k → getD (labelIn s i) (8 * k + m) 0 ≡ word s (LABEL + k) i / 256 ^ m % 256
       inside m l b =
           let word-is : (8 * k + m) / 8 ≡ k = omega arith in
           let byte-is : (8 * k + m) % 8 ≡ m = omega arith in
-          list-of-at (word s 13 i) (8 * k + m) (labelByte s i) 0 (omega arith)
+          list-of-at (word s LABEL-LENGTH i) (8 * k + m) (labelByte s i) 0 (omega arith)
           ∙ rw (lt-ltb (8 * k + m) 32 (omega arith), word-is, byte-is, shift-bytes m)
 
-      past : (m : ℕ) → m < 8 → word s 13 i - 8 * k ≤ m → getD (labelIn s i) (8 * k + m) 0 ≡ 0
-      past m l b = List·getD-eq-default (labelIn s i) 0 {n = 8 * k + m} (omega (arith, length-list-of (word s 13 i) (labelByte s i)))
+      past : (m : ℕ) → m < 8 → word s LABEL-LENGTH i - 8 * k ≤ m → getD (labelIn s i) (8 * k + m) 0 ≡ 0
+      past m l b = List·getD-eq-default (labelIn s i) 0 {n = 8 * k + m} (omega (arith, length-list-of (word s LABEL-LENGTH i) (labelByte s i)))
 
   pub slot-floats : floatsOf (bodyIn s i) ≡ map (ofBits binary64) (floatWords s i)
   unfolding floatsOf floatWords listOf bodyIn boundsIn transformIn

@@ -1,20 +1,29 @@
 -- The image of a state by its writers: zeros, and each region filled once, in any order of the regions. Assumes nothing.
 use mathlib.Core.Bool.{Bool, true}
-use mathlib.Core.List.{List, [], _∷_}
+use mathlib.Core.List.{List, [], _∷_, _++_, map}
 use mathlib.Core.Path.{_≡_, refl, sym, ap, _∙_}
 use Prim.Native.Nat.{ℕ, zero, suc, _+_, _≤_, _<_}
 use native.Mathlib.Omega.{arith}
 use lib.Dec.{eqb, leb, ltb}
-use lib.ListN.{length, getD, replicate}
-use borrow.Author.Tests.{eqb-true, leb-true, le-leb, ltb-true}
-use Rattle.base.specs.Tests.{_&&_, all}
-use Rattle.base.specs.Bytes.{listOf}
-use Rattle.base.specs.Regions.{fill, Region, region, fills, Part, image, partStart, withPart, partOf}
+use lib.ListN.{length, getD, set}
+use borrow.Author.Tests.{eqb-true, leb-true, le-leb, ltb-true, lt-ltb}
+use Rattle.base.specs.Tests.{_&&_, if_then_else_, all}
+use Rattle.base.specs.Bytes.{sumOf, listOf}
+use Rattle.base.specs.Regions.{fill, fills, Part, image, partStart, withPart, partOf}
 use Rattle.base.proofs.Tests.{both}
-use Rattle.base.proofs.Regions.{Free, image-filled, blanks, zeros-image}
+use Rattle.base.proofs.Bytes.{sum-more}
+use Rattle.base.proofs.Regions.{fill-none, fill-more, fill-set, fill-cong, fill-add, row-stored, Free, image-filled, blanks, zeros-image}
+use Rattle.ids.specs.declared.NodeId.{NodeId}
+use Rattle.ids.specs.declared.FullNodeId.{FullNodeId}
 use Rattle.state.specs.State.{NodeState, TreeEntry, State}
-use Rattle.state_array.specs.Layout.{entryPlace, place, childPlace}
-use Rattle.state_array.specs.Stored.{noNode, noTree, nodeWord, treeWord, entriesOf, headWord, parts, stored}
+use Rattle.state_array.specs.declared.LinkRow.{LinkRow}
+use Rattle.state_array.specs.declared.Body.{Body}
+use Rattle.state_array.specs.declared.TreeRow.{TreeRow}
+use Rattle.state_array.specs.Layout.{SLOTS, TREES, ENTRIES, TREE-FIELDS, NODE-FIELDS, FIRST-CHILD, place, childPlace, blankWords}
+use Rattle.state_array.specs.Stored.{noNode, noState, noTree, linkRow, floatsOf, bodyOf, childrenBefore, rowOf, nodeWord, treeRow, treeWord, entriesOf, headWord, parts, stored}
+use Rattle.state_array.specs.Put.{puts, idPut, linkPut, bodyPut, firstChildPut, childPut, treePut, headPut}
+use Rattle.state_array.specs.Filled.{OWN-FIELDS, nodesRegions, kidWord, runWritten, childrenWritten, treesRegions, headWritten, filled}
+use Rattle.state_array.proofs.Entries.{entries-length, entries-within, entries-at}
 
 -- ## Parts filled in an order of their numbers
 
@@ -90,18 +99,18 @@ in-order qs fit (j ∷ js) ps e once =
 
 -- ## Of a state
 
-module _ (a : State) (few : length (a .forest .nodes) ≤ 320) (fewTrees : length (a .forest .trees) ≤ 32) (room : length (entriesOf (a .forest .nodes)) ≤ 512) where
+module _ (a : State) (few : length (a .forest .nodes) ≤ SLOTS) (fewTrees : length (a .forest .trees) ≤ TREES) (room : length (entriesOf (a .forest .nodes)) ≤ ENTRIES) where
   parts-fit : fitting (parts a) ≡ true
   unfolding listOf _&&_
   parts-fit =
-      let t : leb (length (a .forest .trees)) 32 ≡ true = le-leb _ 32 fewTrees in
-      let n : leb (length (a .forest .nodes)) 320 ≡ true = le-leb _ 320 few in
-      let e : leb (length (entriesOf (a .forest .nodes))) 512 ≡ true = le-leb _ 512 room in
+      let t : leb (length (a .forest .trees)) TREES ≡ true = le-leb _ TREES fewTrees in
+      let n : leb (length (a .forest .nodes)) SLOTS ≡ true = le-leb _ SLOTS few in
+      let e : leb (length (entriesOf (a .forest .nodes))) ENTRIES ≡ true = le-leb _ ENTRIES room in
       simp (t, n, e)
 
   -- the writers' order is any in which every region comes once
   pub filled-in-order : (js : List ℕ) → eachOnce (parts a) js (blanks (sizes (parts a))) ≡ true → usedIn (parts a) js (blanks (sizes (parts a))) ≡ parts a
-      → inOrder (parts a) js (replicate 9640 0) ≡ stored a
+      → inOrder (parts a) js blankWords ≡ stored a
   unfolding stored listOf
   filled-in-order js once all =
       ap (inOrder (parts a) js) (zeros-image (sizes (parts a)))
@@ -110,41 +119,102 @@ module _ (a : State) (few : length (a .forest .nodes) ≤ 320) (fewTrees : lengt
 
 -- ## In the order of the writers
 
--- fields of the nodes, and the fields of the trees
-abbrev pub nodeRegions : List NodeState → List ℕ → List Region
-nodeRegions ns [] = []
-nodeRegions ns (f ∷ fs) = region (place f 0) (nodeWord ns f) ∷ nodeRegions ns fs
+-- the parts of the fields of the nodes, after which comes that of the child entries
+abbrev nodeParts : List ℕ → List ℕ
+nodeParts fs = map (λ f. 1 + TREE-FIELDS + f) fs
 
-abbrev pub treeRegions : List TreeEntry → List ℕ → List Region
-treeRegions ts [] = []
-treeRegions ts (j ∷ js) = region (entryPlace j 0) (λ k. treeWord (getD ts k noTree) j) ∷ treeRegions ts js
-
--- the fields of ids, of links, and of bodies without the first child
-abbrev pub ID-FIELDS : List ℕ
-ID-FIELDS = 0 ∷ 1 ∷ []
-
-abbrev pub LINK-FIELDS : List ℕ
-LINK-FIELDS = 2 ∷ 3 ∷ 4 ∷ 5 ∷ []
-
-abbrev pub BODY-FIELDS : List ℕ
-BODY-FIELDS = 6 ∷ 7 ∷ 8 ∷ 10 ∷ 11 ∷ 12 ∷ 13 ∷ 14 ∷ 15 ∷ 16 ∷ 17 ∷ 18 ∷ 19 ∷ 20 ∷ 21 ∷ 22 ∷ 23 ∷ 24 ∷ 25 ∷ 26 ∷ 27 ∷ []
-
-abbrev pub TABLE-FIELDS : List ℕ
-TABLE-FIELDS = 0 ∷ 1 ∷ 2 ∷ 3 ∷ 4 ∷ []
-
--- ids, links, bodies, first children, child entries, trees, head
-abbrev pub filled : State → List ℕ → List ℕ
-filled a s =
-    fill 0 3 (headWord a)
-    (fills (treeRegions (a .forest .trees) TABLE-FIELDS) (length (a .forest .trees))
-    (fill (childPlace 0) (length (entriesOf (a .forest .nodes))) (λ j. getD (entriesOf (a .forest .nodes)) j noNode .0)
-    (fill (place 9 0) (length (a .forest .nodes)) (nodeWord (a .forest .nodes) 9)
-    (fills (nodeRegions (a .forest .nodes) BODY-FIELDS) (length (a .forest .nodes))
-    (fills (nodeRegions (a .forest .nodes) LINK-FIELDS) (length (a .forest .nodes))
-    (fills (nodeRegions (a .forest .nodes) ID-FIELDS) (length (a .forest .nodes)) s))))))
-
-pub filled-stored : (a : State) → length (a .forest .nodes) ≤ 320 → length (a .forest .trees) ≤ 32 → length (entriesOf (a .forest .nodes)) ≤ 512
-    → filled a (replicate 9640 0) ≡ stored a
+pub filled-stored : (a : State) → length (a .forest .nodes) ≤ SLOTS → length (a .forest .trees) ≤ TREES → length (entriesOf (a .forest .nodes)) ≤ ENTRIES
+    → filled a blankWords ≡ stored a
 unfolding listOf _&&_
 filled-stored a few fewTrees room =
-    filled-in-order a few fewTrees room (6 ∷ 7 ∷ 8 ∷ 9 ∷ 10 ∷ 11 ∷ 12 ∷ 13 ∷ 14 ∷ 16 ∷ 17 ∷ 18 ∷ 19 ∷ 20 ∷ 21 ∷ 22 ∷ 23 ∷ 24 ∷ 25 ∷ 26 ∷ 27 ∷ 28 ∷ 29 ∷ 30 ∷ 31 ∷ 32 ∷ 33 ∷ 15 ∷ 34 ∷ 1 ∷ 2 ∷ 3 ∷ 4 ∷ 5 ∷ 0 ∷ []) refl refl
+    filled-in-order a few fewTrees room (nodeParts OWN-FIELDS ++ (nodeParts (FIRST-CHILD ∷ NODE-FIELDS ∷ []) ++ (listOf TREE-FIELDS suc ++ (0 ∷ [])))) refl refl
+
+-- ## Row by row, as a loop stores them
+
+module _ (ns : List NodeState) (r : ℕ) (few : r < SLOTS) (s : List ℕ) where
+  -- a node's id, link and data
+  node-stored : bodyPut r (bodyOf (getD ns r noState .body)) (linkPut r (linkRow (getD ns r noState .parentAndIndex)) (idPut r (getD ns r noState .id) (fills (nodesRegions ns) r s)))
+      ≡ fills (nodesRegions ns) (r + 1) s
+  unfolding _&&_ puts nodeWord rowOf bodyOf listOf floatsOf
+  node-stored = rw (lt-ltb r SLOTS few) (row-stored (nodesRegions ns) 0 SLOTS r refl few s)
+
+  -- one node more
+  pub node-more : {start ids links end : List ℕ} {x : FullNodeId} {l : LinkRow} {d : Body}
+      → start ≡ fills (nodesRegions ns) r s → x ≡ getD ns r noState .id → l ≡ linkRow (getD ns r noState .parentAndIndex) → d ≡ bodyOf (getD ns r noState .body)
+      → ids ≡ idPut r x start → links ≡ linkPut r l ids → end ≡ bodyPut r d links → end ≡ fills (nodesRegions ns) (r + 1) s
+  node-more begun id link body f g h = rw (h, g, f, begun, body, link, id) node-stored
+
+-- one tree more
+pub tree-more : (ts : List TreeEntry) (k : ℕ) → k < TREES → (s : List ℕ) {start end : List ℕ} {t : TreeRow}
+    → start ≡ fills (treesRegions ts) k s → t ≡ treeRow (getD ts k noTree) → end ≡ treePut k t start → end ≡ fills (treesRegions ts) (k + 1) s
+unfolding _&&_ puts treeWord listOf
+tree-more ts k few s begun t h = rw (h, begun, t, lt-ltb k TREES few) (row-stored (treesRegions ts) 0 TREES k refl few s)
+
+-- the head
+pub head-stored : (a : State) (s : List ℕ) → headPut (length (a .forest .nodes)) (length (a .forest .trees)) (if a .hostFocused then 1 else 0) s ≡ headWritten a s
+unfolding puts fill headWord
+head-stored a s = refl
+
+-- ## Runs of children, one after another
+
+-- child j of a run
+pub child-stored : (first j : ℕ) (kids : List NodeId) (s : List ℕ) {x : NodeId} {t : List ℕ} → first + j < ENTRIES → x ≡ getD kids j noNode → t ≡ childPut (first + j) x s
+    → t ≡ set s (childPlace first + j) (kidWord kids j)
+child-stored first j kids s h x e =
+    let at : childPlace (first + j) ≡ childPlace first + j = omega arith in
+    e ∙ rw (lt-ltb (first + j) ENTRIES h, at, x)
+
+-- the runs of the first r nodes, and where each starts
+abbrev pub runsTo : List NodeState → ℕ → List ℕ → List ℕ
+runsTo ns r s = fill (childPlace 0) (childrenBefore ns r) (kidWord (entriesOf ns)) (fill (place FIRST-CHILD 0) r (nodeWord ns FIRST-CHILD) s)
+
+-- a writer has come to node r
+pub record RunsTo (ns : List NodeState) (r first : ℕ) (s t : List ℕ) : Type 0 where
+  pub starts : first ≡ childrenBefore ns r
+  pub written : t ≡ runsTo ns r s
+
+module _ (ns : List NodeState) where
+  pub runs-none : (s : List ℕ) → RunsTo ns 0 0 s s
+  unfolding sumOf
+  runs-none s = record { starts = refl; written = sym (fill-none (childPlace 0) (kidWord (entriesOf ns)) (fill (place FIRST-CHILD 0) 0 (nodeWord ns FIRST-CHILD) s) ∙ fill-none (place FIRST-CHILD 0) (nodeWord ns FIRST-CHILD) s) }
+
+  before-more : (r : ℕ) → childrenBefore ns (r + 1) ≡ childrenBefore ns r + length (getD ns r noState .body .children)
+  before-more r = sum-more (λ j. length (getD ns j noState .body .children)) r
+
+  -- the first child of node r
+  first-stored : (r : ℕ) → r < SLOTS → (s : List ℕ)
+      → set (runsTo ns r s) (place FIRST-CHILD r) (childrenBefore ns r) ≡ fill (childPlace 0) (childrenBefore ns r) (kidWord (entriesOf ns)) (fill (place FIRST-CHILD 0) (r + 1) (nodeWord ns FIRST-CHILD) s)
+  unfolding nodeWord rowOf
+  first-stored r l s =
+      fill-set (childPlace 0) (kidWord (entriesOf ns)) (childrenBefore ns r) (fill (place FIRST-CHILD 0) r (nodeWord ns FIRST-CHILD) s) (place FIRST-CHILD r) (childrenBefore ns r) (λ p q. omega arith)
+      ∙ ap (fill (childPlace 0) (childrenBefore ns r) (kidWord (entriesOf ns))) (sym (fill-more (place FIRST-CHILD 0) (nodeWord ns FIRST-CHILD) r s))
+
+  -- and its run
+  run-stored : (r : ℕ) → r < length ns → r < SLOTS → (s : List ℕ)
+      → runWritten (getD ns r noState .body .children) (childrenBefore ns r) (set (runsTo ns r s) (place FIRST-CHILD r) (childrenBefore ns r)) ≡ runsTo ns (r + 1) s
+  run-stored r l few s =
+      let kids = getD ns r noState .body .children in
+      let t = fill (place FIRST-CHILD 0) (r + 1) (nodeWord ns FIRST-CHILD) s in
+      let m = childrenBefore ns r in
+      ap (runWritten kids m) (first-stored r few s)
+      ∙ fill-cong (childPlace m) (length kids) (kidWord kids) (λ j. kidWord (entriesOf ns) (m + j)) (fill (childPlace 0) m (kidWord (entriesOf ns)) t)
+      (λ j h. sym (ap (λ (x : NodeId). x .0) (entries-at ns r j l h)))
+      ∙ fill-add (childPlace 0) (kidWord (entriesOf ns)) m (length kids) t
+      ∙ ap (λ n. fill (childPlace 0) n (kidWord (entriesOf ns)) t) (sym (before-more r))
+
+  -- one node more
+  pub runs-more : (r first : ℕ) (kids : List NodeId) (s t : List ℕ) → r < length ns → r < SLOTS → kids ≡ getD ns r noState .body .children → RunsTo ns r first s t
+      → RunsTo ns (r + 1) (first + length kids) s (runWritten kids first (firstChildPut r first t))
+  runs-more r first kids s t l few e to = record {
+    starts = rw (to .starts, e) (sym (before-more r));
+    written = rw (to .starts, e, to .written, lt-ltb r SLOTS few) (run-stored r l few s);
+  }
+
+  -- the run of node r has room
+  pub run-room : (r first : ℕ) (kids : List NodeId) (s t : List ℕ) → r < length ns → kids ≡ getD ns r noState .body .children → RunsTo ns r first s t
+      → length (entriesOf ns) ≤ ENTRIES → first + length kids ≤ ENTRIES
+  run-room r first kids s t l e to room = rw (to .starts, e) (omega (arith, entries-within ns r l))
+
+  -- all nodes
+  pub runs-all : (r first : ℕ) (s t : List ℕ) → r ≡ length ns → RunsTo ns r first s t → t ≡ childrenWritten ns s
+  runs-all r first s t e to = to .written ∙ rw (e, entries-length ns)

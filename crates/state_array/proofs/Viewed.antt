@@ -16,7 +16,7 @@ use Rattle.base.proofs.Columns.{list-of-each}
 use Rattle.ids.specs.declared.NodeId.{NodeId}
 use Rattle.record.proofs.Batch.{field-rules}
 use Rattle.state.specs.State.{ParentAndIndex, NodeState, Subtree, TreeEntry, State}
-use Rattle.state_array.specs.Layout.{word, child, entry}
+use Rattle.state_array.specs.Layout.{SLOTS, TREES, TREE-FIELDS, NODE-FIELDS, TREE-HIGH, TREE-LOW, TREE-ROOT, TREE-FOCUS, TREE-EXISTS, TREE, NODE, PARENT-TREE, PARENT-NODE, INDEX, LINKED, GRAFT-HIGH, GRAFT-LOW, FLAGS, FIRST-CHILD, CHILD-COUNT, ACTIVE, ROLE, LABEL-LENGTH, LABEL, FLOATS, countOf, treeCountOf, word, child, entry}
 use Rattle.state_array.specs.View.{idIn, linkIn, linkOf, shapeIn, childrenIn, labelByte, labelIn, floatIn, boundsIn, transformIn, bodyIn, nodeIn, treeIn, entryIn, view}
 use Rattle.state_array.specs.Stored.{noNode, noState, noTree, linkRow, labelWord, floatsOf, bodyOf, childrenBefore, rowOf, nodeWord, treeRow, treeWord, stored, Fits}
 use Rattle.state_array.proofs.Labels.{float-forth, le-byte}
@@ -53,34 +53,34 @@ module _ (a : State) (fit : Fits a) where
     abbrev n : NodeState
     n = getD (a .forest .nodes) i noState
 
-    at : (f : ℕ) → f < 28 → word (stored a) f i ≡ nodeWord (a .forest .nodes) f i
+    at : (f : ℕ) → f < NODE-FIELDS → word (stored a) f i ≡ nodeWord (a .forest .nodes) f i
     at f h = stored-word a (fit .nodes) f i h l
 
     id-stored : idIn (stored a) i ≡ n .id
     unfolding idIn nodeWord rowOf
     id-stored =
-        let cut : min (word (stored a) 0 i) 4294967295 ≡ n .id .tree .0 = omega (arith, at 0 (omega arith), fit .each i l .tree) in
-        λ z. record { tree = record { 0 = cut z }; node = record { 0 = at 1 (omega arith) z } }
+        let cut : min (word (stored a) TREE i) 4294967295 ≡ n .id .tree .0 = omega (arith, at TREE (omega arith), fit .each i l .tree) in
+        λ z. record { tree = record { 0 = cut z }; node = record { 0 = at NODE (omega arith) z } }
 
     link-stored : linkOf (linkIn (stored a) i) ≡ n .parentAndIndex
     unfolding linkIn nodeWord rowOf
     link-stored = ap linkOf row ∙ link-back (n .parentAndIndex)
       where
-        cut : min (word (stored a) 2 i) 4294967295 ≡ linkRow (n .parentAndIndex) .parent .tree .0
-        cut = omega (arith, at 2 (omega arith), link-below (n .parentAndIndex) (fit .each i l .parent))
+        cut : min (word (stored a) PARENT-TREE i) 4294967295 ≡ linkRow (n .parentAndIndex) .parent .tree .0
+        cut = omega (arith, at PARENT-TREE (omega arith), link-below (n .parentAndIndex) (fit .each i l .parent))
 
         row : linkIn (stored a) i ≡ linkRow (n .parentAndIndex)
         row = λ z. record {
-          parent = record { tree = record { 0 = cut z }; node = record { 0 = at 3 (omega arith) z } };
-          index = at 4 (omega arith) z;
-          linked = at 5 (omega arith) z;
+          parent = record { tree = record { 0 = cut z }; node = record { 0 = at PARENT-NODE (omega arith) z } };
+          index = at INDEX (omega arith) z;
+          linked = at LINKED (omega arith) z;
         }
 
     children-stored : (own : NodeId) → childrenIn (stored a) own (shapeIn (stored a) i) ≡ n .body .children
     unfolding childrenIn shapeIn nodeWord rowOf bodyOf
     children-stored own =
-        ap (λ m. listOf m (λ j. record { 0 = child (stored a) (own .0) (word (stored a) 9 i + j) })) (at 10 (omega arith))
-        ∙ ap (λ m. listOf (length (n .body .children)) (λ j. record { 0 = child (stored a) (own .0) (m + j) })) (at 9 (omega arith))
+        ap (λ m. listOf m (λ j. record { 0 = child (stored a) (own .0) (word (stored a) FIRST-CHILD i + j) })) (at CHILD-COUNT (omega arith))
+        ∙ ap (λ m. listOf (length (n .body .children)) (λ j. record { 0 = child (stored a) (own .0) (m + j) })) (at FIRST-CHILD (omega arith))
         ∙ list-of-each noNode (n .body .children) _ each
       where
         each : (j : ℕ) → j < length (n .body .children)
@@ -91,7 +91,7 @@ module _ (a : State) (fit : Fits a) where
             ∙ entries-at (a .forest .nodes) i j l h
 
     -- word k of the label
-    label-word : (k : ℕ) → k < 4 → nodeWord (a .forest .nodes) (14 + k) i ≡ labelWord (n .body .label) k
+    label-word : (k : ℕ) → k < 4 → nodeWord (a .forest .nodes) (LABEL + k) i ≡ labelWord (n .body .label) k
     unfolding nodeWord rowOf bodyOf listOf
     label-word zero h = refl
     label-word (suc zero) h = refl
@@ -101,20 +101,20 @@ module _ (a : State) (fit : Fits a) where
 
     label-stored : labelIn (stored a) i ≡ n .body .label
     unfolding labelIn nodeWord rowOf bodyOf labelByte
-    label-stored = ap (λ m. listOf m (labelByte (stored a) i)) (at 13 (omega arith)) ∙ list-of-each 0 (n .body .label) (labelByte (stored a) i) each
+    label-stored = ap (λ m. listOf m (labelByte (stored a) i)) (at LABEL-LENGTH (omega arith)) ∙ list-of-each 0 (n .body .label) (labelByte (stored a) i) each
       where
         each : (j : ℕ) → j < length (n .body .label) → labelByte (stored a) i j ≡ getD (n .body .label) j 0
         each j h =
             let short = field-rules (n .body) (fit .each i l .body .fields) .label-limit in
             let e : 8 * (j / 8) + j % 8 ≡ j = omega arith in
-            rw (lt-ltb j 32 (omega arith), at (14 + j / 8) (omega arith), label-word (j / 8) (omega arith))
+            rw (lt-ltb j 32 (omega arith), at (LABEL + j / 8) (omega arith), label-word (j / 8) (omega arith))
             (le-byte 8 (j % 8) (8 * (j / 8)) (n .body .label) (fit .each i l .body .bytes) (omega arith) ∙ ap (λ m. getD (n .body .label) m 0) e)
 
-    float-stored : (k : ℕ) → k < 10 → nodeWord (a .forest .nodes) (18 + k) i ≡ toBits binary64 (getD (floatsOf (n .body)) k (ofBits binary64 0))
+    float-stored : (k : ℕ) → k < 10 → nodeWord (a .forest .nodes) (FLOATS + k) i ≡ toBits binary64 (getD (floatsOf (n .body)) k (ofBits binary64 0))
         → floatIn (stored a) i k ≡ getD (floatsOf (n .body)) k (ofBits binary64 0)
     unfolding floatsOf
     float-stored k h e =
-        ap (ofBits binary64) (at (18 + k) (omega arith) ∙ e)
+        ap (ofBits binary64) (at (FLOATS + k) (omega arith) ∙ e)
         ∙ float-forth (getD (floatsOf (n .body)) k (ofBits binary64 0)) (all-at (fits binary64) (floatsOf (n .body)) (ofBits binary64 0) (fit .each i l .body .floats) k h)
 
     node-stored : nodeIn (stored a) i ≡ n
@@ -123,12 +123,12 @@ module _ (a : State) (fit : Fits a) where
       id = id-stored z;
       parentAndIndex = link-stored z;
       body = record {
-        activeDescendant = record { 0 = at 11 (omega arith) z };
-        graft = record { high = at 6 (omega arith) z; low = at 7 (omega arith) z };
+        activeDescendant = record { 0 = at ACTIVE (omega arith) z };
+        graft = record { high = at GRAFT-HIGH (omega arith) z; low = at GRAFT-LOW (omega arith) z };
         children = children-stored (idIn (stored a) i .node) z;
         label = label-stored z;
-        role = at 12 (omega arith) z;
-        flags = at 8 (omega arith) z;
+        role = at ROLE (omega arith) z;
+        flags = at FLAGS (omega arith) z;
         bounds = record {
           x0 = float-stored 0 (omega arith) refl z;
           y0 = float-stored 1 (omega arith) refl z;
@@ -155,23 +155,23 @@ module _ (a : State) (fit : Fits a) where
     subtree = (ap {B = Option Subtree} (λ r. if eqb (r .exists) 0 then none else some (record { root = r .root; focus = r .focus })) row ∙ tree-back (getD (a .forest .trees) k noTree .subtree) (getD (a .forest .trees) k noTree) refl) z;
   }
     where
-      at : (j : ℕ) → j < 5 → entry (stored a) j k ≡ treeWord (getD (a .forest .trees) k noTree) j
+      at : (j : ℕ) → j < TREE-FIELDS → entry (stored a) j k ≡ treeWord (getD (a .forest .trees) k noTree) j
       at j h = stored-entry a (fit .trees) j k h l
 
       row : treeIn (stored a) k ≡ treeRow (getD (a .forest .trees) k noTree)
       row = λ z. record {
-        id = record { high = at 0 (omega arith) z; low = at 1 (omega arith) z };
-        root = record { 0 = at 2 (omega arith) z };
-        focus = record { 0 = at 3 (omega arith) z };
-        exists = at 4 (omega arith) z;
+        id = record { high = at TREE-HIGH (omega arith) z; low = at TREE-LOW (omega arith) z };
+        root = record { 0 = at TREE-ROOT (omega arith) z };
+        focus = record { 0 = at TREE-FOCUS (omega arith) z };
+        exists = at TREE-EXISTS (omega arith) z;
       }
 
   -- nothing of a state is lost in its image
   pub view-stored : view (stored a) ≡ a
   unfolding view
   view-stored =
-      let nodes : min (getD (stored a) 0 0) 320 ≡ length (a .forest .nodes) = omega (arith, stored-count a, fit .nodes) in
-      let trees : min (getD (stored a) 1 0) 33 ≡ length (a .forest .trees) = omega (arith, stored-trees a, fit .trees) in
+      let nodes : min (countOf (stored a)) SLOTS ≡ length (a .forest .nodes) = omega (arith, stored-count a, fit .nodes) in
+      let trees : min (treeCountOf (stored a)) (TREES + 1) ≡ length (a .forest .trees) = omega (arith, stored-trees a, fit .trees) in
       λ z. record {
         forest = record {
           nodes = (ap (λ m. listOf m (nodeIn (stored a))) nodes ∙ list-of-each noState (a .forest .nodes) (nodeIn (stored a)) node-stored) z;

@@ -13,9 +13,10 @@ use Rattle.base.specs.Bytes.{le, listOf, sumOf}
 use Rattle.base.specs.Regions.{Part, part, image}
 use Rattle.ids.specs.Ids.{ROOT}
 use Rattle.ids.specs.declared.NodeId.{NodeId}
+use Rattle.ids.specs.declared.FullNodeId.{FullNodeId}
 use Rattle.record.specs.Batch.{NodeData, fieldsOk}
 use Rattle.state.specs.State.{ParentAndIndex, NodeState, TreeEntry, State}
-use Rattle.state_array.specs.Layout.{HEAD, TREES, TREE-FIELDS, SLOTS, NODE-FIELDS, ENTRIES, word, GRAFT-HIGH, GRAFT-LOW, FLAGS, CHILD-COUNT, ACTIVE, ROLE, LABEL-LENGTH, FLOATS}
+use Rattle.state_array.specs.Layout.{HEAD, HEAD-FIELDS, TREES, TREE-FIELDS, SLOTS, NODE-FIELDS, ENTRIES, word, GRAFT-HIGH, GRAFT-LOW, FLAGS, CHILD-COUNT, ACTIVE, ROLE, LABEL-LENGTH, FLOATS}
 use Rattle.state_array.specs.View.{labelIn}
 use Rattle.state_array.specs.declared.LinkRow.{LinkRow}
 use Rattle.state_array.specs.declared.TreeRow.{TreeRow}
@@ -98,23 +99,49 @@ bodyWords s i = record {
 abbrev pub childrenBefore : List NodeState → ℕ → ℕ
 childrenBefore ns i = sumOf i (λ j. length (getD ns j noState .body .children))
 
--- the words of a node, in the order of the fields; its children start at entry `first`
+-- ## The words of a row, in the order of the fields
+
+-- an id
+abbrev pub idPair : FullNodeId → List ℕ
+idPair x = x .tree .0 ∷ x .node .0 ∷ []
+
+-- a link
+abbrev pub linkWords : LinkRow → List ℕ
+linkWords l = l .parent .tree .0 ∷ l .parent .node .0 ∷ l .index ∷ l .linked ∷ []
+
+-- data: what stands before the first child
+abbrev pub graftWords : Body → List ℕ
+graftWords d = d .graft .high ∷ d .graft .low ∷ d .flags ∷ []
+
+-- what stands after it up to the label
+abbrev pub countWords : Body → List ℕ
+countWords d = d .«child_count» ∷ d .«active_descendant» .0 ∷ d .role ∷ d .«label_length» ∷ []
+
+-- all that stands after it
+abbrev pub dataWords : Body → List ℕ
+dataWords d = countWords d ++ (d .label ++ d .floats)
+
+-- a tree
+abbrev pub treeWords : TreeRow → List ℕ
+treeWords t = t .id .high ∷ t .id .low ∷ t .root .0 ∷ t .focus .0 ∷ t .exists ∷ []
+
+-- the head: how many nodes, how many trees, the host flag
+abbrev pub headWords : ℕ → ℕ → ℕ → List ℕ
+headWords nodes trees host = nodes ∷ trees ∷ host ∷ []
+
+-- ## Nodes, trees and children
+
+-- a node's; its children start at entry `first`
 unfoldable pub rowOf : ℕ → NodeState → List ℕ
 rowOf first n =
-    let l = linkRow (n .parentAndIndex) in
     let d = bodyOf (n .body) in
-    n .id .tree .0 ∷ n .id .node .0
-    ∷ l .parent .tree .0 ∷ l .parent .node .0 ∷ l .index ∷ l .linked
-    ∷ d .graft .high ∷ d .graft .low ∷ d .flags ∷ first ∷ d .«child_count» ∷ d .«active_descendant» .0 ∷ d .role ∷ d .«label_length»
-    ∷ (d .label ++ d .floats)
+    idPair (n .id) ++ (linkWords (linkRow (n .parentAndIndex)) ++ (graftWords d ++ (first ∷ dataWords d)))
 
 -- field f of node i
 unfoldable pub nodeWord : List NodeState → ℕ → ℕ → ℕ
 nodeWord ns f i = getD (rowOf (childrenBefore ns i) (getD ns i noState)) f 0
 
--- ## Trees and children
-
--- the words of a tree: root and focus are 0 while it does not exist
+-- a tree's row: root and focus are 0 while it does not exist
 unfoldable pub treeRow : TreeEntry → TreeRow
 treeRow e =
     elim (e .subtree) [
@@ -124,9 +151,7 @@ treeRow e =
 
 -- field j of a tree
 unfoldable pub treeWord : TreeEntry → ℕ → ℕ
-treeWord e j =
-    let t = treeRow e in
-    getD (t .id .high ∷ t .id .low ∷ t .root .0 ∷ t .focus .0 ∷ t .exists ∷ []) j 0
+treeWord e j = getD (treeWords (treeRow e)) j 0
 
 -- the children of all nodes, run after run
 unfoldable pub entriesOf : List NodeState → List NodeId
@@ -135,14 +160,14 @@ entriesOf (n ∷ ns) = n .body .children ++ entriesOf ns
 
 -- ## The image
 
--- the head: how many nodes, how many trees, the host flag
+-- word k of the head
 unfoldable pub headWord : State → ℕ → ℕ
-headWord a k = getD (length (a .forest .nodes) ∷ length (a .forest .trees) ∷ (if a .hostFocused then 1 else 0) ∷ []) k 0
+headWord a k = getD (headWords (length (a .forest .nodes)) (length (a .forest .trees)) (if a .hostFocused then 1 else 0)) k 0
 
--- the regions in their order: the head, five fields of 32 trees, 28 fields of 320 nodes, 512 child entries
+-- the regions in their order: the head, the fields of the trees, the fields of the nodes, the child entries
 abbrev pub parts : State → List Part
 parts a =
-    part HEAD 3 (headWord a)
+    part HEAD HEAD-FIELDS (headWord a)
     ∷ (listOf TREE-FIELDS (λ j. part TREES (length (a .forest .trees)) (λ k. treeWord (getD (a .forest .trees) k noTree) j))
     ++ (listOf NODE-FIELDS (λ f. part SLOTS (length (a .forest .nodes)) (nodeWord (a .forest .nodes) f))
     ++ part ENTRIES (length (entriesOf (a .forest .nodes))) (λ j. getD (entriesOf (a .forest .nodes)) j noNode .0) ∷ []))

@@ -1,5 +1,5 @@
 -- What the state in memory stands for: any list of words is an abstract state, which may be unsound.
--- A node count past the last slot shows all slots, more nodes than a sound state has. A tree count past the table shows 33 trees,
+-- A node count past the last slot shows all slots, more nodes than a sound state has. A tree count past the table shows one tree more than it has,
 -- more than a sound state has. A tree number is cut at 2^32 - 1, past the 32 trees of a sound state: so no cut number is a sound state's id.
 -- A child entry that there is no room for is shown as the node's own number, and a node that is its own child is never met exactly once:
 -- so no sound state has a child range that leaves the entries. A label longer than its room is shown with that length. A float is its bit
@@ -24,7 +24,7 @@ use Rattle.state_array.specs.declared.LinkRow.{LinkRow}
 use Rattle.state_array.specs.declared.ShapeRow.{ShapeRow}
 use Rattle.state_array.specs.declared.TreeRow.{TreeRow}
 use Rattle.state.specs.State.{ParentAndIndex, NodeState, TreeEntry, Forest, State}
-use Rattle.state_array.specs.Layout.{countOf, treeCountOf, hostOf, entry, word, child, TREE-HIGH, TREE-LOW, TREE-ROOT, TREE-FOCUS, TREE-EXISTS, TREE, NODE, PARENT-TREE, PARENT-NODE, INDEX, LINKED, GRAFT-HIGH, GRAFT-LOW, FLAGS, FIRST-CHILD, CHILD-COUNT, ACTIVE, ROLE, LABEL-LENGTH, LABEL, FLOATS}
+use Rattle.state_array.specs.Layout.{SLOTS, TREES, countOf, treeCountOf, hostOf, entry, word, child, TREE-HIGH, TREE-LOW, TREE-ROOT, TREE-FOCUS, TREE-EXISTS, TREE, NODE, PARENT-TREE, PARENT-NODE, INDEX, LINKED, GRAFT-HIGH, GRAFT-LOW, FLAGS, FIRST-CHILD, CHILD-COUNT, ACTIVE, ROLE, LABEL-LENGTH, LABEL, FLOATS}
 
 -- ## What a slot holds
 
@@ -119,11 +119,11 @@ entryIn s k =
 
 -- the slots that hold nodes
 abbrev pub slotsOf : List ℕ → ℕ
-slotsOf s = min (countOf s) 320
+slotsOf s = min (countOf s) SLOTS
 
--- the tree numbers that are taken
+-- the tree numbers that are taken, one more than the table has where there are too many
 abbrev pub treesOf : List ℕ → ℕ
-treesOf s = min (treeCountOf s) 33
+treesOf s = min (treeCountOf s) (TREES + 1)
 
 abbrev pub nodesOf : List ℕ → List NodeState
 nodesOf s = listOf (slotsOf s) (nodeIn s)

@@ -1,14 +1,16 @@
 // The state in memory: one array of words, nodes in ascending order of id. Any words are a value; specs/View says what they stand for.
 // It is lent whole, so a function takes one argument for it, and no call copies it.
 ghost use mathlib.Core.Path.{_≡_};
-ghost use Prim.Native.Nat.{_+_, _<_, _%_, _^_, min};
-ghost use lib.ListN.{length};
+ghost use Prim.Native.Nat.{_+_, _≤_, _<_, _%_, _^_, min};
+ghost use lib.Dec.{ltb};
+ghost use lib.ListN.{length, set};
+ghost use Rattle.base.specs.Tests.{_&&_, if_then_else_};
 ghost use Rattle.base.specs.Bytes.{bit, listOf};
-ghost use Rattle.state.specs.State.{blank};
 ghost use Rattle.state_array.specs.Layout as at;
-ghost use Rattle.state_array.specs.Layout.{blankWords, hostOf, entry, word, child};
-ghost use Rattle.state_array.specs.View.{view, slotsOf, treesOf, idIn, linkIn, shapeIn, labelByte, labelIn, floatIn, boundsIn, transformIn, treeIn};
-ghost use Rattle.state_array.specs.Stored.{labelWord, floatWords, bodyWords};
+ghost use Rattle.state_array.specs.Layout.{blankWords, hostOf, entry, word, child, place, entryPlace, childPlace};
+ghost use Rattle.state_array.specs.View.{slotsOf, treesOf, idIn, linkIn, shapeIn, labelByte, labelIn, floatIn, boundsIn, transformIn, treeIn};
+ghost use Rattle.state_array.specs.Stored.{labelWord, floatWords, bodyWords, graftWords, dataWords};
+ghost use Rattle.state_array.specs.Put.{wordsPut, idPut, linkPut, bodyPut, firstChildPut, childPut, treePut, headPut, hostPut, childEntries};
 use geometry::Affine;
 use geometry::Rect;
 use ids::FullNodeId;
@@ -23,70 +25,74 @@ pub const TREES: usize = 32;
 
 pub const ENTRIES: usize = 512;
 
-// How many fields a node has.
-const FIELDS: usize = 28;
-
 // The most nodes that a sound state has.
 pub const MOST_NODES: usize = 256;
 
-// Where the regions start: the head, the table of trees (5 fields of 32), the nodes (28 fields of 320), the child entries.
-pub const COUNT: usize = 0;
+// The words of the head, of which three are used.
+const COUNT: usize = 0;
 
-pub const TREE_COUNT: usize = 1;
+const TREE_COUNT: usize = COUNT + 1;
 
-pub const HOST: usize = 2;
+const HOST: usize = TREE_COUNT + 1;
 
-pub const TABLE: usize = 8;
+const HEAD: usize = 8;
 
-pub const NODES: usize = 168;
+// The fields of a tree, each one word: the next starts where the one before it ends.
+const TREE_HIGH: usize = 0;
 
-pub const CHILDREN: usize = 9128;
+const TREE_LOW: usize = TREE_HIGH + 1;
 
-pub const WORDS: usize = 9640;
+const TREE_ROOT: usize = TREE_LOW + 1;
 
-// The fields of a tree.
-pub const TREE_HIGH: usize = 0;
+const TREE_FOCUS: usize = TREE_ROOT + 1;
 
-pub const TREE_LOW: usize = 1;
+const TREE_EXISTS: usize = TREE_FOCUS + 1;
 
-pub const TREE_ROOT: usize = 2;
+pub const TREE_FIELDS: usize = TREE_EXISTS + 1;
 
-pub const TREE_FOCUS: usize = 3;
-
-pub const TREE_EXISTS: usize = 4;
-
-// The fields of a node. A label is four fields, and the floats are ten.
+// The fields of a node: a label is four words, and the floats are ten.
 pub const TREE: usize = 0;
 
-pub const NODE: usize = 1;
+pub const NODE: usize = TREE + 1;
 
-pub const PARENT_TREE: usize = 2;
+pub const PARENT_TREE: usize = NODE + 1;
 
-pub const PARENT_NODE: usize = 3;
+pub const PARENT_NODE: usize = PARENT_TREE + 1;
 
-pub const INDEX: usize = 4;
+pub const INDEX: usize = PARENT_NODE + 1;
 
-pub const LINKED: usize = 5;
+pub const LINKED: usize = INDEX + 1;
 
-pub const GRAFT_HIGH: usize = 6;
+pub const GRAFT_HIGH: usize = LINKED + 1;
 
-pub const GRAFT_LOW: usize = 7;
+pub const GRAFT_LOW: usize = GRAFT_HIGH + 1;
 
-pub const FLAGS: usize = 8;
+pub const FLAGS: usize = GRAFT_LOW + 1;
 
-pub const FIRST_CHILD: usize = 9;
+pub const FIRST_CHILD: usize = FLAGS + 1;
 
-pub const CHILD_COUNT: usize = 10;
+pub const CHILD_COUNT: usize = FIRST_CHILD + 1;
 
-pub const ACTIVE: usize = 11;
+pub const ACTIVE: usize = CHILD_COUNT + 1;
 
-pub const ROLE: usize = 12;
+pub const ROLE: usize = ACTIVE + 1;
 
-pub const LABEL_LENGTH: usize = 13;
+pub const LABEL_LENGTH: usize = ROLE + 1;
 
-pub const LABEL: usize = 14;
+pub const LABEL: usize = LABEL_LENGTH + 1;
 
-pub const FLOATS: usize = 18;
+pub const FLOATS: usize = LABEL + 4;
+
+pub const FIELDS: usize = FLOATS + 10;
+
+// Where the regions start: the head, the table of trees, the nodes, the child entries.
+const TABLE: usize = HEAD;
+
+const NODES: usize = TABLE + TREES * TREE_FIELDS;
+
+const CHILDREN: usize = NODES + SLOTS * FIELDS;
+
+pub const WORDS: usize = CHILDREN + ENTRIES;
 
 // The state.
 pub type State = [u64; WORDS];
@@ -130,7 +136,7 @@ pub struct TreeRow {
 
 // No node and no tree: what a refused start hands back. It is not sound.
 pub fn blank() -> State
-    ensures { λ r. ⌜ view r ≡ blank ⌝ }
+    ensures { λ r. ⌜ r ≡ blankWords ⌝ }
 {
     [0u64; WORDS]
 }
@@ -148,15 +154,23 @@ pub fn slots(state: &State) -> usize
     ensures { λ r. ⌜ r ≡ slotsOf (now (state .entry)) ⌝ }
 {
     let count = state[COUNT];
-    if count < 320 { count as usize } else { SLOTS }
+    if count < SLOTS as u64 {
+        count as usize
+    } else {
+        SLOTS
+    }
 }
 
-// How many trees have numbers; 33 where there are too many.
+// How many trees have numbers; one more than the table has where there are too many.
 pub fn trees(state: &State) -> usize
     ensures { λ r. ⌜ r ≡ treesOf (now (state .entry)) ⌝ }
 {
     let count = state[TREE_COUNT];
-    if count < 33 { count as usize } else { 33 }
+    if count <= TREES as u64 {
+        count as usize
+    } else {
+        TREES + 1
+    }
 }
 
 // 0 where the host has no focus.
@@ -182,7 +196,7 @@ pub fn word_at(state: &State, f: usize, i: usize) -> u64
 
 // How many words a state has. Nothing is known of the length behind a `&mut State` on entry: a writer calls this to know it.
 pub fn size(state: &State) -> usize
-    ensures { λ r. ⌜ (r ≡ 9640) × (length (now (state .entry)) ≡ 9640) ⌝ }
+    ensures { λ r. ⌜ (r ≡ at.WORDS) × (length (now (state .entry)) ≡ at.WORDS) ⌝ }
 {
     let words: &[u64] = state;
     words.len()
@@ -190,7 +204,7 @@ pub fn size(state: &State) -> usize
 
 // Field j of tree k.
 fn entry_at(state: &State, j: usize, k: usize) -> u64
-    requires { ⌜ j < 5 ⌝ }
+    requires { ⌜ j < at.TREE-FIELDS ⌝ }
     ensures { λ r. ⌜ r ≡ entry (now (state .entry)) j k ⌝ }
 {
     if k < TREES {
@@ -410,6 +424,173 @@ pub fn tree_at(state: &State, k: usize) -> TreeRow
         focus: NodeId(entry_at(state, TREE_FOCUS, k)),
         exists: entry_at(state, TREE_EXISTS, k),
     }
+}
+
+// Where field f of slot i stands, past the last word where there is no such place; so with the two below.
+pub fn node_place(f: usize, i: usize) -> usize
+    ensures { λ r. ⌜ r ≡ (if ltb f at.NODE-FIELDS && ltb i at.SLOTS then place f i else at.WORDS) ⌝ }
+{
+    if FIELDS <= f {
+        return WORDS;
+    }
+    if i < SLOTS {
+        NODES + SLOTS * f + i
+    } else {
+        WORDS
+    }
+}
+
+// Where field j of tree k stands.
+pub fn tree_place(j: usize, k: usize) -> usize
+    ensures { λ r. ⌜ r ≡ (if ltb j at.TREE-FIELDS && ltb k at.TREES then entryPlace j k else at.WORDS) ⌝ }
+{
+    if TREE_FIELDS <= j {
+        return WORDS;
+    }
+    if k < TREES {
+        TABLE + TREES * j + k
+    } else {
+        WORDS
+    }
+}
+
+// Where child entry j stands.
+pub fn child_place(j: usize) -> usize
+    ensures { λ r. ⌜ r ≡ (if ltb j at.ENTRIES then childPlace j else at.WORDS) ⌝ }
+{
+    if j < ENTRIES { CHILDREN + j } else { WORDS }
+}
+
+// The child entries, a part of the state.
+pub fn child_entries(state: &State) -> &[u64]
+    ensures { λ r. ⌜ now r ≡ childEntries (now (state .entry)) ⌝ }
+{
+    let words: &[u64] = state;
+    &words[CHILDREN..WORDS]
+}
+
+// Stores the id of slot i. Past the last slot nothing is stored; so with every writer below.
+pub fn put_id(state: &mut State, i: usize, x: FullNodeId)
+    ensures { λ _. ⌜ now (state .exit) ≡ idPut i x (now (state .entry)) ⌝ }
+{
+    if i < SLOTS {
+        let words = [x.tree.0 as u64, x.node.0];
+        put_words(state, TREE, i, &words);
+    }
+}
+
+// Stores its link.
+pub fn put_link(state: &mut State, i: usize, l: LinkRow)
+    ensures { λ _. ⌜ now (state .exit) ≡ linkPut i l (now (state .entry)) ⌝ }
+{
+    if i < SLOTS {
+        let words = [l.parent.tree.0 as u64, l.parent.node.0, l.index, l.linked];
+        put_words(state, PARENT_TREE, i, &words);
+    }
+}
+
+// Stores its data, the children aside.
+pub fn put_body(state: &mut State, i: usize, body: Body)
+    ensures { λ _. ⌜ now (state .exit) ≡ bodyPut i body (now (state .entry)) ⌝ }
+{
+    if i < SLOTS {
+        put_fields(state, i, body);
+    }
+}
+
+// Stores the words of a node's data.
+fn put_fields(state: &mut State, i: usize, body: Body)
+    requires { ⌜ i < at.SLOTS ⌝ }
+    ensures { λ _. ⌜ now (state .exit) ≡ wordsPut at.CHILD-COUNT i (dataWords body) (wordsPut at.GRAFT-HIGH i (graftWords body) (now (state .entry))) ⌝ }
+{
+    let graft = [body.graft.high, body.graft.low, body.flags];
+    put_words(state, GRAFT_HIGH, i, &graft);
+    let counts = [
+        body.child_count,
+        body.active_descendant.0,
+        body.role,
+        body.label_length,
+    ];
+    put_words(state, CHILD_COUNT, i, &counts);
+    let label = body.label;
+    put_words(state, LABEL, i, &label);
+    let floats = body.floats;
+    put_words(state, FLOATS, i, &floats);
+}
+
+// Stores words as the fields from f on of slot i.
+fn put_words(state: &mut State, f: usize, i: usize, words: &[u64])
+    requires { ⌜ (f + length (now words) ≤ at.NODE-FIELDS) × (i < at.SLOTS) ⌝ }
+    ensures { λ _. ⌜ now (state .exit) ≡ wordsPut f i (now (words .entry)) (now (state .entry)) ⌝ }
+{
+    let mut k = 0usize;
+    while k < words.len() {
+        put_word(state, f + k, i, words[k]);
+        k += 1;
+    }
+}
+
+// Stores field f of slot i.
+fn put_word(state: &mut State, f: usize, i: usize, w: u64)
+    requires { ⌜ (f < at.NODE-FIELDS) × (i < at.SLOTS) ⌝ }
+    ensures { λ _. ⌜ now (state .exit) ≡ set (now (state .entry)) (place f i) w ⌝ }
+{
+    state[NODES + SLOTS * f + i] = w;
+}
+
+// Stores where the children of slot i start.
+pub fn put_first_child(state: &mut State, i: usize, first: u64)
+    ensures { λ _. ⌜ now (state .exit) ≡ firstChildPut i first (now (state .entry)) ⌝ }
+{
+    if i < SLOTS {
+        put_word(state, FIRST_CHILD, i, first);
+    }
+}
+
+// Stores child entry j.
+pub fn put_child(state: &mut State, j: usize, x: NodeId)
+    ensures { λ _. ⌜ now (state .exit) ≡ childPut j x (now (state .entry)) ⌝ }
+{
+    if j < ENTRIES {
+        state[CHILDREN + j] = x.0;
+    }
+}
+
+// Stores the row of tree k.
+pub fn put_tree(state: &mut State, k: usize, t: TreeRow)
+    ensures { λ _. ⌜ now (state .exit) ≡ treePut k t (now (state .entry)) ⌝ }
+{
+    if k < TREES {
+        put_entry(state, TREE_HIGH, k, t.id.high);
+        put_entry(state, TREE_LOW, k, t.id.low);
+        put_entry(state, TREE_ROOT, k, t.root.0);
+        put_entry(state, TREE_FOCUS, k, t.focus.0);
+        put_entry(state, TREE_EXISTS, k, t.exists);
+    }
+}
+
+// Stores field j of tree k.
+fn put_entry(state: &mut State, j: usize, k: usize, w: u64)
+    requires { ⌜ (j < at.TREE-FIELDS) × (k < at.TREES) ⌝ }
+    ensures { λ _. ⌜ now (state .exit) ≡ set (now (state .entry)) (entryPlace j k) w ⌝ }
+{
+    state[TABLE + TREES * j + k] = w;
+}
+
+// Stores the head: how many nodes, how many trees, the host flag.
+pub fn put_head(state: &mut State, nodes: u64, trees: u64, host: u64)
+    ensures { λ _. ⌜ now (state .exit) ≡ headPut nodes trees host (now (state .entry)) ⌝ }
+{
+    state[COUNT] = nodes;
+    state[TREE_COUNT] = trees;
+    state[HOST] = host;
+}
+
+// Stores the host flag alone.
+pub fn put_host(state: &mut State, host: u64)
+    ensures { λ _. ⌜ now (state .exit) ≡ hostPut host (now (state .entry)) ⌝ }
+{
+    state[HOST] = host;
 }
 
 // Whether a node grafts a tree, by its flags.

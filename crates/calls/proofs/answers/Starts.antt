@@ -4,10 +4,10 @@ use mathlib.Core.List.{List, []}
 use mathlib.Core.Option.{Option, none, some}
 use mathlib.Core.Path.{_≡_, refl, sym, ap, _∙_}
 use Prim.Native.Nat.{ℕ}
-use lib.ListN.{set}
 use Rattle.base.specs.Tests.{_&&_, if_then_else_, isNone}
 use Rattle.base.specs.Bytes.{listOf}
 use Rattle.base.proofs.Tests.{bit-set}
+use Rattle.ids.specs.Ids.{ROOT}
 use Rattle.ids.specs.declared.NodeId.{NodeId}
 use Rattle.record.specs.Parse.{batchOf}
 use Rattle.record_reader.specs.Reader.{rootOrZero}
@@ -15,6 +15,7 @@ use Rattle.state.specs.State.{State, blank}
 use Rattle.state.specs.Focus.{stateFocus}
 use Rattle.state_array.specs.Layout.{entry}
 use Rattle.state_array.specs.Stored.{stored}
+use Rattle.state_array.specs.Put.{puts, treePut, headPut}
 use Rattle.state_array.specs.View.{treeIn, entryIn, view}
 use Rattle.update.specs.Outcome.{outcome}
 use Rattle.update.specs.Calls as definition
@@ -44,16 +45,16 @@ unfolding seeded
 seed-forest bytes host = refl
 
 -- the words that a start's batch is applied to
-abbrev seedWords : ℕ → ℕ → ℕ → List ℕ
-seedWords flag root focus = set (set (set (set (set blankWords 1 1) 2 flag) 72 root) 104 focus) 136 1
+abbrev seedWords : ℕ → NodeId → NodeId → List ℕ
+seedWords flag root focus = headPut 0 1 flag (treePut 0 (record { id = ROOT; root = root; focus = focus; exists = 1 }) blankWords)
 
 -- show ROOT alone
 pub seed-shows : (bytes : List ℕ) (host flag : ℕ) (root focus : NodeId) → startRows bytes ≡ 0 → flag ≡ (if isSet host then 1 else 0)
-    → root ≡ rootOrZero (batchOf bytes .root) → focus ≡ batchOf bytes .focus → view (seedWords flag (root .0) (focus .0)) ≡ seeded bytes host
-unfolding view treeIn entryIn entry listOf _&&_ seeded seed
+    → root ≡ rootOrZero (batchOf bytes .root) → focus ≡ batchOf bytes .focus → view (seedWords flag root focus) ≡ seeded bytes host
+unfolding view treeIn entryIn entry listOf puts _&&_ seeded seed
 seed-shows bytes host flag root focus passed f r o = go (batchOf bytes .root) refl
   where
-    go : (p : Option NodeId) → batchOf bytes .root ≡ p → view (seedWords flag (root .0) (focus .0)) ≡ seeded bytes host
+    go : (p : Option NodeId) → batchOf bytes .root ≡ p → view (seedWords flag root focus) ≡ seeded bytes host
     go none e = absurd (true≢false (sym (ap isNone e) ∙ start-begun bytes passed .rooted))
     go (some x) e = rw (f, r, o, e, bit-set (isSet host))
 

@@ -4,10 +4,9 @@ use mathlib.Core.List.{List}
 use mathlib.Core.Option.{none, some}
 use mathlib.Core.Path.{_≡_, refl, sym, ap, ap₂, _∙_}
 use Prim.Native.Nat.{ℕ, _+_, _-_, min, _≤_, _<_}
-use native.Mathlib.Decide.{decLt}
 use native.Mathlib.Omega.{arith}
 use lib.Dec.{eqb, ltb}
-use lib.ListN.{length, getD, List·getD-eq-default}
+use lib.ListN.{length, getD}
 use borrow.Author.Tests.{ltb-true, lt-ltb, le-ltb}
 use Rattle.base.proofs.Tests.{call-true, call-false}
 use Rattle.base.specs.Tests.{_&&_, if_then_else_, sameList}
@@ -24,7 +23,9 @@ use Rattle.record.specs.Parse.{batchOf}
 use Rattle.record_reader.specs.Reader.{noNode, listedAt, fieldAt, entriesOf}
 use Rattle.record_reader.proofs.Reader.{node-count-is, field-here, children-count, entries-are, entry-is-child}
 use Rattle.state.specs.State.{NodeState, find}
-use Rattle.state_array.specs.Layout.{child}
+use Rattle.state_array.specs.Layout.{ENTRIES, child}
+use Rattle.state_array.specs.Put.{childEntries}
+use Rattle.state_array.proofs.Put.{entry-lent}
 use Rattle.state_array.specs.View.{idIn, shapeIn, childrenIn, bodyIn, nodeIn, slotsOf, view}
 use Rattle.state_array.specs.Stored.{bodyOf}
 use Rattle.state_array.specs.declared.Body.{Body}
@@ -53,17 +54,6 @@ unfolding view
 slot-fields state bytes c g slot h =
     all-below-at (λ j. fieldsOk (nodeIn state j .body)) (slotsOf state) slot
     (sym (all-indexed (λ (n : NodeState). fieldsOk (n .body)) (slotsOf state) (nodeIn state)) ∙ g .kept .fields) h
-
--- a child entry, as the array holds it from the first entry on
-pub child-is : (state : List ℕ) → length state ≡ 9640 → (own first k : ℕ) → getD state (9128 + min first 512 + k) own ≡ child state own (first + k)
-unfolding child
-child-is state long own first k = go (decLt (first + k) 512)
-  where
-    go : Dec (first + k < 512) → getD state (9128 + min first 512 + k) own ≡ child state own (first + k)
-    go (yes h) =
-        let e : 9128 + min first 512 + k ≡ 9128 + (first + k) = omega arith in
-        rw (lt-ltb (first + k) 512 h, e) (getD-within state (9128 + (first + k)) own 0 (omega arith))
-    go (no h) = rw (le-ltb (first + k) 512 (omega arith)) (List·getD-eq-default state own (omega arith))
 
 -- ## A listed node
 
@@ -104,16 +94,16 @@ module _ {state bytes : List ℕ} {c : Scope} {notes : List ℕ} (told : Told GO
       ∙ ap (λ (x : NodeId). x .0) (entry-is-child bytes (told .given .formed) i k in-batch l)
 
   -- a run of child entries and the run of its children
-  children-same : length state ≡ 9640 → (own : NodeId) (d : ShapeRow) → d .«child_count» ≡ length (listedAt (batchOf bytes) i .body .children)
-      → sameRun state (9128 + min (d .«first_child») 512) notes (NAMED + fieldAt 2 bytes i 32) (own .0) (d .«child_count»)
+  children-same : (own : NodeId) (d : ShapeRow) → d .«child_count» ≡ length (listedAt (batchOf bytes) i .body .children)
+      → sameRun (childEntries state) (min (d .«first_child») ENTRIES) notes (NAMED + fieldAt 2 bytes i 32) (own .0) (d .«child_count»)
       ≡ sameList sameNode (childrenIn state own d) (listedAt (batchOf bytes) i .body .children)
   unfolding sameRun childrenIn sameNode
-  children-same long own d e =
+  children-same own d e =
       let n = d .«child_count» in
       let kids = listedAt (batchOf bytes) i .body .children in
-      all-below-cong n (λ k. eqb (getD state (9128 + min (d .«first_child») 512 + k) (own .0)) (getD notes (NAMED + fieldAt 2 bytes i 32 + k) (own .0)))
+      all-below-cong n (λ k. eqb (getD (childEntries state) (min (d .«first_child») ENTRIES + k) (own .0)) (getD notes (NAMED + fieldAt 2 bytes i 32 + k) (own .0)))
       (λ k. eqb (child state (own .0) (d .«first_child» + k)) (getD kids k noNode .0))
-      (λ k l. ap₂ eqb (child-is state long (own .0) (d .«first_child») k) (child-named (own .0) k (omega arith)))
+      (λ k l. ap₂ eqb (entry-lent state (own .0) (d .«first_child») k) (child-named (own .0) k (omega arith)))
       ∙ list-run sameNode noNode n (λ j. record { 0 = child state (own .0) (d .«first_child» + j) }) kids e
 
   -- ## The word
@@ -177,15 +167,15 @@ module _ {state bytes : List ℕ} {c : Scope} {notes : List ℕ} (told : Told GO
         sym (data-differs (nodeIn state slot .body) (listedAt (batchOf bytes) i .body) (old-is .fits) (new-is .fits) (sym images ∙ call-false e q))
 
     -- where they are, the children decide, as the code finds where they stand
-    pub same-data : {v w : Bool} {own : FullNodeId} {d : ShapeRow} {from to : ℕ} → length state ≡ 9640 → v ≡ sameBody old new → not v ≡ false
-        → own ≡ idIn state slot → d ≡ shapeIn state slot → from ≡ min (d .«first_child») 512 → to ≡ fieldAt 2 bytes i 32
-        → w ≡ sameRun state (9128 + from) notes (NAMED + to) (own .node .0) (d .«child_count»)
+    pub same-data : {v w : Bool} {own : FullNodeId} {d : ShapeRow} {entries : List ℕ} {from to : ℕ} → v ≡ sameBody old new → not v ≡ false
+        → own ≡ idIn state slot → d ≡ shapeIn state slot → from ≡ min (d .«first_child») ENTRIES → to ≡ fieldAt 2 bytes i 32
+        → entries ≡ childEntries state → w ≡ sameRun entries from notes (NAMED + to) (own .node .0) (d .«child_count»)
         → w ≡ sameData (nodeIn state slot .body) (listedAt (batchOf bytes) i .body)
     unfolding nodeIn bodyIn childrenIn
-    same-data long e same id shape first start run =
+    same-data e same id shape first start lent run =
         let d = nodeIn state slot .body in
         let f = listedAt (batchOf bytes) i .body in
         let q = sym images ∙ call-true e same in
         let count = sym (length-list-of (shapeIn state slot .«child_count») _) ∙ children-counted d f (old-is .fits) (new-is .fits) q in
-        run ∙ rw (first, shape, id, start) (children-same long (idIn state slot .node) (shapeIn state slot) count)
+        run ∙ rw (lent, first, shape, id, start) (children-same (idIn state slot .node) (shapeIn state slot) count)
         ∙ sym (data-by-children d f (old-is .fits) (new-is .fits) q)

@@ -1,4 +1,4 @@
--- Laws of the table of trees after a batch, entry by entry, and of roots that go. Assumes nothing.
+-- Laws of roots that go, and of the table of trees after a batch, entry by entry. Assumes nothing.
 use Rattle.record.specs.Parse.{batchOf}
 use Rattle.state_array.specs.declared.TreeRow.{TreeRow}
 use mathlib.Core.Bool.{Bool, true, false}
@@ -13,7 +13,7 @@ use lib.Dec.{eqb, ltb}
 use lib.ListN.{length, getD, length-append, length-map, List·getD-append}
 use lib.Seq.{getD-append-add}
 use borrow.Author.Tests.{lt-ltb, le-ltb, eqb-true, eqb-false, eq-eqb, ne-eqb}
-use Rattle.base.specs.Tests.{if_then_else_, position}
+use Rattle.base.specs.Tests.{_&&_, if_then_else_, position}
 use Rattle.base.specs.Bytes.{listOf}
 use Rattle.base.specs.Search.{First}
 use Rattle.base.proofs.Bytes.{length-list-of, list-of-at, map-list-of}
@@ -21,6 +21,7 @@ use Rattle.ids.specs.Ids.{sameTree}
 use Rattle.ids.proofs.Ids.{same-tree→≡}
 use Rattle.ids.specs.declared.TreeId.{TreeId}
 use Rattle.ids.specs.declared.NodeId.{NodeId}
+use Rattle.ids.specs.declared.TreeIndex.{TreeIndex}
 use Rattle.ids.specs.declared.FullNodeId.{FullNodeId}
 use Rattle.record.specs.Batch.{Batch}
 use Rattle.state.specs.State.{Subtree, TreeEntry, Forest, SubtreeState, subtreeState, subtreeOf}
@@ -34,7 +35,7 @@ use Rattle.update.proofs.Sound.{length-entries-after}
 use Rattle.calls.specs.declared.notes.Scope.{Scope}
 use Rattle.calls.specs.Setting.{rootIn, asked, forest, Given}
 use Rattle.calls.proofs.notes.Positions.{first-cong, position-first, has-position}
-use Rattle.calls.specs.Trees.{treesAfter, treeAfter, ownEntry}
+use Rattle.calls.specs.Trees.{treesAfter, treeAfter, ownEntry, treesCounted, markedGone}
 use Rattle.calls.specs.Layout.{FATES}
 use Rattle.calls.specs.Codes.{idAt, slotAt}
 use Rattle.calls.specs.Says.{Told, PLANNED, goesWord}
@@ -42,6 +43,7 @@ use Rattle.calls.proofs.Outcome.Codes.{gone-absent}
 use Rattle.calls.proofs.notes.Places.{slot-present, slot-id}
 use Rattle.update_focus.proofs.Numbers.{forest-length}
 use Rattle.base.proofs.Tests.{bit-is}
+use Rattle.base.proofs.Cases.{by-order}
 
 -- ## How many trees
 
@@ -117,7 +119,48 @@ root-subtree s b k was e = go (b .root) (subtreeOf s (b .tree)) was e
     go none t none q = rw q
     go none t (some u) q = rw q
 
+-- ## Roots that go
+
+-- the mark of a node, as the code reads it
+module _ (state notes : List ℕ) (x : FullNodeId) {i n : ℕ} (slot : i ≡ slotAt (forest state) x) (count : n ≡ slotsOf state) where
+  pub absent-stays : n ≤ i → false ≡ markedGone state notes x
+  unfolding markedGone _&&_
+  absent-stays h = rw (le-ltb (slotAt (forest state) x) (slotsOf state) (omega (arith, slot)))
+
+  pub mark-tells : i < n → eqb (getD notes (FATES + i) 0) 1 ≡ markedGone state notes x
+  unfolding markedGone _&&_
+  mark-tells h = rw (← slot, lt-ltb i (slotsOf state) (omega arith))
+
+-- and what it says
+pub marked-gone : {state bytes : List ℕ} {c : Scope} {notes : List ℕ} → Told PLANNED state bytes c notes → (x : FullNodeId)
+    → markedGone state notes x ≡ gone (forest state) (asked bytes c) x
+unfolding markedGone _&&_ goesWord
+marked-gone {state} {bytes} {c} {notes} told x = by-order (slotAt (forest state) x) (slotsOf state) present absent
+  where
+    present : slotAt (forest state) x < slotsOf state → markedGone state notes x ≡ gone (forest state) (asked bytes c) x
+    present h =
+        rw (lt-ltb (slotAt (forest state) x) (slotsOf state) h)
+        (ap (λ (w : ℕ). eqb w 1) (told .written 9 (omega arith) (slotAt (forest state) x) h)
+        ∙ bit-is (gone (forest state) (asked bytes c) (idAt (forest state) (slotAt (forest state) x)))
+        ∙ ap (gone (forest state) (asked bytes c)) (slot-id (forest state) x (omega (arith, forest-length state))))
+
+    absent : slotsOf state ≤ slotAt (forest state) x → markedGone state notes x ≡ gone (forest state) (asked bytes c) x
+    absent h =
+        rw (le-ltb (slotAt (forest state) x) (slotsOf state) h)
+        (sym (gone-absent (forest state) (asked bytes c) x
+        (slot-present (forest state) x ∙ le-ltb (slotAt (forest state) x) (length (forest state .nodes)) (omega (arith, forest-length state)))))
+
 -- ## The trees after a batch
+
+-- as the code counts them
+module _ (state : List ℕ) (k : TreeIndex) {n : ℕ} (e : n ≡ treesOf state) where
+  pub count-known : k .0 < n → n ≡ treesCounted state k
+  unfolding treesCounted
+  count-known h = rw (← e, lt-ltb _ _ h)
+
+  pub count-new : n ≤ k .0 → n + 1 ≡ treesCounted state k
+  unfolding treesCounted
+  count-new h = rw (← e, le-ltb _ _ h)
 
 module _ {state bytes : List ℕ} {c : Scope} (g : Given state bytes c) where
   abbrev s : Forest
@@ -132,14 +175,9 @@ module _ {state bytes : List ℕ} {c : Scope} (g : Given state bytes c) where
   table-length = length-list-of (treesOf state) (entryIn state)
 
   -- and after the batch
-  trees-count : length (treesAfter state bytes c) ≡ (if ltb (c .tree .0) (treesOf state) then treesOf state else treesOf state + 1)
+  pub trees-count : length (treesAfter state bytes c) ≡ treesCounted state (c .tree)
+  unfolding treesCounted
   trees-count = trees-length s b ∙ rw (table-length, ← g .scoped .tree)
-
-  pub count-known : {n : ℕ} → n ≡ treesOf state → c .tree .0 < n → n ≡ length (treesAfter state bytes c)
-  count-known e h = rw (trees-count, ← e, lt-ltb _ _ h)
-
-  pub count-new : {n : ℕ} → n ≡ treesOf state → n ≤ c .tree .0 → n + 1 ≡ length (treesAfter state bytes c)
-  count-new e h = rw (trees-count, ← e, le-ltb _ _ h)
 
   -- an entry of the table
   entry-at : (i : ℕ) → i < treesOf state → getD (forest state .trees) i noTree ≡ entryIn state i
@@ -197,6 +235,7 @@ module _ {state bytes : List ℕ} {c : Scope} (g : Given state bytes c) where
   module _ {i : ℕ} (among : i < length (treesAfter state bytes c)) (other : i ≡ c .tree .0 → ⊥) where
     -- it had a number
     other-old : i < treesOf state
+    unfolding treesCounted
     other-old = go (decLt (c .tree .0) (treesOf state))
       where
         go : Dec (c .tree .0 < treesOf state) → i < treesOf state
@@ -220,29 +259,14 @@ module _ {state bytes : List ℕ} {c : Scope} (g : Given state bytes c) where
       other-unborn e q = q ∙ ap treeRow (rw row-is (sym (other-entry ∙ rw (eq-eqb (treeIn state i .exists) 0 (rw row-is at e)))))
 
       -- it exists while its root stays
-      module _ (born : row .exists ≡ 0 → ⊥) {t : Bool} (goes : t ≡ gone (forest state) (asked bytes c) (record { tree = record { 0 = i }; node = row .root })) where
+      module _ {notes : List ℕ} (told : Told PLANNED state bytes c notes) (born : row .exists ≡ 0 → ⊥) {t : Bool}
+          (goes : t ≡ markedGone state notes (record { tree = record { 0 = i }; node = row .root })) where
         other-born : record { id = row .id; subtree = if t then none else some (record { root = row .root; focus = row .focus }) } ≡ treeAfter state bytes c i
         unfolding entryIn subtreeElsewhere
-        other-born = rw row-is (sym (other-entry ∙ rw (ne-eqb (treeIn state i .exists) 0 (rw row-is at born), rw row-is at goes)))
+        other-born = rw row-is (sym (other-entry ∙ rw (ne-eqb (treeIn state i .exists) 0 (rw row-is at born), rw row-is at (goes ∙ marked-gone told (record { tree = record { 0 = i }; node = row .root })))))
 
         pub other-gone : {r : TreeRow} → t ≡ true → r ≡ treeRow (record { id = row .id; subtree = none }) → r ≡ treeRow (treeAfter state bytes c i)
         other-gone e q = q ∙ ap treeRow (rw e at other-born)
 
         pub other-stays : {r : TreeRow} → t ≡ false → r ≡ treeRow (record { id = row .id; subtree = some (record { root = row .root; focus = row .focus }) }) → r ≡ treeRow (treeAfter state bytes c i)
         other-stays e q = q ∙ ap treeRow (rw e at other-born)
-
-module _ {state bytes : List ℕ} {c : Scope} {notes : List ℕ} (told : Told PLANNED state bytes c notes) (x : FullNodeId) {i n : ℕ}
-    (slot : i ≡ slotAt (forest state) x) (count : n ≡ slotsOf state) where
-  -- a node without a slot does not go
-  pub absent-stays : n ≤ i → false ≡ gone (forest state) (asked bytes c) x
-  absent-stays h =
-      sym (gone-absent (forest state) (asked bytes c) x
-      (slot-present (forest state) x ∙ le-ltb (slotAt (forest state) x) (length (forest state .nodes)) (omega (arith, slot, forest-length state))))
-
-  -- of a node with one the mark tells
-  pub mark-tells : i < n → eqb (getD notes (FATES + i) 0) 1 ≡ gone (forest state) (asked bytes c) x
-  unfolding goesWord
-  mark-tells h =
-      ap (λ (w : ℕ). eqb w 1) (told .written 9 (omega arith) i (omega arith))
-      ∙ bit-is (gone (forest state) (asked bytes c) (idAt (forest state) i))
-      ∙ ap (gone (forest state) (asked bytes c)) (ap (idAt (forest state)) slot ∙ slot-id (forest state) x (omega (arith, slot, forest-length state)))

@@ -4,11 +4,11 @@ use mathlib.Core.List.{List}
 use mathlib.Core.Path.{_≡_, sym, _∙_, ap}
 use Prim.Native.Nat.{ℕ, _+_, _-_, _≤_, _<_}
 use native.Mathlib.Omega.{arith}
-use lib.ListN.{length, getD, replicate}
+use lib.ListN.{length, getD}
 use Rattle.record.specs.Batch.{Batch, NodeData, fieldsOk}
 use Rattle.state.specs.State.{Forest, NodeState}
 use Rattle.state_array.specs.View.{nodeIn}
-use Rattle.state_array.specs.Stored.{noState, entriesOf, bodyOf, headWord, stored}
+use Rattle.state_array.specs.Stored.{noState, entriesOf, bodyOf, stored}
 use Rattle.update.specs.Outcome.{linkAfter, outcome}
 use Rattle.calls.specs.declared.notes.Scope.{Scope}
 use Rattle.calls.specs.Layout.{COUNT, CODES, SOURCES}
@@ -24,7 +24,9 @@ use Rattle.calls.proofs.notes.Told.{few-listed, few-named, few-after, b
 use Rattle.calls.proofs.Outcome.Codes.{coded, code-id}
 use Rattle.calls.proofs.Outcome.Nodes.{code-link, source-of}
 use Rattle.calls.proofs.Outcome.Room.{entries-few, trees-few}
-use Rattle.calls.specs.Written.{nodesAfter, nodesWritten, childrenWritten}
+use Rattle.calls.specs.Written.{nodesAfter, hostWord}
+use Rattle.state_array.specs.Layout.{blankWords}
+use Rattle.state_array.specs.Filled.{nodesWritten, childrenWritten, treesWritten, headWritten}
 use native.Mathlib.Decide.{decLt}
 use Rattle.state_array.specs.declared.Body.{Body}
 use Rattle.calls.proofs.notes.Setting.{batched-at}
@@ -33,9 +35,10 @@ use Rattle.state_array.proofs.Labels.{areBytes}
 use Rattle.state_array.proofs.Bodies.{areWords}
 use Rattle.update_bodies.specs.Bodies.{codeBody}
 use Rattle.update_bodies.proofs.Bodies.{code-kept, code-listed}
-use Rattle.base.specs.Regions.{fill}
-use Rattle.state_array.proofs.Filled.{filled-stored}
-use Rattle.calls.specs.Trees.{treesAfter, treesWritten}
+use Rattle.state_array.specs.Put.{headPut}
+use Rattle.state_array.proofs.Filled.{filled-stored, head-stored}
+use Rattle.calls.specs.Trees.{treesAfter, treesCounted}
+use Rattle.calls.proofs.trees.Entries.{trees-count}
 
 module _ {state bytes : List ℕ} {c : Scope} {notes : List ℕ} (told : Told PLANNED state bytes c notes) where
   abbrev s : Forest
@@ -128,9 +131,15 @@ module _ {state bytes : List ℕ} {c : Scope} {notes : List ℕ} (told : Told PL
           ∙ rw (batched-at bytes (asked bytes c) record-of (source - 320)) (ap bodyOf (from .1))
 
 pub outcome-written : {state bytes : List ℕ} {c : Scope} {notes : List ℕ} → Told PLANNED state bytes c notes → {blank nodes children trees end : List ℕ}
-    → blank ≡ replicate 9640 0 → nodes ≡ nodesWritten (nodesAfter state bytes c) blank → children ≡ childrenWritten (nodesAfter state bytes c) nodes
-    → trees ≡ treesWritten (treesAfter state bytes c) children → end ≡ fill 0 3 (headWord (outcomeState state bytes c)) trees → end ≡ stored (outcomeState state bytes c)
+    → blank ≡ blankWords → nodes ≡ nodesWritten (nodesAfter state bytes c) blank → children ≡ childrenWritten (nodesAfter state bytes c) nodes
+    → trees ≡ treesWritten (treesAfter state bytes c) children → end ≡ headWritten (outcomeState state bytes c) trees → end ≡ stored (outcomeState state bytes c)
 outcome-written {state} {bytes} {c} told z n k t h =
     rw (h, t, k, n, z)
     (filled-stored (outcomeState state bytes c) (nodes-room told)
     (trees-few (forest state) (asked bytes c) (told .given .kept) (told .given .numbered)) (entries-room told))
+
+-- the head, as the code finds its words
+pub head-told : {state bytes : List ℕ} {c : Scope} {notes : List ℕ} → Told PLANNED state bytes c notes → (s : List ℕ) {trees host : ℕ} {t : List ℕ}
+    → trees ≡ treesCounted state (c .tree) → host ≡ hostWord state → t ≡ headPut (getD notes COUNT 0) trees host s → t ≡ headWritten (outcomeState state bytes c) s
+head-told {state} {bytes} {c} told s n h e =
+    e ∙ rw (n, h, count-told told, ← trees-count (told .given)) (head-stored (outcomeState state bytes c) s)

@@ -3,21 +3,21 @@ use Prim.Native.Nat.{_+_}
 use native.Mathlib.Omega.{arith}
 use borrow.Author.Needs.{needs}
 use borrow.Author.Tests.{lt-ltb, le-ltb}
-use Rattle.state_array.specs.Layout.{child}
+use Rattle.state_array.specs.Layout.{ENTRIES, child}
 use Rattle.state_array.proofs.child_at.Statement.{statement}
 use Rattle.state_array.proofs.child_at.Tie as tie
 
 returns : tie.Need-returns
 unfolding child
-returns c = let a = c .before .args in rw (le-ltb (a .first + a .j) 512 (omega arith))
+returns c = let a = c .before .args in rw (le-ltb (a .first + a .j) ENTRIES (omega arith))
 
 returns-2 : tie.Need-returns-2
 unfolding child
-returns-2 c = let a = c .before .before .args in rw (le-ltb (a .first + a .j) 512 (omega arith))
+returns-2 c = let a = c .before .before .args in rw (le-ltb (a .first + a .j) ENTRIES (omega arith))
 
 returns-3 : tie.Need-returns-3
 unfolding child
-returns-3 c = let a = c .before .before .before .args in rw (lt-ltb (a .first + a .j) 512 (omega arith))
+returns-3 c = let a = c .before .before .before .args in rw (lt-ltb (a .first + a .j) ENTRIES (omega arith))
 
 pub child-at-spec : {M : Type 1} → statement M
 child-at-spec =

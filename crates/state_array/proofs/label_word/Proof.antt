@@ -3,7 +3,7 @@ use mathlib.Core.Path.{_≡_, sym, _∙_}
 use Prim.Native.Nat.{_+_, _*_, _-_}
 use native.Mathlib.Nat.{mod-one, min-zero}
 use native.Mathlib.Omega.{arith}
-use Rattle.state_array.specs.Layout.{word}
+use Rattle.state_array.specs.Layout.{LABEL-LENGTH, LABEL, word}
 use Rattle.state_array.proofs.Bodies.{label-cut}
 use borrow.Author.Needs.{needs}
 use Rattle.state_array.proofs.label_word.Statement.{statement}
@@ -12,8 +12,8 @@ use Rattle.state_array.proofs.label_word.Tie as tie
 returns : tie.Need-returns
 returns c =
     let a = c .before .before .args in
-    let none : word (a .state .now) 13 (a .i) - 8 * a .k ≡ 0 = omega (arith, c .before .word-at .ensures, c .if1 .taken) in
-    sym (label-cut (a .state .now) (a .i) (a .k) (c .before .before .pre) ∙ rw (none, min-zero 8) (mod-one (word (a .state .now) (14 + a .k) (a .i))))
+    let none : word (a .state .now) LABEL-LENGTH (a .i) - 8 * a .k ≡ 0 = omega (arith, c .before .word-at .ensures, c .if1 .taken) in
+    sym (label-cut (a .state .now) (a .i) (a .k) (c .before .before .pre) ∙ rw (none, min-zero 8) (mod-one (word (a .state .now) (LABEL + a .k) (a .i))))
 
 returns-2 : tie.Need-returns-2
 returns-2 c =

@@ -7,29 +7,10 @@ use Rattle.calls.proofs.seeds.seed.Tie as tie
 
 returns : tie.Need-returns
 returns c =
-    let a = c .before .before .before .before in
-    let shown = seed-shows (now (a .args .batch)) (a .args .host-focused) _ _ _ (a .pre .0) (c .host-flag .ensures) (c .before .before .tree-root .ensures) (c .before .tree-focus .ensures) in
-    rw (a .pre .1) shown
+    let read = c .before .before .before .before .before in
+    let a = read .before .before .before in
+    let shown = seed-shows (now (a .args .batch)) (a .args .host-focused) _ _ _ (a .pre .0) (c .before .host-flag .ensures) (read .before .tree-root .ensures) (read .tree-focus .ensures) in
+    rw (c .put-head .ensures, c .before .before .before .put-tree .ensures, a .pre .1) shown
 
 pub seed-spec : {M : Type 1} → statement M
-seed-spec =
-    tie.close
-    (tie.spec
-    (λ c κs. search needs)
-    (λ c κs. search needs)
-    (λ c. search needs)
-    (λ c κs. search needs)
-    (λ c. search needs)
-    (λ c. search needs)
-    (λ c. search needs)
-    (λ c. search needs)
-    (λ c. search needs)
-    (λ c. search needs)
-    (λ c. search needs)
-    (λ c. search needs)
-    (λ c. search needs)
-    (λ c. search needs)
-    (λ c. search needs)
-    (λ c. search needs)
-    (λ c. search needs)
-    returns)
+seed-spec = tie.close (tie.spec (λ c κs. search needs) (λ c κs. search needs) (λ c κs. search needs) (λ c κs. search needs) (λ c κs. search needs) returns)

@@ -10,7 +10,7 @@ use Rattle.calls.proofs.trees.tree_after.Tie as tie
 root-goes-requires : tie.Need-root-goes-requires
 root-goes-requires c κs =
     let told = c .before .before .before .before .before .before .before .before .pre .0 in
-    (told, omega (arith, trees-few _ _ (told .given .kept) (told .given .numbered)))
+    (told .given .kept .ascending, omega (arith, trees-few _ _ (told .given .kept) (told .given .numbered)))
 
 pub tree-after-spec : {M : Type 1} → statement M
 tree-after-spec =

@@ -1,6 +1,7 @@
 -- `writing::write_children` meets its contract. The runs of the nodes before r are in their places. Assumes nothing.
 use mathlib.Core.List.{List}
 use Rattle.state_array.specs.Stored.{noState}
+use Rattle.state_array.proofs.Filled.{RunsTo, runs-none, runs-more, run-room, runs-all}
 use mathlib.Core.Path.{_≡_}
 use Prim.Native.Nat.{_-_, _≤_, _<_, ℕ, _+_}
 use lib.ListN.{length, getD}
@@ -10,7 +11,7 @@ use Rattle.calls.specs.Says.{Told, PLANNED}
 use Rattle.calls.proofs.notes.Told.{batched}
 use Rattle.calls.specs.Written.{nodesAfter, sourceChildren}
 use Rattle.calls.proofs.writing.Plan.{count-told, node-among, nodes-room, entries-room, source-there}
-use Rattle.calls.proofs.writing.Kids.{source-children, RunsTo, runs-none, runs-more, run-room, runs-all}
+use Rattle.calls.proofs.writing.Kids.{source-children}
 use borrow.Author.Needs.{needs}
 use native.Mathlib.Omega.{arith}
 use Rattle.calls.proofs.writing.write_children.Statement.{statement}
@@ -47,7 +48,7 @@ loop-again c =
       omega arith,
       λ scope told.
           let among = node-among told (c .before .before .before .before .before .loop-test .taken) in
-          rw (c .write-run .ensures .0, c .write-run .ensures .1, c .before .before .put-word .ensures)
+          rw (c .write-run .ensures .0, c .write-run .ensures .1, c .before .before .put-first-child .ensures)
           (runs-more _ (l .r) (l .first) _ _ (l .next) among (omega arith) (kids told among) (l .inv .2 scope told)),
     )
 

@@ -9,9 +9,10 @@ use Rattle.state_array.specs.Stored.{linkRow}
 use Rattle.update_bodies.proofs.Bodies.{floats-fit}
 use Rattle.update_bodies.proofs.Same.{bytes-all}
 use Rattle.calls.specs.Links.{linkWord}
-use Rattle.calls.specs.Written.{nodesAfter, nodesRegions}
+use Rattle.state_array.specs.Filled.{nodesRegions}
+use Rattle.state_array.proofs.Filled.{node-more}
+use Rattle.calls.specs.Written.{nodesAfter}
 use Rattle.calls.proofs.writing.Plan.{count-told, nodes-room, told-compared, code-there, code-few, id-there, link-there, body-there}
-use Rattle.calls.proofs.writing.Kids.{node-more}
 use borrow.Author.Needs.{needs}
 use native.Mathlib.Omega.{arith}
 use Rattle.calls.proofs.writing.write_nodes.Statement.{statement}

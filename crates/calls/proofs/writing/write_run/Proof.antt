@@ -2,10 +2,12 @@
 use mathlib.Core.Path.{ap, _∙_}
 use Prim.Native.Nat.{_+_, _-_}
 use Rattle.state_array.specs.Layout.{childPlace}
-use Rattle.calls.specs.Written.{kidWord, sourceChildren}
+use Rattle.state_array.specs.Filled.{kidWord}
+use Rattle.calls.specs.Written.{sourceChildren}
 use borrow.Author.Needs.{needs}
 use native.Mathlib.Omega.{arith}
-use Rattle.base.proofs.Loops.{Filling, filling-begins, filling-goes, filling-ends}
+use Rattle.base.proofs.Loops.{Filling, filling-begins, filling-ends}
+use Rattle.calls.proofs.writing.Kids.{run-goes}
 use Rattle.calls.proofs.writing.write_run.Statement.{statement}
 use Rattle.calls.proofs.writing.write_run.Tie as tie
 
@@ -29,8 +31,9 @@ write-run-spec =
     (λ c κs. search needs)
     (λ c. filling-begins (omega arith))
     (λ c κs. omega (arith, c .before .before .child-count .ensures))
-    (λ c. omega (arith, c .before .before .before .child-count .ensures))
-    (λ c. search needs) (λ c. search needs) (λ c. search needs) (λ c. search needs) (λ c. search needs)
-    (λ c. search filling-goes)
+    (λ c. omega (arith, c .before .before .before .before .child-count .ensures))
+    (λ c κs. search needs)
+    (λ c. search needs) (λ c. search needs)
+    (λ c. search run-goes)
     (λ c. omega (arith, c .before .before .child-count .ensures))
     returns)
