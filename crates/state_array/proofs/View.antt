@@ -12,8 +12,8 @@ use Rattle.base.specs.Tests.{_&&_, if_then_else_}
 use Rattle.base.specs.Bytes.{listOf}
 use Rattle.base.proofs.Bytes.{map-list-of}
 use Rattle.base.proofs.Indexed.{list-of-cong}
-use Rattle.state.specs.State.{idsOf, blank}
-use Rattle.state_array.specs.Layout.{WORDS, SLOTS, TREES, ENTRIES, TREE-FIELDS, NODE-FIELDS, COUNT, TREE-COUNT, HOST, entryPlace, entry, place, word, childPlace, child, TREE-HIGH, TREE-LOW, TREE-ROOT, TREE-FOCUS, TREE-EXISTS, TREE, NODE, PARENT-TREE, PARENT-NODE, INDEX, LINKED, GRAFT-HIGH, GRAFT-LOW, FLAGS, FIRST-CHILD, CHILD-COUNT, ACTIVE, ROLE, LABEL-LENGTH, LABEL, FLOATS, countOf, treeCountOf, hostOf}
+use Rattle.state.specs.State.{idsOf}
+use Rattle.state_array.specs.Layout.{WORDS, SLOTS, TREES, ENTRIES, TREE-FIELDS, NODE-FIELDS, COUNT, TREE-COUNT, HOST, entryPlace, entry, place, word, childPlace, child, TREE-HIGH, TREE-LOW, TREE-ROOT, TREE-FOCUS, TREE-EXISTS, TREE, NODE, PARENT-TREE, PARENT-NODE, INDEX, LINKED, GRAFT-HIGH, GRAFT-LOW, FLAGS, FIRST-CHILD, CHILD-COUNT, ACTIVE, ROLE, LABEL-LENGTH, LABEL, FLOATS}
 use Rattle.state_array.specs.View.{slotsOf, treesOf, view, treeIn, entryIn, idIn, linkIn, linkOf, shapeIn, labelByte, labelIn, boundsIn, transformIn, childrenIn, bodyIn, nodeIn}
 use Rattle.state_array.specs.Put.{hostPut}
 
@@ -21,14 +21,6 @@ use Rattle.state_array.specs.Put.{hostPut}
 pub view-ids : (s : List ℕ) → idsOf (view s .forest .nodes) ≡ listOf (slotsOf s) (idIn s)
 unfolding view idsOf nodeIn
 view-ids s = map-list-of (λ k. k .id) (slotsOf s) (nodeIn s)
-
--- without nodes, trees and host focus the view is the empty state
-pub view-blank : (s : List ℕ) → countOf s ≡ 0 → treeCountOf s ≡ 0 → hostOf s ≡ 0 → view s ≡ blank
-unfolding view blank listOf
-view-blank s n m h = λ i. record {
-  forest = record { nodes = listOf (min (n i) SLOTS) (nodeIn s); trees = listOf (min (m i) (TREES + 1)) (entryIn s) };
-  hostFocused = not (eqb (h i) 0);
-}
 
 -- ## The host flag
 
