@@ -82,7 +82,7 @@ fn is_first_sibling_in_parent_bbox(
     geometry_box::do_meet(links::bounding_box(state, parents, sibling), bbox)
 }
 
-// Whether a node lies outside the box of its filtered parent, which clips its children, and so do its neighbours. They are asked last.
+// Whether a node lies outside the box of its filtered parent, which clips its children, and no neighbour of it lies inside. The neighbours are asked last.
 fn is_clipped(state: &State, parents: &[u16], focused: usize, i: usize) -> bool
     requires { ⌜ Unhidden (now state) focused i ⌝ }
     ensures { λ r. ⌜ OfSlot (now (state .entry)) i (λ f x. (isTransparent f x ≡ false → r ≡ isClipped (view (now (state .entry))) x)) ⌝ }
