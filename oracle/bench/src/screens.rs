@@ -109,6 +109,19 @@ pub fn clipping_chain(nodes: u64) -> Screen {
     .screen()
 }
 
+/// The same, with the last two below one node.
+pub fn forked_chain(nodes: u64) -> Screen {
+    let data = |_| with(meeting(), ORDINARY, CLIPS);
+    Plan {
+        name: "a chain, clipping, forked at its end",
+        nodes,
+        parent: Box::new(move |i| if i + 1 == nodes { nodes - 3 } else { above(i) }),
+        data: Box::new(data),
+        number: consecutive,
+    }
+    .screen()
+}
+
 /// States whose last node is deep or has many siblings; below it is nothing, or nothing that is listed.
 pub fn ends(nodes: u64) -> Vec<Screen> {
     let last = nodes - 1;

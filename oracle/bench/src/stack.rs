@@ -1,8 +1,8 @@
-//! The deepest stack of each call and question on a chain of 256 nodes: the memory below a frame is painted, and what
-//! a call has written over is looked for.
+//! The deepest stack of each call, and of each question over the nodes of two chains of 256: the memory below a frame
+//! is painted, and what a call has written over is looked for.
 use crate::inputs::{Batch, Shape};
 use crate::questions::*;
-use crate::screens::{Screen, clipping_chain};
+use crate::screens::{Screen, clipping_chain, forked_chain};
 use calls::plain::Id;
 use cartgravel::{CHANGES, STACK, TreeId, WAY_WORDS, sys};
 use std::hint::black_box;
@@ -45,15 +45,18 @@ fn done<T>(answer: T) {
 pub fn print() {
     println!("\n| call | answer, bytes | stack, bytes |\n|---|---|---|");
     calls();
-    let screen = clipping_chain(256);
+    let screens = [clipping_chain(256), forked_chain(256)];
     for (words, size, question) in questions() {
-        let deepest = screen.ids.iter().map(|id| question_stack(&screen, question, *id)).max();
-        line(words, size, deepest.expect("the chain has nodes"));
+        line(words, size, deepest(&screens, |screen, id| question_stack(screen, question, id)));
     }
-    let last = screen.ids[255];
-    reading(&screen.ours, last);
-    let mut walk = sys::Walk { node: named(last), side: FOLLOWING, filter: COMMON, count: 0 };
-    line("`cartgravel_next`", size_of::<sys::FoundId>(), stack_of(&mut || done(walk.next(&screen.ours))));
+    reading(&screens[0].ours, screens[0].ids[255]);
+    line("`cartgravel_next`", size_of::<sys::FoundId>(), deepest(&screens, step_stack));
+}
+
+/// The most that is taken over the nodes of some screens.
+fn deepest(screens: &[Screen], taken: impl Fn(&Screen, Id) -> usize) -> usize {
+    let of_screen = |screen: &Screen| screen.ids.iter().map(|id| taken(screen, *id)).max();
+    screens.iter().filter_map(of_screen).max().expect("there are nodes")
 }
 
 /// The questions about a node's own data, the trees and the focus.
@@ -76,6 +79,12 @@ fn reading(state: &sys::State, last: Id) {
 fn question_stack(screen: &Screen, question: Question, id: Id) -> usize {
     let mut room = [0; _];
     stack_of(&mut || done(ours(&screen.ours, question, id, &mut room)))
+}
+
+/// The stack of the first step of a walk.
+fn step_stack(screen: &Screen, id: Id) -> usize {
+    let mut walk = sys::Walk { node: named(id), side: FOLLOWING, filter: COMMON, count: 0 };
+    stack_of(&mut || done(walk.next(&screen.ours)))
 }
 
 /// The three calls, with as many nodes listed as a record has.
