@@ -1,9 +1,7 @@
 // Why rows 9 to 14 refuse a batch: the number of what makes the first of them hold, the ids that the notes have of it, its tree and place.
 ghost use mathlib.Core.Path.{_≡_};
 ghost use Prim.Native.Nat.{_+_, _<_};
-ghost use Rattle.record.specs.Parse.{batchOf};
-ghost use Rattle.record_reader.specs.Reader.{listedAt};
-ghost use Rattle.reasons.specs.Reasons.{claimedTwice, withoutPlace};
+ghost use Rattle.reasons.specs.Reasons.{withoutPlace};
 ghost use Rattle.reasons_why.specs.Why.{found, whyOf, whyFor};
 ghost use Rattle.calls.specs.Layout.{LISTED, NAMED};
 ghost use Rattle.calls.specs.Noted.{idNoted};
@@ -11,7 +9,7 @@ ghost use Rattle.calls.specs.Setting.{forest, asked};
 ghost use Rattle.calls.specs.Says.{Told, READ};
 ghost use Rattle.calls.specs.Causes.{causeReason, Within};
 ghost use Rattle.calls.specs.Pass.{rowReason};
-ghost use Rattle.calls.specs.WhyPass.{namerAt, plainNodes};
+ghost use Rattle.calls.specs.WhyPass.{namerAt, claimedNoted, plainNodes};
 use crate::notes;
 use crate::notes::Notes;
 use crate::notes::Scope;
@@ -88,7 +86,7 @@ fn named_twice<'a>(
 // 12: listed node i claims the tree that listed node m claimed before.
 fn claimed_twice<'a>(batch: &'a [u8], scope: Scope, notes: &'a Notes, i: usize, m: usize) -> Why
     requires { ⌜ (i < 64) × (m < 64) ⌝ }
-    ensures { λ r. ⌜ r ≡ whyOf (claimedTwice (listedAt (batchOf (now (batch .entry))) i .body .graft) (idNoted scope (now (notes .entry)) (LISTED + m)) (idNoted scope (now (notes .entry)) (LISTED + i))) ⌝ }
+    ensures { λ r. ⌜ r ≡ whyOf (claimedNoted (now (batch .entry)) scope (now (notes .entry)) i m) ⌝ }
 {
     let tree = record_reader::graft(batch, i);
     let x = notes::listed_id(scope, notes, i);

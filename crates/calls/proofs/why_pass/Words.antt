@@ -15,12 +15,11 @@ use Rattle.ids.specs.Ids.{sameNode}
 use Rattle.ids.specs.declared.NodeId.{NodeId}
 use Rattle.ids.specs.declared.FullNodeId.{FullNodeId}
 use Rattle.record.specs.Batch.{namedIds}
-use Rattle.record_reader.specs.Reader.{noNode, listedAt}
-use Rattle.record.specs.Parse.{batchOf}
+use Rattle.record_reader.specs.Reader.{noNode}
 use Rattle.state_focus.specs.declared.FoundNode.{FoundNode}
 use Rattle.state_focus.specs.declared.FoundNode.the-variants as node
 use Rattle.update.specs.Words.{here}
-use Rattle.reasons.specs.Reasons.{claimedTwice, withoutPlace}
+use Rattle.reasons.specs.Reasons.{withoutPlace}
 use Rattle.reasons_why.specs.declared.Why.{Why}
 use Rattle.reasons_why.specs.Why.{found, whyOf, whyFor}
 use Rattle.calls.specs.Layout.{LISTED, NAMED, ENDS}
@@ -34,7 +33,7 @@ use Rattle.calls.proofs.notes.Told.{batched}
 use Rattle.calls.specs.declared.pass.Cause.the-variants.{NamedTwice, GraftOverChildren, GraftOfRoot, ClaimedTwice, WithoutPlace, ChildNowhere}
 use Rattle.calls.specs.Causes.{Entry, entries, noEntry, causeReason, Within}
 use Rattle.calls.specs.declared.pass.Cause.{Cause}
-use Rattle.calls.specs.WhyPass.{namerAt, plainNodes}
+use Rattle.calls.specs.WhyPass.{claimedNoted, namerAt, plainNodes}
 use Rattle.calls.specs.Steps.{entriesBefore}
 use Rattle.calls.proofs.pass.Read.{searched, first-count, end-word, named-word, child-here}
 use Rattle.calls.proofs.pass.Causes.{entries-length, entry-child}
@@ -95,7 +94,7 @@ module _ {state bytes : List ℕ} {c : Scope} {notes : List ℕ} (told : Told RE
 
   -- two listed nodes and a tree
   pub why-claimed : {i m : ℕ} {r : Why} → i < c .listed → m < c .listed
-      → r ≡ whyOf (claimedTwice (listedAt (batchOf bytes) i .body .graft) (idNoted c notes (LISTED + m)) (idNoted c notes (LISTED + i)))
+      → r ≡ whyOf (claimedNoted bytes c notes i m)
       → r ≡ whyFor (causeReason (forest state) (asked bytes c) (ClaimedTwice i m))
   unfolding whyFor causeReason
   why-claimed {i} h k e =
