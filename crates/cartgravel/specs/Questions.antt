@@ -15,7 +15,7 @@ use Rattle.questions.specs.declared.FilterResult.{FilterResult}
 use Rattle.questions.specs.Answers.{askNumber}
 use Rattle.questions.specs.Links.{siblings}
 use Rattle.questions.specs.Walks.{filteredChildren, filteredSiblings}
-use Rattle.questions.specs.Filters.{filterOf}
+use Rattle.questions.specs.Filters.{seen, filterOf}
 use Rattle.node_answers.specs.Filter.{filterAnswer}
 use Rattle.questions.specs.Kept.{WalkStep}
 use Rattle.question_calls.specs.Walk.{steppedOf}
@@ -58,7 +58,7 @@ filterReply s x k =
 unfoldable pub nodeReply : State → FullNodeId → ((FullNodeId → FilterResult) → Forest → FullNodeId → Option FullNodeId) → ℕ → FoundId
 nodeReply s x node k =
     ofFilter (plainFound (nodeAnswer (unknownNumber (s .forest)) none))
-    (λ f. plainFound (nodeAnswer (askNumber (s .forest) x) (node (filterOf f s) (s .forest) x))) (filterNumbered k)
+    (λ f. plainFound (nodeAnswer (askNumber (s .forest) x) (node (filterOf f (seen s)) (s .forest) x))) (filterNumbered k)
 
 -- a number that is none of ours: 1 or 2 alone, and the slice as it was
 pub record NoList (s : Forest) (lent : List ℕ) (r : Listed) (slice : List ℕ) : Type 0 where
@@ -72,12 +72,12 @@ SiblingsOn s x lent r slice on.Unknown = NoList s lent r slice
 
 -- the filtered children
 abbrev pub FilteredChildren : State → FullNodeId → List ℕ → Listed → List ℕ → FilterNumber → Type 0
-FilteredChildren s x lent r slice (number.Known f) = PlainIds (s .forest) x (filteredChildren (filterOf f s) (s .forest) x) lent r slice
+FilteredChildren s x lent r slice (number.Known f) = PlainIds (s .forest) x (filteredChildren (filterOf f (seen s)) (s .forest) x) lent r slice
 FilteredChildren s x lent r slice number.Unknown = NoList (s .forest) lent r slice
 
 -- the filtered siblings on a side
 abbrev pub FilteredOn : State → FullNodeId → Filter → List ℕ → Listed → List ℕ → SideNumber → Type 0
-FilteredOn s x f lent r slice (on.Known side) = PlainIds (s .forest) x (filteredSiblings (filterOf f s) side (s .forest) x) lent r slice
+FilteredOn s x f lent r slice (on.Known side) = PlainIds (s .forest) x (filteredSiblings (filterOf f (seen s)) side (s .forest) x) lent r slice
 FilteredOn s x f lent r slice on.Unknown = NoList (s .forest) lent r slice
 
 abbrev pub FilteredSiblings : State → FullNodeId → List ℕ → Listed → List ℕ → SideNumber → FilterNumber → Type 0

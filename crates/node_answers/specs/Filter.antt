@@ -7,7 +7,7 @@ use Rattle.questions.specs.declared.Filter.{Filter}
 use Rattle.questions.specs.declared.FilterResult.{FilterResult}
 use Rattle.questions.specs.declared.FilterResult.the-variants.{Include, ExcludeNode, ExcludeSubtree}
 use Rattle.questions.specs.Answers.{askNumber}
-use Rattle.questions.specs.Filters.{filterOf}
+use Rattle.questions.specs.Filters.{seen, filterOf}
 use Rattle.node_answers.specs.declared.FilterAnswer.{FilterAnswer}
 use Rattle.node_answers.specs.declared.FilterAnswer.the-variants.{Refused, Result}
 
@@ -17,7 +17,7 @@ answerBy zero result = Result result
 answerBy (suc k) result = Refused (suc k)
 
 unfoldable pub filterAnswer : State → FullNodeId → Filter → FilterAnswer
-filterAnswer s x filter = answerBy (askNumber (s .forest) x) (filterOf filter s x)
+filterAnswer s x filter = answerBy (askNumber (s .forest) x) (filterOf filter (seen s) x)
 
 -- the number that it returns, and the result, none after any number but 0
 unfoldable pub answerNumber : FilterAnswer → ℕ

@@ -14,7 +14,7 @@ use Rattle.questions.specs.declared.Side.{Side}
 use Rattle.questions.specs.declared.Filter.{Filter}
 use Rattle.questions.specs.declared.FilterResult.{FilterResult}
 use Rattle.questions.specs.Answers.{askNumber, written}
-use Rattle.questions.specs.Filters.{filterOf}
+use Rattle.questions.specs.Filters.{seen, filterOf}
 use Rattle.questions.specs.Walks.{filteredChildren, filteredSiblings}
 use Rattle.node_answers.specs.declared.ListAnswer.{ListAnswer}
 use Rattle.node_answers.specs.declared.NodeAnswer.{NodeAnswer}
@@ -28,10 +28,10 @@ ListOf s x xs lent r slice = Lists s x (length xs) (idWords xs) lent r slice
 
 -- its filtered children, and its filtered siblings on a side
 abbrev pub ChildList : State → FullNodeId → Filter → List ℕ → ListAnswer → List ℕ → Type 0
-ChildList v x filter lent r slice = ListOf (v .forest) x (filteredChildren (filterOf filter v) (v .forest) x) lent r slice
+ChildList v x filter lent r slice = ListOf (v .forest) x (filteredChildren (filterOf filter (seen v)) (v .forest) x) lent r slice
 
 abbrev pub SiblingList : State → FullNodeId → Filter → Side → List ℕ → ListAnswer → List ℕ → Type 0
-SiblingList v x filter side lent r slice = ListOf (v .forest) x (filteredSiblings (filterOf filter v) side (v .forest) x) lent r slice
+SiblingList v x filter side lent r slice = ListOf (v .forest) x (filteredSiblings (filterOf filter (seen v)) side (v .forest) x) lent r slice
 
 -- a number, and no list
 abbrev pub noList : ℕ → ListAnswer
@@ -50,7 +50,7 @@ PutsList xs lent r slice = Puts (idWords xs) (length xs) lent r slice
 
 -- a question about x that a filter answers with a node or none
 abbrev pub NodeOf : State → FullNodeId → Filter → ((FullNodeId → FilterResult) → Forest → FullNodeId → Option FullNodeId) → NodeAnswer → Type 0
-NodeOf v x filter node r = r ≡ nodeAnswer (askNumber (v .forest) x) (node (filterOf filter v) (v .forest) x)
+NodeOf v x filter node r = r ≡ nodeAnswer (askNumber (v .forest) x) (node (filterOf filter (seen v)) (v .forest) x)
 
 -- a number, and no node
 abbrev pub noNode : ℕ → NodeAnswer

@@ -7,7 +7,7 @@ use Prim.Native.Nat.{ℕ}
 use lib.ListN.{length}
 use Rattle.base.specs.Tests.{if_then_else_, firstGiven}
 use Rattle.ids.specs.declared.FullNodeId.{FullNodeId}
-use Rattle.state.specs.State.{Forest, State}
+use Rattle.state.specs.State.{Forest}
 use Rattle.state_array.specs.View.{view}
 use Rattle.questions.specs.declared.Side.{Side}
 use Rattle.questions.specs.declared.FilterResult.{FilterResult}
@@ -15,17 +15,21 @@ use Rattle.questions.specs.declared.FilterResult.the-variants.{Include, Exclude
 use Rattle.questions.specs.Links.{childIds, ancestors, hiddenAt}
 use Rattle.questions.specs.Walks.{turned, leading, shown, isIncluded, isExcludedNode, filteredParent}
 use Rattle.questions.specs.Ahead.{ahead}
-use Rattle.questions.specs.Filters.{focusedNode, isFocused, isTransparent}
+use Rattle.questions.specs.Filters.{Seen, focusedNode, isFocused, isTransparent}
 use Rattle.question_calls.specs.Slots.{slotId}
 use Rattle.question_calls.specs.declared.steps.Place.{Place}
 use Rattle.question_calls.specs.Places.{metFrom}
+
+-- what the filters see where slot k holds the focused node; past the last slot no node is focused
+abbrev pub seenAt : List ℕ → ℕ → Seen
+seenAt s k = record { forest = view s .forest; focused = slotId s k }
 
 -- slot k holds the node that is focused for the filters; it is past the last slot where none is
 abbrev pub Focused : List ℕ → ℕ → Type 0
 Focused s k = slotId s k ≡ focusedNode (view s)
 
 -- What `withoutParentChecks` says of a node none of whose ancestors is hidden (proofs/plain/Own): its own hidden flag is asked alone.
-unfoldable pub ownFilter : State → FullNodeId → FilterResult
+unfoldable pub ownFilter : Seen → FullNodeId → FilterResult
 ownFilter s x =
     if isFocused s x then Include
     else if hiddenAt (s .forest) x then ExcludeSubtree
@@ -45,7 +49,7 @@ unlisted side f level x ExcludeNode = turned side (childIds f x) ++ ahead side f
 unlisted side f level x ExcludeSubtree = ahead side f level x
 
 -- what is listed of what is ahead of a node
-unfoldable pub shownAhead : State → Side → ℕ → FullNodeId → List FullNodeId
+unfoldable pub shownAhead : Seen → Side → ℕ → FullNodeId → List FullNodeId
 shownAhead v side level x = flatMap (shown (ownFilter v) side (v .forest)) (ahead side (v .forest) level x)
 
 -- the node in a slot, and its ancestors

@@ -9,6 +9,7 @@ use Rattle.state_array.specs.View.{idIn, view}
 use Rattle.state_focus.specs.declared.FoundNode.{FoundNode}
 use Rattle.state_focus.specs.Focus.{foundOf}
 use Rattle.questions.specs.declared.Walk.{Walk}
+use Rattle.questions.specs.Filters.{seen}
 use Rattle.questions.specs.Kept.{walkList, WalkStep}
 use Rattle.node_answers.specs.Answers.{foundNode}
 use Rattle.question_calls.specs.declared.walk.Stepped.{Stepped}
@@ -33,4 +34,4 @@ pub record Ours (side filter : ℕ) : Type 0 where
 
 -- what stands at a place of the list of a walk about the node in slot i
 abbrev pub FindsAt : List ℕ → ℕ → ℕ → ℕ → ℕ → FoundNode → Type 0
-FindsAt s i side filter count r = foundOf r ≡ getElem? (walkList (view s) (record { node = idIn s i; side = side; filter = filter; count = count })) count
+FindsAt s i side filter count r = foundOf r ≡ getElem? (walkList (seen (view s)) (record { node = idIn s i; side = side; filter = filter; count = count })) count

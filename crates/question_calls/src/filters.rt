@@ -3,14 +3,15 @@
 ghost use mathlib.Core.Bool.{false};
 ghost use mathlib.Core.Option.{some};
 ghost use mathlib.Core.Path.{_≡_};
+ghost use Prim.Native.Nat.{ℕ};
 ghost use Rattle.base.specs.Tests.{sameOption};
 ghost use Rattle.ids.specs.Ids.{sameId};
 ghost use Rattle.state.specs.Down.{rootOf};
 ghost use Rattle.state_array.specs.View.{idIn, view};
 ghost use Rattle.questions.specs.Filters.{isTransparent, clipsAt, isClipped, isExcludeSubtree, commonFilter, withRootException, filterOf};
 ghost use Rattle.question_calls.specs.Slots.{Sound, OfSlot};
-ghost use Rattle.question_calls.specs.Plain.{Focused, isInclude};
-ghost use Rattle.question_calls.specs.Filters.{Unhidden, nearestInside, parentDropped, Knows, Included, Told, isPlain, hasRootException, exceptedFilter, isExcludeNode, Near};
+ghost use Rattle.question_calls.specs.Plain.{seenAt};
+ghost use Rattle.question_calls.specs.Filters.{Unhidden, nearestInside, parentDropped, Knows, Included, Told, isPlain, hasRootException, isKept, isExcludeNode, Near};
 ghost use Rattle.node_answers.specs.Filter.{filterAnswer};
 use crate::links;
 use crate::node_asked;
@@ -50,8 +51,7 @@ fn filter_at(
     i: usize,
 ) -> FilterResult
     requires { ⌜ Sound (now state) ⌝ }
-    requires { ⌜ Focused (now state) focused ⌝ }
-    ensures { λ r. ⌜ OfSlot (now (state .entry)) i (λ f x. r ≡ filterOf filter (view (now (state .entry))) x) ⌝ }
+    ensures { λ r. ⌜ OfSlot (now (state .entry)) i (λ f x. r ≡ filterOf filter (seenAt (now (state .entry)) focused) x) ⌝ }
 {
     match filter {
         Filter::Common => common_filter_or_hidden(state, parents, focused, i),
@@ -72,8 +72,7 @@ fn is_first_sibling_in_parent_bbox(
     bbox: BoundingBox,
 ) -> bool
     requires { ⌜ Sound (now state) ⌝ }
-    requires { ⌜ Focused (now state) focused ⌝ }
-    ensures { λ r. ⌜ OfSlot (now (state .entry)) (at .slot) (λ f x. r ≡ nearestInside (view (now (state .entry))) side (at .level) x bbox) ⌝ }
+    ensures { λ r. ⌜ OfSlot (now (state .entry)) (at .slot) (λ f x. r ≡ nearestInside (seenAt (now (state .entry)) focused) side (at .level) x bbox) ⌝ }
 {
     let sibling = plain::neighbour(state, parents, focused, side, at);
     if state_array::slots(state) <= sibling {
@@ -84,8 +83,8 @@ fn is_first_sibling_in_parent_bbox(
 
 // Whether a node lies outside the box of its filtered parent, which clips its children, and no neighbour of it lies inside. The neighbours are asked last.
 fn is_clipped(state: &State, parents: &[u16], focused: usize, i: usize) -> bool
-    requires { ⌜ Unhidden (now state) focused i ⌝ }
-    ensures { λ r. ⌜ OfSlot (now (state .entry)) i (λ f x. (isTransparent f x ≡ false → r ≡ isClipped (view (now (state .entry))) x)) ⌝ }
+    requires { ⌜ Unhidden (now state) i ⌝ }
+    ensures { λ r. ⌜ OfSlot (now (state .entry)) i (λ f x. (isTransparent f x ≡ false → r ≡ isClipped (seenAt (now (state .entry)) focused) x)) ⌝ }
 {
     let above = plain::included_above(state, parents, focused, i);
     let p = above.slot;
@@ -110,8 +109,7 @@ fn is_clipped(state: &State, parents: &[u16], focused: usize, i: usize) -> bool
 // `common_filter` of any node: whether it or an ancestor is hidden is asked here, once.
 fn common_filter_or_hidden(state: &State, parents: &[u16], focused: usize, i: usize) -> FilterResult
     requires { ⌜ Sound (now state) ⌝ }
-    requires { ⌜ Focused (now state) focused ⌝ }
-    ensures { λ r. ⌜ OfSlot (now (state .entry)) i (λ f x. r ≡ commonFilter (view (now (state .entry))) x) ⌝ }
+    ensures { λ r. ⌜ OfSlot (now (state .entry)) i (λ f x. r ≡ commonFilter (seenAt (now (state .entry)) focused) x) ⌝ }
 {
     if i == focused {
         return FilterResult::Include;
@@ -127,8 +125,8 @@ fn common_filter_or_hidden(state: &State, parents: &[u16], focused: usize, i: us
 
 // `common_filter` of a node that is not hidden, so that no ancestor is: it asks the same question of the parent, one step nearer the root.
 fn common_filter(state: &State, parents: &[u16], focused: usize, i: usize) -> FilterResult
-    requires { ⌜ Unhidden (now state) focused i ⌝ }
-    ensures { λ r. ⌜ r ≡ commonFilter (view (now (state .entry))) (idIn (now (state .entry)) i) ⌝ }
+    requires { ⌜ Unhidden (now state) i ⌝ }
+    ensures { λ r. ⌜ r ≡ commonFilter (seenAt (now (state .entry)) focused) (idIn (now (state .entry)) i) ⌝ }
 {
     if focused == i {
         return FilterResult::Include;
@@ -157,8 +155,7 @@ fn common_filter_with_root_exception(
     i: usize,
 ) -> FilterResult
     requires { ⌜ Sound (now state) ⌝ }
-    requires { ⌜ Focused (now state) focused ⌝ }
-    ensures { λ r. ⌜ OfSlot (now (state .entry)) i (λ f x. r ≡ withRootException (view (now (state .entry))) x) ⌝ }
+    ensures { λ r. ⌜ OfSlot (now (state .entry)) i (λ f x. r ≡ withRootException (seenAt (now (state .entry)) focused) x) ⌝ }
 {
     if is_root(state, i) {
         return FilterResult::Include;
@@ -176,7 +173,7 @@ pub struct Known {
 
 // What is known where nothing is.
 pub(crate) fn nothing_known(state: &State) -> Known
-    ensures { λ r. ⌜ Knows (now (state .entry)) r ⌝ }
+    ensures { λ r. ⌜ ((k : ℕ) → Knows (now (state .entry)) k r) ⌝ }
 {
     Known {
         slot: state_array::slots(state),
@@ -194,8 +191,7 @@ pub(crate) fn known_at(
     i: usize,
 ) -> Known
     requires { ⌜ Sound (now state) ⌝ }
-    requires { ⌜ Focused (now state) focused ⌝ }
-    ensures { λ r. ⌜ Knows (now (state .entry)) r ⌝ }
+    ensures { λ r. ⌜ Knows (now (state .entry)) focused r ⌝ }
 {
     if is_plain(filter) {
         return nothing_known(state);
@@ -215,8 +211,7 @@ pub(crate) fn known_at(
 
 // The same of a node that the filter includes: `common_filter` does not drop it, unless it is ROOT's root.
 pub(crate) fn known_included(state: &State, filter: Filter, i: usize) -> Known
-    requires { ⌜ Included filter (now state) i ⌝ }
-    ensures { λ r. ⌜ Knows (now (state .entry)) r ⌝ }
+    ensures { λ r. ⌜ ((k : ℕ) → Included filter (now (state .entry)) k i → Knows (now (state .entry)) k r) ⌝ }
 {
     if is_plain(filter) {
         return nothing_known(state);
@@ -240,9 +235,8 @@ pub(crate) fn filter_knowing(
     i: usize,
 ) -> FilterResult
     requires { ⌜ Sound (now state) ⌝ }
-    requires { ⌜ Focused (now state) focused ⌝ }
-    requires { ⌜ Knows (now state) known ⌝ }
-    ensures { λ r. ⌜ OfSlot (now (state .entry)) i (λ f x. r ≡ filterOf filter (view (now (state .entry))) x) ⌝ }
+    requires { ⌜ Knows (now state) focused known ⌝ }
+    ensures { λ r. ⌜ OfSlot (now (state .entry)) i (λ f x. r ≡ filterOf filter (seenAt (now (state .entry)) focused) x) ⌝ }
 {
     match filter {
         Filter::Common => common_filter_knowing(state, parents, focused, known, i),
@@ -268,9 +262,8 @@ fn common_filter_knowing(
     i: usize,
 ) -> FilterResult
     requires { ⌜ Sound (now state) ⌝ }
-    requires { ⌜ Focused (now state) focused ⌝ }
-    requires { ⌜ Knows (now state) known ⌝ }
-    ensures { λ r. ⌜ OfSlot (now (state .entry)) i (λ f x. r ≡ commonFilter (view (now (state .entry))) x) ⌝ }
+    requires { ⌜ Knows (now state) focused known ⌝ }
+    ensures { λ r. ⌜ OfSlot (now (state .entry)) i (λ f x. r ≡ commonFilter (seenAt (now (state .entry)) focused) x) ⌝ }
 {
     if state_array::slots(state) <= i {
         return FilterResult::Include;
@@ -286,9 +279,8 @@ fn common_filter_knowing(
 // Whether `common_filter` drops the parent.
 fn is_parent_dropped(state: &State, parents: &[u16], focused: usize, known: Known, i: usize) -> bool
     requires { ⌜ Sound (now state) ⌝ }
-    requires { ⌜ Focused (now state) focused ⌝ }
-    requires { ⌜ Knows (now state) known ⌝ }
-    ensures { λ r. ⌜ OfSlot (now (state .entry)) i (λ f x. r ≡ parentDropped (view (now (state .entry))) x) ⌝ }
+    requires { ⌜ Knows (now state) focused known ⌝ }
+    ensures { λ r. ⌜ OfSlot (now (state .entry)) i (λ f x. r ≡ parentDropped (seenAt (now (state .entry)) focused) x) ⌝ }
 {
     let p = links::parent_slot(state, parents, i);
     if state_array::slots(state) <= p {
@@ -310,7 +302,7 @@ fn common_filter_told(
     dropped: bool,
 ) -> FilterResult
     requires { ⌜ Told (now state) focused i hidden dropped ⌝ }
-    ensures { λ r. ⌜ r ≡ commonFilter (view (now (state .entry))) (idIn (now (state .entry)) i) ⌝ }
+    ensures { λ r. ⌜ r ≡ commonFilter (seenAt (now (state .entry)) focused) (idIn (now (state .entry)) i) ⌝ }
 {
     if focused == i {
         return FilterResult::Include;
@@ -346,8 +338,7 @@ pub(crate) fn nearest_up(
     i: usize,
 ) -> Nearest
     requires { ⌜ Sound (now state) ⌝ }
-    requires { ⌜ Focused (now state) focused ⌝ }
-    ensures { λ r. ⌜ Near (now (state .entry)) excepted i r ⌝ }
+    ensures { λ r. ⌜ Near (now (state .entry)) focused excepted i r ⌝ }
 {
     let n = state_array::slots(state);
     if n <= i {
@@ -378,8 +369,7 @@ pub(crate) fn nearest_up(
 
 // Whether a node that `common_filter` says this of is included, ROOT's root being excepted or not.
 fn is_kept(state: &State, excepted: bool, result: FilterResult, i: usize) -> bool
-    requires { ⌜ result ≡ commonFilter (view (now state)) (idIn (now state) i) ⌝ }
-    ensures { λ r. ⌜ r ≡ isInclude (filterOf (exceptedFilter excepted) (view (now (state .entry))) (idIn (now (state .entry)) i)) ⌝ }
+    ensures { λ r. ⌜ r ≡ isKept (view (now (state .entry)) .forest) excepted result (idIn (now (state .entry)) i) ⌝ }
 {
     let included = plain::is_include(result);
     if !excepted {
@@ -418,8 +408,7 @@ pub(crate) fn is_passed(
     filter: Filter,
     i: usize,
 ) -> bool
-    requires { ⌜ Focused (now state) focused ⌝ }
-    ensures { λ r. ⌜ OfSlot (now (state .entry)) i (λ f x. r ≡ isExcludeNode (filterOf filter (view (now (state .entry))) x)) ⌝ }
+    ensures { λ r. ⌜ OfSlot (now (state .entry)) i (λ f x. r ≡ isExcludeNode (filterOf filter (seenAt (now (state .entry)) focused) x)) ⌝ }
 {
     let result = plain::common_filter_without_parent_checks(state, parents, focused, i);
     let passed = is_exclude_node(result);

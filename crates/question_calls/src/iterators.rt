@@ -10,7 +10,7 @@ ghost use Rattle.questions.specs.Walks.{filteredParent, firstFilteredChild, las
 ghost use Rattle.questions.specs.Walks.{deepestFirstFilteredChild, deepestLastFilteredChild};
 ghost use Rattle.question_calls.specs.Slots.{Sound, slotId};
 ghost use Rattle.node_answers.specs.Answers.{nodeAnswer};
-ghost use Rattle.question_calls.specs.Plain.{Focused, listedFrom};
+ghost use Rattle.question_calls.specs.Plain.{seenAt, listedFrom};
 ghost use Rattle.question_calls.specs.Filters.{Knows};
 ghost use Rattle.question_calls.specs.Shown.{filteredChildOn, deepestOn};
 ghost use Rattle.question_calls.specs.Iterators.{ListOf, ChildList, SiblingList, Puts, PutsList, noList, NodeOf, noNode};
@@ -126,9 +126,8 @@ fn list_from<'a, 'b>(
     out: &'b mut [u64],
 ) -> ListAnswer
     requires { ⌜ Sound (now state) ⌝ }
-    requires { ⌜ Focused (now state) focused ⌝ }
-    requires { ⌜ Knows (now state) (start .known) ⌝ }
-    ensures { λ r. ⌜ PutsList (listedFrom (filterOf filter (view (now (state .entry)))) side (now (state .entry)) (start .place)) (now (out .entry)) r (now (out .exit)) ⌝ }
+    requires { ⌜ Knows (now state) focused (start .known) ⌝ }
+    ensures { λ r. ⌜ PutsList (listedFrom (filterOf filter (seenAt (now (state .entry)) focused)) side (now (state .entry)) (start .place)) (now (out .entry)) r (now (out .exit)) ⌝ }
 {
     if state_array::slots(state) <= start.place.slot {
         return ListAnswer {

@@ -8,7 +8,7 @@ ghost use Rattle.questions.specs.Filters.{activeDescendantAt, isTransparent, wi
 ghost use Rattle.questions.specs.Links.{isHidden};
 ghost use Rattle.question_calls.specs.Slots.{Sound, slotId, OfSlot};
 ghost use Rattle.question_calls.specs.Places.{metFrom};
-ghost use Rattle.question_calls.specs.Plain.{Focused, ownFilter, Above, Lists, unlisted, shownAhead, isInclude};
+ghost use Rattle.question_calls.specs.Plain.{seenAt, Focused, ownFilter, Above, Lists, unlisted, shownAhead, isInclude};
 use crate::links;
 use crate::steps;
 use crate::steps::Place;
@@ -67,8 +67,7 @@ pub(crate) fn is_transparent(state: &State, i: usize) -> bool
 
 // `common_filter_without_parent_checks` of a node none of whose ancestors is hidden.
 fn own_filter_at(state: &State, focused: usize, i: usize) -> FilterResult
-    requires { ⌜ Focused (now state) focused ⌝ }
-    ensures { λ r. ⌜ OfSlot (now (state .entry)) i (λ f x. r ≡ ownFilter (view (now (state .entry))) x) ⌝ }
+    ensures { λ r. ⌜ OfSlot (now (state .entry)) i (λ f x. r ≡ ownFilter (seenAt (now (state .entry)) focused) x) ⌝ }
 {
     if i == focused {
         return FilterResult::Include;
@@ -89,8 +88,7 @@ pub(crate) fn common_filter_without_parent_checks(
     focused: usize,
     i: usize,
 ) -> FilterResult
-    requires { ⌜ Focused (now state) focused ⌝ }
-    ensures { λ r. ⌜ OfSlot (now (state .entry)) i (λ f x. r ≡ withoutParentChecks (view (now (state .entry))) x) ⌝ }
+    ensures { λ r. ⌜ OfSlot (now (state .entry)) i (λ f x. r ≡ withoutParentChecks (seenAt (now (state .entry)) focused) x) ⌝ }
 {
     if i == focused {
         return FilterResult::Include;
@@ -108,8 +106,7 @@ pub(crate) fn common_filter_without_parent_checks(
 // No ancestor of such a node is hidden.
 pub(crate) fn included_above(state: &State, parents: &[u16], focused: usize, i: usize) -> Place
     requires { ⌜ Sound (now state) ⌝ }
-    requires { ⌜ Focused (now state) focused ⌝ }
-    ensures { λ r. ⌜ OfSlot (now (state .entry)) i (λ f x. (isHidden f x ≡ false → Above (withoutParentChecks (view (now (state .entry)))) (now (state .entry)) x r)) ⌝ }
+    ensures { λ r. ⌜ OfSlot (now (state .entry)) i (λ f x. (isHidden f x ≡ false → Above (withoutParentChecks (seenAt (now (state .entry)) focused)) (now (state .entry)) x r)) ⌝ }
 {
     let n = state_array::slots(state);
     let mut p = links::parent_slot(state, parents, i);
@@ -133,8 +130,7 @@ pub(crate) fn shown_from(
     at: Place,
 ) -> Place
     requires { ⌜ Sound (now state) ⌝ }
-    requires { ⌜ Focused (now state) focused ⌝ }
-    ensures { λ r. ⌜ Lists (ownFilter (view (now (state .entry)))) side (now (state .entry)) at r ⌝ }
+    ensures { λ r. ⌜ Lists (ownFilter (seenAt (now (state .entry)) focused)) side (now (state .entry)) at r ⌝ }
 {
     let n = state_array::slots(state);
     let mut here = at;
@@ -160,8 +156,7 @@ pub(crate) fn neighbour(
     at: Place,
 ) -> usize
     requires { ⌜ Sound (now state) ⌝ }
-    requires { ⌜ Focused (now state) focused ⌝ }
-    ensures { λ r. ⌜ OfSlot (now (state .entry)) (at .slot) (λ f x. slotId (now (state .entry)) r ≡ head? (shownAhead (view (now (state .entry))) side (at .level) x)) ⌝ }
+    ensures { λ r. ⌜ OfSlot (now (state .entry)) (at .slot) (λ f x. slotId (now (state .entry)) r ≡ head? (shownAhead (seenAt (now (state .entry)) focused) side (at .level) x)) ⌝ }
 {
     let next = steps::after(state, parents, side, at);
     let found = shown_from(state, parents, focused, side, next);

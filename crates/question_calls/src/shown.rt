@@ -3,13 +3,12 @@
 ghost use mathlib.Core.Path.{_≡_};
 ghost use Prim.Native.Nat.{_≤_};
 ghost use lib.ListN.{length, getElem?};
-ghost use Rattle.state_array.specs.View.{view};
 ghost use Rattle.questions.specs.Filters.{withoutParentChecks, filterOf};
 ghost use Rattle.questions.specs.Walks.{filteredParent};
 ghost use Rattle.question_calls.specs.Slots.{Sound, slotId, OfSlot};
 ghost use Rattle.question_calls.specs.Places.{metFrom};
 ghost use Rattle.question_calls.specs.Lists.{Collected};
-ghost use Rattle.question_calls.specs.Plain.{Focused, listedFrom, Lists, firstIncluded, upFrom};
+ghost use Rattle.question_calls.specs.Plain.{seenAt, listedFrom, Lists, firstIncluded, upFrom};
 ghost use Rattle.question_calls.specs.Filters.{Knows, Included};
 ghost use Rattle.question_calls.specs.Shown.{metAfter, ListsAhead, ListsBelow, ListsSiblings, Climbs, filteredChildOn, deepestOn};
 use crate::filters;
@@ -40,10 +39,9 @@ fn shown_from(
     at: Place,
 ) -> Place
     requires { ⌜ Sound (now state) ⌝ }
-    requires { ⌜ Focused (now state) focused ⌝ }
-    requires { ⌜ Knows (now state) known ⌝ }
-    ensures { λ r. ⌜ Lists (filterOf filter (view (now (state .entry)))) side (now (state .entry)) at r ⌝ }
-    ensures { λ r. ⌜ Included filter (now (state .entry)) (r .slot) ⌝ }
+    requires { ⌜ Knows (now state) focused known ⌝ }
+    ensures { λ r. ⌜ Lists (filterOf filter (seenAt (now (state .entry)) focused)) side (now (state .entry)) at r ⌝ }
+    ensures { λ r. ⌜ Included filter (now (state .entry)) focused (r .slot) ⌝ }
 {
     let n = state_array::slots(state);
     let mut here = at;
@@ -83,9 +81,8 @@ fn shown_after(
     at: Place,
 ) -> Place
     requires { ⌜ Sound (now state) ⌝ }
-    requires { ⌜ Focused (now state) focused ⌝ }
-    requires { ⌜ Knows (now state) known ⌝ }
-    ensures { λ r. ⌜ OfSlot (now (state .entry)) (at .slot) (ListsAhead (filterOf filter (view (now (state .entry)))) side (now (state .entry)) (at .level) r) ⌝ }
+    requires { ⌜ Knows (now state) focused known ⌝ }
+    ensures { λ r. ⌜ OfSlot (now (state .entry)) (at .slot) (ListsAhead (filterOf filter (seenAt (now (state .entry)) focused)) side (now (state .entry)) (at .level) r) ⌝ }
 {
     shown_from(
         state,
@@ -109,10 +106,9 @@ pub(crate) fn shown_child(
     i: usize,
 ) -> Place
     requires { ⌜ Sound (now state) ⌝ }
-    requires { ⌜ Focused (now state) focused ⌝ }
-    requires { ⌜ Knows (now state) known ⌝ }
-    ensures { λ r. ⌜ OfSlot (now (state .entry)) i (ListsBelow (filterOf filter (view (now (state .entry)))) side (now (state .entry)) r) ⌝ }
-    ensures { λ r. ⌜ Included filter (now (state .entry)) (r .slot) ⌝ }
+    requires { ⌜ Knows (now state) focused known ⌝ }
+    ensures { λ r. ⌜ OfSlot (now (state .entry)) i (ListsBelow (filterOf filter (seenAt (now (state .entry)) focused)) side (now (state .entry)) r) ⌝ }
+    ensures { λ r. ⌜ Included filter (now (state .entry)) focused (r .slot) ⌝ }
 {
     let slot = links::first_child_slot(state, side, i);
     shown_from(
@@ -129,8 +125,7 @@ pub(crate) fn shown_child(
 // Past the ancestors from the parent on that are ExcludeNode: the slot of the next one, and how many were passed.
 fn climb(state: &State, parents: &[u16], focused: usize, filter: Filter, i: usize) -> Place
     requires { ⌜ Sound (now state) ⌝ }
-    requires { ⌜ Focused (now state) focused ⌝ }
-    ensures { λ r. ⌜ OfSlot (now (state .entry)) i (λ f x. Climbs (filterOf filter (view (now (state .entry)))) (now (state .entry)) x r) ⌝ }
+    ensures { λ r. ⌜ OfSlot (now (state .entry)) i (λ f x. Climbs (filterOf filter (seenAt (now (state .entry)) focused)) (now (state .entry)) x r) ⌝ }
 {
     let n = state_array::slots(state);
     let mut p = links::parent_slot(state, parents, i);
@@ -154,9 +149,8 @@ struct Near {
 // The same, from the node in a slot.
 fn nearest(state: &State, parents: &[u16], focused: usize, filter: Filter, i: usize) -> Near
     requires { ⌜ Sound (now state) ⌝ }
-    requires { ⌜ Focused (now state) focused ⌝ }
-    ensures { λ r. ⌜ slotId (now (state .entry)) (r .included) ≡ firstIncluded (filterOf filter (view (now (state .entry)))) (upFrom (now (state .entry)) i) ⌝ }
-    ensures { λ r. ⌜ Knows (now (state .entry)) (r .known) ⌝ }
+    ensures { λ r. ⌜ slotId (now (state .entry)) (r .included) ≡ firstIncluded (filterOf filter (seenAt (now (state .entry)) focused)) (upFrom (now (state .entry)) i) ⌝ }
+    ensures { λ r. ⌜ Knows (now (state .entry)) focused (r .known) ⌝ }
 {
     if filters::is_plain(filter) {
         return Near {
@@ -181,8 +175,7 @@ fn nearest(state: &State, parents: &[u16], focused: usize, filter: Filter, i: us
 // The first that the filter without parent checks includes of a node and its ancestors.
 fn included_from(state: &State, parents: &[u16], focused: usize, from: usize) -> usize
     requires { ⌜ Sound (now state) ⌝ }
-    requires { ⌜ Focused (now state) focused ⌝ }
-    ensures { λ r. ⌜ slotId (now (state .entry)) r ≡ firstIncluded (withoutParentChecks (view (now (state .entry)))) (upFrom (now (state .entry)) from) ⌝ }
+    ensures { λ r. ⌜ slotId (now (state .entry)) r ≡ firstIncluded (withoutParentChecks (seenAt (now (state .entry)) focused)) (upFrom (now (state .entry)) from) ⌝ }
 {
     let n = state_array::slots(state);
     let mut p = from;
@@ -209,8 +202,7 @@ pub(crate) fn filtered_parent(
     i: usize,
 ) -> usize
     requires { ⌜ Sound (now state) ⌝ }
-    requires { ⌜ Focused (now state) focused ⌝ }
-    ensures { λ r. ⌜ OfSlot (now (state .entry)) i (λ f x. slotId (now (state .entry)) r ≡ filteredParent (filterOf filter (view (now (state .entry)))) f x) ⌝ }
+    ensures { λ r. ⌜ OfSlot (now (state .entry)) i (λ f x. slotId (now (state .entry)) r ≡ filteredParent (filterOf filter (seenAt (now (state .entry)) focused)) f x) ⌝ }
 {
     let p = links::parent_slot(state, parents, i);
     let up = nearest(state, parents, focused, filter, p);
@@ -228,10 +220,9 @@ pub(crate) fn filtered_child(
     i: usize,
 ) -> usize
     requires { ⌜ Sound (now state) ⌝ }
-    requires { ⌜ Focused (now state) focused ⌝ }
-    requires { ⌜ Knows (now state) known ⌝ }
-    ensures { λ r. ⌜ OfSlot (now (state .entry)) i (λ f x. slotId (now (state .entry)) r ≡ filteredChildOn side (filterOf filter (view (now (state .entry)))) f x) ⌝ }
-    ensures { λ r. ⌜ Included filter (now (state .entry)) r ⌝ }
+    requires { ⌜ Knows (now state) focused known ⌝ }
+    ensures { λ r. ⌜ OfSlot (now (state .entry)) i (λ f x. slotId (now (state .entry)) r ≡ filteredChildOn side (filterOf filter (seenAt (now (state .entry)) focused)) f x) ⌝ }
+    ensures { λ r. ⌜ Included filter (now (state .entry)) focused r ⌝ }
 {
     let first = shown_child(state, parents, focused, filter, known, side, i);
     first.slot
@@ -247,8 +238,7 @@ pub(crate) fn deepest_child(
     i: usize,
 ) -> usize
     requires { ⌜ Sound (now state) ⌝ }
-    requires { ⌜ Focused (now state) focused ⌝ }
-    ensures { λ r. ⌜ OfSlot (now (state .entry)) i (λ f x. slotId (now (state .entry)) r ≡ deepestOn side (filterOf filter (view (now (state .entry)))) f x) ⌝ }
+    ensures { λ r. ⌜ OfSlot (now (state .entry)) i (λ f x. slotId (now (state .entry)) r ≡ deepestOn side (filterOf filter (seenAt (now (state .entry)) focused)) f x) ⌝ }
 {
     let n = state_array::slots(state);
     let top = filters::known_at(state, parents, focused, filter, i);
@@ -276,9 +266,8 @@ pub(crate) fn shown_sibling(
     i: usize,
 ) -> Start
     requires { ⌜ Sound (now state) ⌝ }
-    requires { ⌜ Focused (now state) focused ⌝ }
-    ensures { λ r. ⌜ OfSlot (now (state .entry)) i (ListsSiblings (filterOf filter (view (now (state .entry)))) side (now (state .entry)) (r .place)) ⌝ }
-    ensures { λ r. ⌜ Knows (now (state .entry)) (r .known) ⌝ }
+    ensures { λ r. ⌜ OfSlot (now (state .entry)) i (ListsSiblings (filterOf filter (seenAt (now (state .entry)) focused)) side (now (state .entry)) (r .place)) ⌝ }
+    ensures { λ r. ⌜ Knows (now (state .entry)) focused (r .known) ⌝ }
 {
     let n = state_array::slots(state);
     let up = climb(state, parents, focused, filter, i);
@@ -319,10 +308,9 @@ pub(crate) fn collect(
     ids: &mut [u64],
 ) -> usize
     requires { ⌜ Sound (now state) ⌝ }
-    requires { ⌜ Focused (now state) focused ⌝ }
-    requires { ⌜ Knows (now state) known ⌝ }
+    requires { ⌜ Knows (now state) focused known ⌝ }
     requires { ⌜ 512 ≤ length (now ids) ⌝ }
-    ensures { λ r. ⌜ Collected (listedFrom (filterOf filter (view (now (state .entry)))) side (now (state .entry)) start) (now (ids .entry)) (now (ids .exit)) r ⌝ }
+    ensures { λ r. ⌜ Collected (listedFrom (filterOf filter (seenAt (now (state .entry)) focused)) side (now (state .entry)) start) (now (ids .entry)) (now (ids .exit)) r ⌝ }
 {
     let n = state_array::slots(state);
     let mut here = start;
@@ -350,9 +338,8 @@ pub(crate) fn listed_at(
     count: u64,
 ) -> usize
     requires { ⌜ Sound (now state) ⌝ }
-    requires { ⌜ Focused (now state) focused ⌝ }
-    requires { ⌜ Knows (now state) known ⌝ }
-    ensures { λ r. ⌜ slotId (now (state .entry)) r ≡ getElem? (listedFrom (filterOf filter (view (now (state .entry)))) side (now (state .entry)) start) count ⌝ }
+    requires { ⌜ Knows (now state) focused known ⌝ }
+    ensures { λ r. ⌜ slotId (now (state .entry)) r ≡ getElem? (listedFrom (filterOf filter (seenAt (now (state .entry)) focused)) side (now (state .entry)) start) count ⌝ }
 {
     let n = state_array::slots(state);
     let mut here = start;

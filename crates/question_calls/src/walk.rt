@@ -6,7 +6,7 @@ ghost use Prim.Native.Nat.{_+_, _<_};
 ghost use lib.ListN.{getElem?};
 ghost use Rattle.state_array.specs.View.{slotsOf, view};
 ghost use Rattle.state_focus.specs.Focus.{foundOf};
-ghost use Rattle.questions.specs.Filters.{filterOf};
+ghost use Rattle.questions.specs.Filters.{seen, filterOf};
 ghost use Rattle.questions.specs.Kept.{sideOf, filterChoice, nextOf};
 ghost use Rattle.questions.specs.Links.{siblings};
 ghost use Rattle.questions.specs.Walks.{filteredSiblings};
@@ -146,7 +146,7 @@ fn shown_at(
     count: u64,
 ) -> FoundNode
     requires { ⌜ Sound (now state) ⌝ }
-    ensures { λ r. ⌜ OfSlot (now (state .entry)) i (λ f x. foundOf r ≡ getElem? (filteredSiblings (filterOf filter (view (now (state .entry)))) side f x) count) ⌝ }
+    ensures { λ r. ⌜ OfSlot (now (state .entry)) i (λ f x. foundOf r ≡ getElem? (filteredSiblings (filterOf filter (seen (view (now (state .entry))))) side f x) count) ⌝ }
 {
     let focused = plain::focused_slot(state);
     let start = shown::shown_sibling(state, parents, focused, filter, side, i);

@@ -15,7 +15,7 @@ use Rattle.questions.specs.declared.FilterResult.{FilterResult}
 use Rattle.questions.specs.Links.{childIds, siblings, isHidden}
 use Rattle.questions.specs.Boxes.{transform, boundingBox}
 use Rattle.questions.specs.Walks.{filteredParent, filteredChildren, filteredSiblings, firstFilteredChild, lastFilteredChild, deepestFirstFilteredChild, deepestLastFilteredChild}
-use Rattle.questions.specs.Filters.{filterOf}
+use Rattle.questions.specs.Filters.{seen, filterOf}
 
 -- ## Questions and answers
 
@@ -57,14 +57,14 @@ answer s x (Siblings side) = many (siblings side (s .forest) x)
 answer s x IsHidden = flag (isHidden (s .forest) x)
 answer s x Transform = affine (transform (s .forest) x)
 answer s x BoxOf = box (boundingBox (s .forest) x)
-answer s x (Filtered f) = result (filterOf f s x)
-answer s x (FilteredParent f) = one (filteredParent (filterOf f s) (s .forest) x)
-answer s x (FilteredChildren f) = many (filteredChildren (filterOf f s) (s .forest) x)
-answer s x (FilteredSiblings f side) = many (filteredSiblings (filterOf f s) side (s .forest) x)
-answer s x (FirstFilteredChild f) = one (firstFilteredChild (filterOf f s) (s .forest) x)
-answer s x (LastFilteredChild f) = one (lastFilteredChild (filterOf f s) (s .forest) x)
-answer s x (DeepestFirstFilteredChild f) = one (deepestFirstFilteredChild (filterOf f s) (s .forest) x)
-answer s x (DeepestLastFilteredChild f) = one (deepestLastFilteredChild (filterOf f s) (s .forest) x)
+answer s x (Filtered f) = result (filterOf f (seen s) x)
+answer s x (FilteredParent f) = one (filteredParent (filterOf f (seen s)) (s .forest) x)
+answer s x (FilteredChildren f) = many (filteredChildren (filterOf f (seen s)) (s .forest) x)
+answer s x (FilteredSiblings f side) = many (filteredSiblings (filterOf f (seen s)) side (s .forest) x)
+answer s x (FirstFilteredChild f) = one (firstFilteredChild (filterOf f (seen s)) (s .forest) x)
+answer s x (LastFilteredChild f) = one (lastFilteredChild (filterOf f (seen s)) (s .forest) x)
+answer s x (DeepestFirstFilteredChild f) = one (deepestFirstFilteredChild (filterOf f (seen s)) (s .forest) x)
+answer s x (DeepestLastFilteredChild f) = one (deepestLastFilteredChild (filterOf f (seen s)) (s .forest) x)
 
 -- a node, or none
 abbrev pub is : FullNodeId → Said

@@ -46,8 +46,16 @@ focusedNode s =
     ]
     else none
 
-unfoldable pub isFocused : State → FullNodeId → Bool
-isFocused s x = sameOption sameId (focusedNode s) (some x)
+-- What a filter sees of a state: the forest, and the focused node, if there is one.
+pub record Seen : Type 0 where
+  pub forest : Forest
+  pub focused : Option FullNodeId
+
+abbrev pub seen : State → Seen
+seen s = record { forest = s .forest; focused = focusedNode s }
+
+unfoldable pub isFocused : Seen → FullNodeId → Bool
+isFocused s x = sameOption sameId (s .focused) (some x)
 
 -- the roles that a filter tells apart
 abbrev pub GENERIC-CONTAINER : ℕ
@@ -71,20 +79,20 @@ clipsAt s x = elim (find x (s .nodes)) [ none ↦ false | some n ↦ clipsChildr
 -- ## `common_filter_base`, `common_filter_without_parent_checks`
 
 -- the first that holds: focused, hidden, transparent
-unfoldable pub commonFilterBase : State → FullNodeId → Option FilterResult
+unfoldable pub commonFilterBase : Seen → FullNodeId → Option FilterResult
 commonFilterBase s x =
     if isFocused s x then some Include
     else if isHidden (s .forest) x then some ExcludeSubtree
     else if isTransparent (s .forest) x then some ExcludeNode
     else none
 
-unfoldable pub withoutParentChecks : State → FullNodeId → FilterResult
+unfoldable pub withoutParentChecks : Seen → FullNodeId → FilterResult
 withoutParentChecks s x = elim (commonFilterBase s x) [ none ↦ Include | some r ↦ r ]
 
 -- ## `common_filter`
 
 -- whether the nearest filtered sibling of x on one side lies inside the box of p
-unfoldable pub neighbourInside : Side → State → FullNodeId → FullNodeId → Bool
+unfoldable pub neighbourInside : Side → Seen → FullNodeId → FullNodeId → Bool
 neighbourInside side s p x =
     elim (head? (filteredSiblings (withoutParentChecks s) side (s .forest) x)) [
       | none ↦ false
@@ -92,14 +100,14 @@ neighbourInside side s p x =
     ]
 
 -- x lies outside the box of p, which clips its children, and no neighbour of x lies inside it
-unfoldable pub clippedBy : State → FullNodeId → FullNodeId → Bool
+unfoldable pub clippedBy : Seen → FullNodeId → FullNodeId → Bool
 clippedBy s p x =
     clipsAt (s .forest) p
     && apart (boundingBox (s .forest) x) (boundingBox (s .forest) p)
     && not (neighbourInside Following s p x || neighbourInside Preceding s p x)
 
 -- so with its filtered parent
-unfoldable pub isClipped : State → FullNodeId → Bool
+unfoldable pub isClipped : Seen → FullNodeId → Bool
 isClipped s x = elim (filteredParent (withoutParentChecks s) (s .forest) x) [ none ↦ false | some p ↦ clippedBy s p x ]
 
 unfoldable pub isExcludeSubtree : FilterResult → Bool
@@ -108,27 +116,27 @@ isExcludeSubtree ExcludeNode = false
 isExcludeSubtree ExcludeSubtree = true
 
 -- of a node that is neither focused, hidden nor transparent: dropped with its parent, or clipped away, or included
-unfoldable pub ordinary : State → FullNodeId → Bool → FilterResult
+unfoldable pub ordinary : Seen → FullNodeId → Bool → FilterResult
 ordinary s x parentDropped = if parentDropped then ExcludeSubtree else if isClipped s x then ExcludeSubtree else Include
 
 -- `common_filter` asks the same question of the parent, each time one step nearer the root; `up` are the ancestors of x
-unfoldable pub commonFilterFrom : State → FullNodeId → List FullNodeId → FilterResult
+unfoldable pub commonFilterFrom : Seen → FullNodeId → List FullNodeId → FilterResult
 commonFilterFrom s x [] = elim (commonFilterBase s x) [ none ↦ ordinary s x false | some r ↦ r ]
 commonFilterFrom s x (p ∷ up) =
     elim (commonFilterBase s x) [ none ↦ ordinary s x (isExcludeSubtree (commonFilterFrom s p up)) | some r ↦ r ]
 
-unfoldable pub commonFilter : State → FullNodeId → FilterResult
+unfoldable pub commonFilter : Seen → FullNodeId → FilterResult
 commonFilter s x = commonFilterFrom s x (ancestors (s .forest) x)
 
 -- ## `common_filter_with_root_exception`
 
 -- ROOT's root is included, whatever it is
-unfoldable pub withRootException : State → FullNodeId → FilterResult
+unfoldable pub withRootException : Seen → FullNodeId → FilterResult
 withRootException s x = if sameOption sameId (rootOf (s .forest)) (some x) then Include else commonFilter s x
 
 -- ## The three
 
-unfoldable pub filterOf : Filter → State → FullNodeId → FilterResult
+unfoldable pub filterOf : Filter → Seen → FullNodeId → FilterResult
 filterOf Common s x = commonFilter s x
 filterOf WithRootException s x = withRootException s x
 filterOf WithoutParentChecks s x = withoutParentChecks s x

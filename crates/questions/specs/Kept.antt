@@ -7,7 +7,7 @@ use lib.ListN.{getElem?}
 use Rattle.base.specs.Tests.{_&&_, isSome}
 use Rattle.base.specs.Tables.{row, first}
 use Rattle.ids.specs.declared.FullNodeId.{FullNodeId}
-use Rattle.state.specs.State.{State, present}
+use Rattle.state.specs.State.{Forest, State, present}
 use Rattle.state.specs.Sound.{sound}
 use Rattle.questions.specs.declared.Side.{Side}
 use Rattle.questions.specs.declared.Side.the-variants.{Following, Preceding}
@@ -16,7 +16,7 @@ use Rattle.questions.specs.declared.Filter.the-variants.{Common, WithRoo
 use Rattle.questions.specs.declared.Walk.{Walk}
 use Rattle.questions.specs.Links.{siblings}
 use Rattle.questions.specs.Walks.{filteredSiblings}
-use Rattle.questions.specs.Filters.{filterOf}
+use Rattle.questions.specs.Filters.{Seen, seen, filterOf}
 use Rattle.questions.specs.Answers.{after}
 
 -- ## What the numbers of a walk mean
@@ -38,12 +38,12 @@ filterChoice (suc (suc (suc (suc k)))) = none
 -- ## What a walk goes over
 
 -- the siblings on a side, or with a filter the filtered siblings
-unfoldable pub siblingList : State → FullNodeId → Side → Option Filter → List FullNodeId
+unfoldable pub siblingList : Seen → FullNodeId → Side → Option Filter → List FullNodeId
 siblingList s x side none = siblings side (s .forest) x
 siblingList s x side (some filter) = filteredSiblings (filterOf filter s) side (s .forest) x
 
--- the walk's list, in the state that it is given
-unfoldable pub walkList : State → Walk → List FullNodeId
+-- the walk's list, in what is seen of the state that it is given
+unfoldable pub walkList : Seen → Walk → List FullNodeId
 walkList s w =
     elim (sideOf (w .side)) [
       | none ↦ []
@@ -51,12 +51,12 @@ walkList s w =
     ]
 
 -- 1 where the state is not sound, then 2 where the side or the filter is none of ours, then 22 where the node is not there
-unfoldable pub walkNumber : State → Walk → ℕ
+unfoldable pub walkNumber : Forest → Walk → ℕ
 walkNumber s w =
     first (
-    row 1 (not (sound (s .forest)))
+    row 1 (not (sound s))
     ∷ row 2 (not (isSome (sideOf (w .side)) && isSome (filterChoice (w .filter))))
-    ∷ row 22 (not (present (s .forest .nodes) (w .node)))
+    ∷ row 22 (not (present (s .nodes) (w .node)))
     ∷ []
     )
 
@@ -79,7 +79,7 @@ stepped number w (some x) = record { number = number; found = some x; walk = mov
 
 -- The next sibling in the state given, or none at the end: the count reaches past the list.
 unfoldable pub nextOf : State → Walk → WalkStep
-nextOf s w = stepped (walkNumber s w) w (after (walkNumber s w) none (getElem? (walkList s w) (w .count)))
+nextOf s w = let k = walkNumber (s .forest) w in stepped k w (after k none (getElem? (walkList (seen s) w) (w .count)))
 
 -- the answers of calls one after another, all on one state
 unfoldable pub answers : ℕ → State → Walk → List (Option FullNodeId)

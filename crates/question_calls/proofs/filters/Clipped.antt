@@ -9,18 +9,17 @@ use Rattle.base.specs.Tests.{_&&_}
 use Rattle.ids.specs.declared.FullNodeId.{FullNodeId}
 use Rattle.geometry_box.specs.declared.BoundingBox.{BoundingBox}
 use Rattle.geometry_box.specs.Boxes.{apart, meet}
-use Rattle.state.specs.State.{State}
 use Rattle.state_array.specs.Layout.{word, FLAGS}
 use Rattle.state_array.specs.View.{idIn, shapeIn, bodyIn, nodeIn, slotsOf, view}
 use Rattle.questions.specs.declared.Side.{Side}
 use Rattle.questions.specs.declared.Side.the-variants.{Following, Preceding}
 use Rattle.questions.specs.Boxes.{boundingBox}
 use Rattle.questions.specs.Walks.{filteredParent}
-use Rattle.questions.specs.Filters.{isTransparent, clipsAt, withoutParentChecks, neighbourInside, clippedBy, isClipped}
+use Rattle.questions.specs.Filters.{Seen, isTransparent, clipsAt, withoutParentChecks, neighbourInside, clippedBy, isClipped}
 use Rattle.question_calls.specs.Slots.{Sound, slotId}
 use Rattle.question_calls.proofs.links.Slots.{slot-id-some, slot-id-none, slot-shape, slot-found, slot-present}
 use Rattle.question_calls.specs.declared.steps.Place.{Place}
-use Rattle.question_calls.specs.Plain.{shownAhead, Above}
+use Rattle.question_calls.specs.Plain.{seenAt, shownAhead, Above}
 use Rattle.question_calls.proofs.plain.Neighbours.{siblings-ahead}
 use Rattle.question_calls.specs.Filters.{Unhidden, nearestInside}
 
@@ -31,22 +30,22 @@ clips-at s h i there w read = sym (rw (slot-found s h i there, clipsAt, ← read
 
 -- ## The nearest sibling
 
-module _ (s : List ℕ) (side : Side) (level : ℕ) (x : FullNodeId) (outer : BoundingBox) (r : ℕ)
-    (found : slotId s r ≡ head? (shownAhead (view s) side level x)) where
-  pub nearest-none : slotsOf s ≤ r → false ≡ nearestInside (view s) side level x outer
+module _ (s : List ℕ) (k : ℕ) (side : Side) (level : ℕ) (x : FullNodeId) (outer : BoundingBox) (r : ℕ)
+    (found : slotId s r ≡ head? (shownAhead (seenAt s k) side level x)) where
+  pub nearest-none : slotsOf s ≤ r → false ≡ nearestInside (seenAt s k) side level x outer
   unfolding nearestInside
   nearest-none past = sym (rw (← found, slot-id-none s r past, nearestInside) refl)
 
-  pub nearest-some : r < slotsOf s → meet (boundingBox (view s .forest) (idIn s r)) outer ≡ nearestInside (view s) side level x outer
+  pub nearest-some : r < slotsOf s → meet (boundingBox (view s .forest) (idIn s r)) outer ≡ nearestInside (seenAt s k) side level x outer
   unfolding nearestInside
   nearest-some there = sym (rw (← found, slot-id-some s r there, nearestInside) refl)
 
 -- ## The test
 
-module _ (s : List ℕ) (k i : ℕ) (u : Unhidden s k i) (plain : isTransparent (view s .forest) (idIn s i) ≡ false) (above : Place)
-    (is : Above (withoutParentChecks (view s)) s (idIn s i) above) where
-  abbrev v : State
-  v = view s
+module _ (s : List ℕ) (k i : ℕ) (u : Unhidden s i) (plain : isTransparent (view s .forest) (idIn s i) ≡ false) (above : Place)
+    (is : Above (withoutParentChecks (seenAt s k)) s (idIn s i) above) where
+  abbrev v : Seen
+  v = seenAt s k
 
   abbrev x : FullNodeId
   x = idIn s i

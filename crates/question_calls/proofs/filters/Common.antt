@@ -9,7 +9,7 @@ use lib.ListN.{length}
 use Rattle.base.specs.Tests.{sameOption}
 use Rattle.ids.specs.Ids.{ROOT, sameId}
 use Rattle.ids.specs.declared.FullNodeId.{FullNodeId}
-use Rattle.state.specs.State.{State, parentAt, subtreeOf}
+use Rattle.state.specs.State.{parentAt, subtreeOf}
 use Rattle.state.specs.Down.{rootOf}
 use Rattle.state_array.specs.View.{idIn, slotsOf, view}
 use Rattle.state_lookup.specs.declared.Ends.{Ends}
@@ -20,17 +20,17 @@ use Rattle.questions.specs.declared.FilterResult.{FilterResult}
 use Rattle.questions.specs.declared.FilterResult.the-variants.{Include, ExcludeNode, ExcludeSubtree}
 use Rattle.questions.specs.Links.{ancestors, isHidden}
 use Rattle.questions.specs.Walks.{filteredParent}
-use Rattle.questions.specs.Filters.{isFocused, isTransparent, commonFilterBase, withoutParentChecks, isClipped, isExcludeSubtree, ordinary, commonFilterFrom, commonFilter, withRootException}
+use Rattle.questions.specs.Filters.{Seen, isFocused, isTransparent, commonFilterBase, withoutParentChecks, isClipped, isExcludeSubtree, ordinary, commonFilterFrom, commonFilter, withRootException}
 use Rattle.question_calls.specs.Slots.{Sound, slotId}
 use Rattle.question_calls.proofs.links.Up.{top, more, hidden-more}
-use Rattle.question_calls.specs.Plain.{Focused, firstIncluded}
+use Rattle.question_calls.specs.Plain.{seenAt, firstIncluded}
 use Rattle.question_calls.proofs.plain.Own.{clear-unhidden}
 use Rattle.question_calls.proofs.plain.Focus.{focused-here, focused-not}
 use Rattle.question_calls.specs.Filters.{Unhidden}
 
 -- ## Of any state
 
-module _ (v : State) (x : FullNodeId) where
+module _ (v : Seen) (x : FullNodeId) where
   -- the first test that holds
   base-focused : isFocused v x ≡ true → commonFilterBase v x ≡ some Include
   unfolding commonFilterBase
@@ -77,27 +77,27 @@ module _ (v : State) (x : FullNodeId) where
 
 -- ## By slots
 
-module _ (s : List ℕ) (h : Sound s) (k : ℕ) (focus : Focused s k) (i : ℕ) (there : i < slotsOf s) where
-  abbrev v : State
-  v = view s
+module _ (s : List ℕ) (h : Sound s) (k i : ℕ) (there : i < slotsOf s) where
+  abbrev v : Seen
+  v = seenAt s k
 
   abbrev x : FullNodeId
   x = idIn s i
 
   pub common-focused : i ≡ k → Include ≡ commonFilter v x
-  common-focused e = sym (common-base v x Include (base-focused v x (focused-here s h k focus i there e)))
+  common-focused e = sym (common-base v x Include (base-focused v x (focused-here s h k i there e)))
 
   module _ (other : i ≡ k → ⊥) where
     pub common-hidden : isHidden (v .forest) x ≡ true → ExcludeSubtree ≡ commonFilter v x
-    common-hidden b = sym (common-base v x ExcludeSubtree (base-hidden v x (focused-not s h k focus i there other) b))
+    common-hidden b = sym (common-base v x ExcludeSubtree (base-hidden v x (focused-not s h k i there other) b))
 
     module _ (b : isHidden (v .forest) x ≡ false) where
       pub common-transparent : isTransparent (v .forest) x ≡ true → ExcludeNode ≡ commonFilter v x
-      common-transparent c = sym (common-base v x ExcludeNode (base-transparent v x (focused-not s h k focus i there other) b c))
+      common-transparent c = sym (common-base v x ExcludeNode (base-transparent v x (focused-not s h k i there other) b c))
 
       module _ (c : isTransparent (v .forest) x ≡ false) (p : ℕ) (up : slotId s p ≡ parentAt (v .forest .nodes) x) where
         none-holds : commonFilterBase v x ≡ none
-        none-holds = base-none v x (focused-not s h k focus i there other) b c
+        none-holds = base-none v x (focused-not s h k i there other) b c
 
         -- ROOT's root
         pub common-root : slotsOf s ≤ p → Include ≡ commonFilter v x
@@ -122,11 +122,10 @@ module _ (s : List ℕ) (h : Sound s) (k : ℕ) (focus : Focused s k) (i : ℕ) 
           common-included e d = sym (by-parent ∙ rw (e, d) refl)
 
 -- the parent of a node that is not hidden is not hidden, and is nearer the root
-module _ (s : List ℕ) (k i : ℕ) (u : Unhidden s k i) (p : ℕ) (up : slotId s p ≡ parentAt (view s .forest .nodes) (idIn s i)) (l : p < slotsOf s) where
-  pub parent-unhidden : Unhidden s k p
+module _ (s : List ℕ) (i : ℕ) (u : Unhidden s i) (p : ℕ) (up : slotId s p ≡ parentAt (view s .forest .nodes) (idIn s i)) (l : p < slotsOf s) where
+  pub parent-unhidden : Unhidden s p
   parent-unhidden = record {
     is-sound = u .is-sound;
-    focus = u .focus;
     within = l;
     shown = sym (hidden-more s (u .is-sound) i (u .within) p up l (clear-unhidden (view s .forest) (idIn s i) (u .shown) .0)) ∙ u .shown;
   }
@@ -146,7 +145,7 @@ module _ (s : List ℕ) (x : FullNodeId) (r : FoundTree) (ends : endsOf r ≡ su
   unfolding rootOf endsOf
   root-some e q y z = sym (rw (← ends, q, rootOf, z) refl)
 
-module _ (v : State) (x : FullNodeId) where
+module _ (v : Seen) (x : FullNodeId) where
   pub exception-root : sameOption sameId (rootOf (v .forest)) (some x) ≡ true → Include ≡ withRootException v x
   unfolding withRootException
   exception-root e = sym (rw e refl)

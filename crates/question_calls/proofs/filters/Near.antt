@@ -1,5 +1,5 @@
 -- `common_filter` of a node by what is told of it and its parent, and the nearest included node from a node up. Assumes nothing.
-use mathlib.Core.Bool.{Bool, true, false, true≢false, false≢true, not, _||_}
+use mathlib.Core.Bool.{Bool, true, false, true≢false, false≢true, not, _||_, or-true, or-false}
 use mathlib.Core.List.{List, [], _∷_}
 use mathlib.Core.Option.{Option, none, some, Option·none-ne-some, Option·some-injective}
 use mathlib.Core.Path.{_≡_, refl, sym, ap, _∙_, subst}
@@ -9,7 +9,7 @@ use native.Mathlib.Omega.{arith}
 use Rattle.base.specs.Tests.{if_then_else_, sameOption, _&&_}
 use Rattle.ids.specs.Ids.{sameId}
 use Rattle.ids.specs.declared.FullNodeId.{FullNodeId}
-use Rattle.state.specs.State.{State, parentAt}
+use Rattle.state.specs.State.{parentAt}
 use Rattle.state.specs.Down.{rootOf}
 use Rattle.state.proofs.Sound.{Shape}
 use Rattle.state_array.specs.View.{idIn, slotsOf, view}
@@ -18,21 +18,21 @@ use Rattle.questions.specs.declared.Filter.the-variants.{Common, WithRootExcept
 use Rattle.questions.specs.declared.FilterResult.{FilterResult}
 use Rattle.questions.specs.declared.FilterResult.the-variants.{Include, ExcludeNode, ExcludeSubtree}
 use Rattle.questions.specs.Links.{ancestors, hiddenAt, isHidden}
-use Rattle.questions.specs.Filters.{isTransparent, isClipped, commonFilterBase, withoutParentChecks, isExcludeSubtree, ordinary, commonFilterFrom, commonFilter, withRootException, filterOf}
+use Rattle.questions.specs.Filters.{Seen, isTransparent, isClipped, commonFilterBase, withoutParentChecks, isExcludeSubtree, ordinary, commonFilterFrom, commonFilter, withRootException, filterOf}
 use Rattle.questions.proofs.Links.{parent-link, parentless-link, ancestors-end, ancestors-step}
 use Rattle.question_calls.specs.Slots.{Sound, slotId}
 use Rattle.question_calls.proofs.links.Slots.{slot-id-some, slot-id-none, slot-shape}
 use Rattle.question_calls.proofs.links.Up.{hidden-own, hidden-top, hidden-more}
-use Rattle.question_calls.specs.Plain.{isInclude, firstIncluded, upFrom}
+use Rattle.question_calls.specs.Plain.{seenAt, isInclude, firstIncluded, upFrom}
 use Rattle.question_calls.proofs.plain.Above.{include-is, first-included, up-none, up-some, up-next}
 use Rattle.question_calls.proofs.plain.Focus.{focused-not}
 use Rattle.question_calls.specs.declared.filters.Known.{Known}
-use Rattle.question_calls.specs.Filters.{Unhidden, parentDropped, Knows, Told, isPlain, hasRootException, exceptedFilter, isExcludeNode}
+use Rattle.question_calls.specs.Filters.{Unhidden, parentDropped, Knows, Told, isPlain, hasRootException, exceptedFilter, isKept, isExcludeNode}
 use Rattle.question_calls.proofs.filters.Common.{base-none, common-more, exception-other}
 
 -- ## ExcludeNode is said whatever the parent is
 
-module _ (v : State) (x : FullNodeId) where
+module _ (v : Seen) (x : FullNodeId) where
   ordinary-stands : (b : Bool) → isExcludeNode (ordinary v x b) ≡ false
   unfolding ordinary isExcludeNode
   ordinary-stands true = refl
@@ -97,26 +97,17 @@ module _ (v : State) (x : FullNodeId) where
   passed-excepted WithoutParentChecks a = absurd (false≢true a)
 
   -- included, or ROOT's root where it is excepted
-  pub kept-plain : (e : Bool) → e ≡ false → isInclude (commonFilter v x) ≡ isInclude (filterOf (exceptedFilter e) v x)
-  unfolding exceptedFilter filterOf
-  kept-plain true a = absurd (true≢false a)
-  kept-plain false a = refl
-
-  pub kept-excepted : (e : Bool) → e ≡ true → (isInclude (commonFilter v x) || sameOption sameId (rootOf (v .forest)) (some x)) ≡ isInclude (filterOf (exceptedFilter e) v x)
-  unfolding exceptedFilter filterOf withRootException isInclude
-  kept-excepted true a = go (sameOption sameId (rootOf (v .forest)) (some x)) (commonFilter v x)
+  pub kept-filter : (e : Bool) (r : FilterResult) → r ≡ commonFilter v x → isKept (v .forest) e r x ≡ isInclude (filterOf (exceptedFilter e) v x)
+  unfolding isKept _&&_ exceptedFilter filterOf withRootException isInclude
+  kept-filter false r q = or-false (isInclude r) ∙ ap isInclude q
+  kept-filter true r q = rw q (go (sameOption sameId (rootOf (v .forest)) (some x)))
     where
-      go : (b : Bool) (r : FilterResult) → (isInclude r || b) ≡ isInclude (if b then Include else r)
-      go true Include = refl
-      go true ExcludeNode = refl
-      go true ExcludeSubtree = refl
-      go false Include = refl
-      go false ExcludeNode = refl
-      go false ExcludeSubtree = refl
-  kept-excepted false a = absurd (false≢true a)
+      go : (b : Bool) → (isInclude (commonFilter v x) || b) ≡ isInclude (if b then Include else commonFilter v x)
+      go true = or-true (isInclude (commonFilter v x))
+      go false = or-false (isInclude (commonFilter v x))
 
 -- the filter that asks no parent, and the two that do
-module _ (v : State) where
+module _ (v : Seen) where
   pub plain-filter : (filter : Filter) → isPlain filter ≡ true → withoutParentChecks v ≡ filterOf filter v
   unfolding isPlain filterOf
   plain-filter Common a = absurd (false≢true a)
@@ -170,43 +161,36 @@ module _ (filter : FullNodeId → FilterResult) (s : List ℕ) (h : Sound s) whe
 
 -- ## What is told of a node by its parent
 
-module _ (s : List ℕ) (h : Sound s) (i : ℕ) (there : i < slotsOf s) (p : ℕ) (up : slotId s p ≡ parentAt (view s .forest .nodes) (idIn s i)) where
+module _ (s : List ℕ) (k : ℕ) (h : Sound s) (i : ℕ) (there : i < slotsOf s) (p : ℕ) (up : slotId s p ≡ parentAt (view s .forest .nodes) (idIn s i)) where
   -- whether the parent is dropped
-  pub dropped-top : slotsOf s ≤ p → false ≡ parentDropped (view s) (idIn s i)
+  pub dropped-top : slotsOf s ≤ p → false ≡ parentDropped (seenAt s k) (idIn s i)
   unfolding parentDropped
   dropped-top l = sym (rw (← up, slot-id-none s p l, parentDropped) refl)
 
-  pub dropped-up : (d : Bool) → p < slotsOf s → d ≡ isExcludeSubtree (commonFilter (view s) (idIn s p)) → d ≡ parentDropped (view s) (idIn s i)
+  pub dropped-up : (d : Bool) → p < slotsOf s → d ≡ isExcludeSubtree (commonFilter (seenAt s k) (idIn s p)) → d ≡ parentDropped (seenAt s k) (idIn s i)
   unfolding parentDropped
   dropped-up d l e = e ∙ sym (rw (← up, slot-id-some s p l, parentDropped) refl)
 
-  pub dropped-above : (d : Bool) → (slotsOf s ≤ p → d ≡ false) → (p < slotsOf s → d ≡ isExcludeSubtree (commonFilter (view s) (idIn s p)))
-      → d ≡ parentDropped (view s) (idIn s i)
+  pub dropped-above : (d : Bool) → (slotsOf s ≤ p → d ≡ false) → (p < slotsOf s → d ≡ isExcludeSubtree (commonFilter (seenAt s k) (idIn s p)))
+      → d ≡ parentDropped (seenAt s k) (idIn s i)
   dropped-above d past below = go (decLt p (slotsOf s))
     where
-      go : Dec (p < slotsOf s) → d ≡ parentDropped (view s) (idIn s i)
+      go : Dec (p < slotsOf s) → d ≡ parentDropped (seenAt s k) (idIn s i)
       go (yes l) = dropped-up d l (below l)
       go (no l) = past (omega arith) ∙ dropped-top (omega arith)
 
-  pub dropped-known : (known : Known) → Knows s known → p ≡ known .slot → p < slotsOf s → known .dropped ≡ parentDropped (view s) (idIn s i)
+  pub dropped-known : (known : Known) → Knows s k known → p ≡ known .slot → p < slotsOf s → known .dropped ≡ parentDropped (seenAt s k) (idIn s i)
   dropped-known known knows e l =
       dropped-up (known .dropped) l
-      (subst (λ (j : ℕ). j < slotsOf s → known .dropped ≡ isExcludeSubtree (commonFilter (view s) (idIn s j))) (sym e) knows l)
+      (subst (λ (j : ℕ). j < slotsOf s → known .dropped ≡ isExcludeSubtree (commonFilter (seenAt s k) (idIn s j))) (sym e) knows l)
 
-  -- whether the node is hidden, by its own flag b and whether the parent is
+-- whether the node is hidden, by its own flag b and whether the parent is
+module _ (s : List ℕ) (h : Sound s) (i : ℕ) (there : i < slotsOf s) (p : ℕ) (up : slotId s p ≡ parentAt (view s .forest .nodes) (idIn s i)) where
   pub hidden-joined : (a b : Bool) → (slotsOf s ≤ p → a ≡ false) → (p < slotsOf s → a ≡ isHidden (view s .forest) (idIn s p)) → b ≡ hiddenAt (view s .forest) (idIn s i)
       → (a || b) ≡ isHidden (view s .forest) (idIn s i)
   hidden-joined a true past below e = or-true a ∙ sym (hidden-own s h i there (sym e))
+  hidden-joined a false past below e = or-false a ∙ go (decLt p (slotsOf s))
     where
-      or-true : (c : Bool) → (c || true) ≡ true
-      or-true true = refl
-      or-true false = refl
-  hidden-joined a false past below e = or-same a ∙ go (decLt p (slotsOf s))
-    where
-      or-same : (c : Bool) → (c || false) ≡ c
-      or-same true = refl
-      or-same false = refl
-
       go : Dec (p < slotsOf s) → a ≡ isHidden (view s .forest) (idIn s i)
       go (yes l) = below l ∙ sym (hidden-more s h i there p up l (sym e))
       go (no l) = past (omega arith) ∙ sym (hidden-top s h i there p up (omega arith) (sym e))
@@ -214,24 +198,24 @@ module _ (s : List ℕ) (h : Sound s) (i : ℕ) (there : i < slotsOf s) (p : ℕ
 -- ## What is told of a node says what the filter says
 
 module _ (s : List ℕ) (k i : ℕ) (hidden dropped : Bool) (t : Told s k i hidden dropped) (shown : hidden ≡ false) where
-  pub told-unhidden : Unhidden s k i
-  told-unhidden = record { is-sound = t .is-sound; focus = t .focus; within = t .within; shown = sym (t .hidden-is) ∙ shown }
+  pub told-unhidden : Unhidden s i
+  told-unhidden = record { is-sound = t .is-sound; within = t .within; shown = sym (t .hidden-is) ∙ shown }
 
   module _ (other : i ≡ k → ⊥) (plain : isTransparent (view s .forest) (idIn s i) ≡ false) where
-    told : commonFilter (view s) (idIn s i) ≡ ordinary (view s) (idIn s i) dropped
+    told : commonFilter (seenAt s k) (idIn s i) ≡ ordinary (seenAt s k) (idIn s i) dropped
     told =
-        common-told (view s) (idIn s i) (slot-shape s (t .is-sound))
-        (base-none (view s) (idIn s i) (focused-not s (t .is-sound) k (t .focus) i (t .within) other) (told-unhidden .shown) plain)
-        ∙ ap (ordinary (view s) (idIn s i)) (sym (t .dropped-is))
+        common-told (seenAt s k) (idIn s i) (slot-shape s (t .is-sound))
+        (base-none (seenAt s k) (idIn s i) (focused-not s (t .is-sound) k i (t .within) other) (told-unhidden .shown) plain)
+        ∙ ap (ordinary (seenAt s k) (idIn s i)) (sym (t .dropped-is))
 
-    pub told-dropped : dropped ≡ true → ExcludeSubtree ≡ commonFilter (view s) (idIn s i)
+    pub told-dropped : dropped ≡ true → ExcludeSubtree ≡ commonFilter (seenAt s k) (idIn s i)
     unfolding ordinary
     told-dropped e = sym (told ∙ rw e refl)
 
-    pub told-clipped : dropped ≡ false → isClipped (view s) (idIn s i) ≡ true → ExcludeSubtree ≡ commonFilter (view s) (idIn s i)
+    pub told-clipped : dropped ≡ false → isClipped (seenAt s k) (idIn s i) ≡ true → ExcludeSubtree ≡ commonFilter (seenAt s k) (idIn s i)
     unfolding ordinary
     told-clipped e d = sym (told ∙ rw (e, d) refl)
 
-    pub told-included : dropped ≡ false → isClipped (view s) (idIn s i) ≡ false → Include ≡ commonFilter (view s) (idIn s i)
+    pub told-included : dropped ≡ false → isClipped (seenAt s k) (idIn s i) ≡ false → Include ≡ commonFilter (seenAt s k) (idIn s i)
     unfolding ordinary
     told-included e d = sym (told ∙ rw (e, d) refl)

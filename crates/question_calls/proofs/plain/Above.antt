@@ -20,7 +20,7 @@ use Rattle.questions.specs.Filters.{withoutParentChecks}
 use Rattle.question_calls.specs.Slots.{Sound, slotId}
 use Rattle.question_calls.proofs.links.Slots.{slot-id-some, slot-id-none}
 use Rattle.question_calls.proofs.links.Up.{few-ancestors, top, more}
-use Rattle.question_calls.specs.Plain.{ownFilter, isInclude, Above, firstIncluded, upFrom}
+use Rattle.question_calls.specs.Plain.{seenAt, ownFilter, isInclude, Above, firstIncluded, upFrom}
 use Rattle.question_calls.proofs.plain.Own.{Clear, clear-unhidden, own-filter, own-included}
 
 pub include-is : (r : FilterResult) → isInclude r ≡ true → r ≡ Include
@@ -94,9 +94,9 @@ module _ (s : List ℕ) where
 
 -- ## What is found of the rest is what is found of all
 
-module _ (s : List ℕ) where
+module _ (s : List ℕ) (k : ℕ) where
   abbrev filter : FullNodeId → FilterResult
-  filter = withoutParentChecks (view s)
+  filter = withoutParentChecks (seenAt s k)
 
   abbrev f : Forest
   f = view s .forest
@@ -124,7 +124,7 @@ module _ (s : List ℕ) where
       levels = sym (c .levels ∙ rw (up-none s p l) (omega arith));
     }
 
-    module _ (x : FullNodeId) (p q level : ℕ) (c : Climbed x p level) (l : p < slotsOf s) (r : FilterResult) (own : r ≡ ownFilter (view s) (idIn s p)) where
+    module _ (x : FullNodeId) (p q level : ℕ) (c : Climbed x p level) (l : p < slotsOf s) (r : FilterResult) (own : r ≡ ownFilter (seenAt s k) (idIn s p)) where
       abbrev y : FullNodeId
       y = idIn s p
 
@@ -136,7 +136,7 @@ module _ (s : List ℕ) where
       clear = or-false (hiddenAt f y) (rw up-here at (c .unhidden))
 
       by-filter : filter y ≡ r
-      by-filter = own-filter (view s) y (clear .1) ∙ sym own
+      by-filter = own-filter (seenAt s k) y (clear .1) ∙ sym own
 
       pub climbed-found : isInclude r ≡ true → Above filter s x (record { slot = p; level = level })
       climbed-found e =
@@ -148,7 +148,7 @@ module _ (s : List ℕ) where
       pub climbed-on : slotId s q ≡ parentAt (f .nodes) y → isInclude r ≡ false → Climbed x q (level + 1)
       climbed-on up e =
           let next = up-next s h p q l up in
-          let passed : filter y ≡ ExcludeNode = own-filter (view s) y (clear .1) ∙ own-included (view s) y (clear .0) (rw own at e) in record {
+          let passed : filter y ≡ ExcludeNode = own-filter (seenAt s k) y (clear .1) ∙ own-included (seenAt s k) y (clear .0) (rw own at e) in record {
             parent-is = c .parent-is ∙ ap (firstIncluded filter) next ∙ first-passed filter y (upFrom s q) passed;
             levels = c .levels ∙ rw (next, leading-goes-on filter y (upFrom s q) passed) (omega arith);
             unhidden = or-false (hiddenAt f y) (rw next at (c .unhidden)) .1;

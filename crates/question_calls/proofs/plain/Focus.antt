@@ -28,7 +28,7 @@ use Rattle.state_focus.specs.Focus.{foundOf}
 use Rattle.questions.specs.Filters.{activeDescendantAt, focusedNode, isFocused}
 use Rattle.question_calls.specs.Slots.{Sound, slotId}
 use Rattle.question_calls.proofs.links.Slots.{slot-id-some, slot-id-none, slot-id-at, slot-shape, slot-found, slot-same, slot-of-present}
-use Rattle.question_calls.specs.Plain.{Focused}
+use Rattle.question_calls.specs.Plain.{seenAt, Focused}
 
 -- ## The active descendant
 
@@ -132,13 +132,13 @@ module _ (s : List ℕ) (n : ℕ) (past : n ≡ slotsOf s) where
 
 -- ## Whether a node is focused
 
-module _ (s : List ℕ) (h : Sound s) (k : ℕ) (focus : Focused s k) (i : ℕ) (there : i < slotsOf s) where
+module _ (s : List ℕ) (h : Sound s) (k i : ℕ) (there : i < slotsOf s) where
   -- by the slot that holds the focused node
-  pub focused-here : i ≡ k → isFocused (view s) (idIn s i) ≡ true
+  pub focused-here : i ≡ k → isFocused (seenAt s k) (idIn s i) ≡ true
   unfolding isFocused
-  focused-here e = rw (← focus, ← e, slot-id-some s i there) (same-id-refl (idIn s i))
+  focused-here e = rw (← e, slot-id-some s i there) (same-id-refl (idIn s i))
 
-  pub focused-not : (i ≡ k → ⊥) → isFocused (view s) (idIn s i) ≡ false
+  pub focused-not : (i ≡ k → ⊥) → isFocused (seenAt s k) (idIn s i) ≡ false
   unfolding isFocused
   focused-not e = go (decLt k (slotsOf s))
     where
@@ -146,6 +146,6 @@ module _ (s : List ℕ) (h : Sound s) (k : ℕ) (focus : Focused s k) (i : ℕ) 
       differ l true p = absurd (e (sym (slot-same s h k i l there (same-id→≡ (idIn s k) (idIn s i) p))))
       differ l false p = refl
 
-      go : Dec (k < slotsOf s) → sameOption sameId (focusedNode (view s)) (some (idIn s i)) ≡ false
-      go (yes l) = rw (← focus, slot-id-some s k l) (differ l (sameId (idIn s k) (idIn s i)) refl)
-      go (no l) = let past : slotsOf s ≤ k = omega arith in rw (← focus, slot-id-none s k past) refl
+      go : Dec (k < slotsOf s) → sameOption sameId (slotId s k) (some (idIn s i)) ≡ false
+      go (yes l) = rw (slot-id-some s k l) (differ l (sameId (idIn s k) (idIn s i)) refl)
+      go (no l) = let past : slotsOf s ≤ k = omega arith in rw (slot-id-none s k past) refl

@@ -8,7 +8,7 @@ use lib.ListN.{length}
 use Rattle.base.specs.Tests.{if_then_else_, any, isNil}
 use Rattle.base.proofs.Tests.{or-false}
 use Rattle.ids.specs.declared.FullNodeId.{FullNodeId}
-use Rattle.state.specs.State.{Forest, State, present}
+use Rattle.state.specs.State.{Forest, present}
 use Rattle.state.proofs.Sound.{Shape}
 use Rattle.state.proofs.Family.{parent-present}
 use Rattle.questions.specs.declared.Side.{Side}
@@ -17,7 +17,7 @@ use Rattle.questions.specs.declared.FilterResult.{FilterResult}
 use Rattle.questions.specs.declared.FilterResult.the-variants.{Include, ExcludeNode, ExcludeSubtree}
 use Rattle.questions.specs.Links.{childIds, ancestors, hiddenAt, isHidden}
 use Rattle.questions.specs.Walks.{turned, leading, shown, filteredChildren, isExcludedNode, filteredParent, hasFilteredSiblings, filteredSiblings}
-use Rattle.questions.specs.Filters.{isFocused, isTransparent, withoutParentChecks}
+use Rattle.questions.specs.Filters.{Seen, isFocused, isTransparent, withoutParentChecks}
 use Rattle.questions.proofs.Links.{member-at, link-child}
 use Rattle.questions.proofs.Walks.{shown-include, shown-node}
 use Rattle.questions.proofs.Shown.{climbed-ahead}
@@ -39,7 +39,7 @@ not-nil (x ∷ xs) y i = refl
 
 -- ## A listed node is a filtered child of its filtered parent
 
-module _ (v : State) (h : Shape (v .forest)) where
+module _ (v : Seen) (h : Shape (v .forest)) where
   abbrev f : Forest
   f = v .forest
 

@@ -9,7 +9,7 @@ use lib.ListN.{length, take, drop}
 use Rattle.base.specs.Tests.{if_then_else_, any}
 use Rattle.base.proofs.Tests.{or-false}
 use Rattle.ids.specs.declared.FullNodeId.{FullNodeId}
-use Rattle.state.specs.State.{ParentAndIndex, Forest, State, present, linkAt}
+use Rattle.state.specs.State.{ParentAndIndex, Forest, present, linkAt}
 use Rattle.state.proofs.Sound.{Shape}
 use Rattle.state.proofs.Family.{parent-present}
 use Rattle.questions.specs.declared.Side.{Side}
@@ -19,7 +19,7 @@ use Rattle.questions.specs.declared.FilterResult.the-variants.{Include, Exclude
 use Rattle.questions.specs.Links.{childIds, beside, siblings, ancestors, hiddenAt, isHidden}
 use Rattle.questions.specs.Walks.{turned, shownWithin, shown}
 use Rattle.questions.specs.Ahead.{ahead}
-use Rattle.questions.specs.Filters.{isFocused, isTransparent, commonFilterBase, withoutParentChecks}
+use Rattle.questions.specs.Filters.{Seen, isFocused, isTransparent, commonFilterBase, withoutParentChecks}
 use Rattle.questions.proofs.Links.{member-child, ancestors-step, ancestors-end}
 use Rattle.questions.proofs.Flat.{flat-cong, flat-member, member-reverse}
 use Rattle.questions.proofs.Walks.{turned-member}
@@ -36,11 +36,11 @@ unfolding isHidden
 clear-unhidden f x e = or-false (hiddenAt f x) e
 
 -- by the flag that is asked: focused, then hidden, then transparent
-unfoldable pub byFlag : State → FullNodeId → Bool → FilterResult
+unfoldable pub byFlag : Seen → FullNodeId → Bool → FilterResult
 byFlag v x flag =
     if isFocused v x then Include else if flag then ExcludeSubtree else if isTransparent (v .forest) x then ExcludeNode else Include
 
-pub checks-by-flag : (v : State) (x : FullNodeId) → withoutParentChecks v x ≡ byFlag v x (isHidden (v .forest) x)
+pub checks-by-flag : (v : Seen) (x : FullNodeId) → withoutParentChecks v x ≡ byFlag v x (isHidden (v .forest) x)
 unfolding withoutParentChecks commonFilterBase byFlag
 checks-by-flag v x = go (isFocused v x) (isHidden (v .forest) x) (isTransparent (v .forest) x)
   where
@@ -73,11 +73,11 @@ ancestors-cons f h x p up e = go (linkAt (f .nodes) x) refl
         let above : ancestors f (l .parent) ≡ up = cc in
         record { link = l; linked = q; parent-is = parent-is; above = rw (← parent-is) above }
 
-pub own-by-flag : (v : State) (x : FullNodeId) → ownFilter v x ≡ byFlag v x (hiddenAt (v .forest) x)
+pub own-by-flag : (v : Seen) (x : FullNodeId) → ownFilter v x ≡ byFlag v x (hiddenAt (v .forest) x)
 unfolding ownFilter byFlag
 own-by-flag v x = refl
 
-module _ (v : State) where
+module _ (v : Seen) where
   abbrev f : Forest
   f = v .forest
 

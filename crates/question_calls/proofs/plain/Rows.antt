@@ -16,7 +16,7 @@ use Rattle.questions.specs.declared.FilterResult.the-variants.{Include, Exclude
 use Rattle.questions.specs.Filters.{isTransparent}
 use Rattle.question_calls.specs.Slots.{Sound}
 use Rattle.question_calls.proofs.links.Slots.{slot-found}
-use Rattle.question_calls.specs.Plain.{Focused}
+use Rattle.question_calls.specs.Plain.{seenAt}
 use Rattle.question_calls.proofs.plain.Own.{byFlag}
 use Rattle.question_calls.proofs.plain.Focus.{focused-here, focused-not}
 
@@ -40,19 +40,19 @@ module _ (s : List ℕ) (h : Sound s) (i : ℕ) (there : i < slotsOf s) where
 
 -- ## By what is asked in turn: focused, hidden, transparent
 
-module _ (s : List ℕ) (h : Sound s) (k : ℕ) (focus : Focused s k) (i : ℕ) (there : i < slotsOf s) (flag : Bool) where
-  pub by-focused : i ≡ k → Include ≡ byFlag (view s) (idIn s i) flag
+module _ (s : List ℕ) (h : Sound s) (k i : ℕ) (there : i < slotsOf s) (flag : Bool) where
+  pub by-focused : i ≡ k → Include ≡ byFlag (seenAt s k) (idIn s i) flag
   unfolding byFlag
-  by-focused e = sym (rw (focused-here s h k focus i there e, byFlag) refl)
+  by-focused e = sym (rw (focused-here s h k i there e, byFlag) refl)
 
-  pub by-hidden : (i ≡ k → ⊥) → flag ≡ true → ExcludeSubtree ≡ byFlag (view s) (idIn s i) flag
+  pub by-hidden : (i ≡ k → ⊥) → flag ≡ true → ExcludeSubtree ≡ byFlag (seenAt s k) (idIn s i) flag
   unfolding byFlag
-  by-hidden e b = sym (rw (focused-not s h k focus i there e, b, byFlag) refl)
+  by-hidden e b = sym (rw (focused-not s h k i there e, b, byFlag) refl)
 
-  pub by-transparent : (i ≡ k → ⊥) → flag ≡ false → isTransparent (view s .forest) (idIn s i) ≡ true → ExcludeNode ≡ byFlag (view s) (idIn s i) flag
+  pub by-transparent : (i ≡ k → ⊥) → flag ≡ false → isTransparent (view s .forest) (idIn s i) ≡ true → ExcludeNode ≡ byFlag (seenAt s k) (idIn s i) flag
   unfolding byFlag
-  by-transparent e b t = sym (rw (focused-not s h k focus i there e, b, t, byFlag) refl)
+  by-transparent e b t = sym (rw (focused-not s h k i there e, b, t, byFlag) refl)
 
-  pub by-plain : (i ≡ k → ⊥) → flag ≡ false → isTransparent (view s .forest) (idIn s i) ≡ false → Include ≡ byFlag (view s) (idIn s i) flag
+  pub by-plain : (i ≡ k → ⊥) → flag ≡ false → isTransparent (view s .forest) (idIn s i) ≡ false → Include ≡ byFlag (seenAt s k) (idIn s i) flag
   unfolding byFlag
-  by-plain e b t = sym (rw (focused-not s h k focus i there e, b, t, byFlag) refl)
+  by-plain e b t = sym (rw (focused-not s h k i there e, b, t, byFlag) refl)

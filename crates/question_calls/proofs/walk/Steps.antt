@@ -12,7 +12,7 @@ use borrow.Author.Tests.{lt-ltb, ltb-false}
 use Rattle.base.specs.Tests.{_&&_, if_then_else_, isSome}
 use Rattle.base.specs.Tables.{row, first}
 use Rattle.ids.specs.declared.FullNodeId.{FullNodeId}
-use Rattle.state.specs.State.{State, present}
+use Rattle.state.specs.State.{Forest, State, present}
 use Rattle.state.specs.Sound.{sound}
 use Rattle.state_array.specs.View.{idIn, slotsOf, view}
 use Rattle.state_focus.specs.declared.FoundNode.{FoundNode}
@@ -22,7 +22,7 @@ use Rattle.questions.specs.declared.Side.{Side}
 use Rattle.questions.specs.declared.Filter.{Filter}
 use Rattle.questions.specs.declared.Walk.{Walk}
 use Rattle.questions.specs.Answers.{askNumber, after}
-use Rattle.questions.specs.Filters.{filterOf}
+use Rattle.questions.specs.Filters.{Seen, seen, filterOf}
 use Rattle.questions.specs.Links.{siblings}
 use Rattle.questions.specs.Walks.{filteredSiblings}
 use Rattle.questions.specs.Kept.{sideOf, filterChoice, siblingList, walkList, walkNumber, stepped, nextOf}
@@ -53,10 +53,10 @@ filter-ours (suc (suc (suc zero))) = refl
 filter-ours (suc (suc (suc (suc n)))) = ap not (sym (lt-ltb 3 (suc (suc (suc (suc n)))) (omega arith)))
 
 -- 2 stands between 1 and 22
-pub number-walk : (v : State) (w : Walk) → numberFor (askNumber (v .forest) (w .node)) (w .side) (w .filter) ≡ walkNumber v w
+pub number-walk : (v : Forest) (w : Walk) → numberFor (askNumber v (w .node)) (w .side) (w .filter) ≡ walkNumber v w
 unfolding numberFor askNumber walkNumber first _&&_
 number-walk v w =
-    go (sound (v .forest)) (present (v .forest .nodes) (w .node)) (ltb 1 (w .side)) (ltb 3 (w .filter)) (isSome (sideOf (w .side))) (isSome (filterChoice (w .filter)))
+    go (sound v) (present (v .nodes) (w .node)) (ltb 1 (w .side)) (ltb 3 (w .filter)) (isSome (sideOf (w .side))) (isSome (filterChoice (w .filter)))
     (side-ours (w .side)) (filter-ours (w .filter))
   where
     go : (a b c d s f : Bool) → s ≡ not c → f ≡ not d
@@ -86,7 +86,7 @@ numbers-ours asked side filter e = go (eqb asked 1) (ltb 1 side) refl (ltb 3 fil
 
 -- ## The list of a walk
 
-module _ (v : State) (w : Walk) (side : Side) (on : sideOf (w .side) ≡ some side) where
+module _ (v : Seen) (w : Walk) (side : Side) (on : sideOf (w .side) ≡ some side) where
   pub list-plain : w .filter ≡ 0 → walkList v w ≡ siblings side (v .forest) (w .node)
   unfolding walkList filterChoice siblingList
   list-plain e = rw (on, walkList, ap filterChoice e) refl
@@ -96,21 +96,21 @@ module _ (v : State) (w : Walk) (side : Side) (on : sideOf (w .side) ≡ some si
   list-filtered filter e = rw (on, walkList, e) refl
 
 -- it has at most 256 ids
-pub walk-few : (s : List ℕ) → Sound s → (i : ℕ) → i < slotsOf s → (w : Walk) → w .node ≡ idIn s i → length (walkList (view s) w) ≤ 256
+pub walk-few : (s : List ℕ) → Sound s → (i : ℕ) → i < slotsOf s → (w : Walk) → w .node ≡ idIn s i → length (walkList (seen (view s)) w) ≤ 256
 unfolding walkList siblingList
 walk-few s h i there w e = go (sideOf (w .side)) (filterChoice (w .filter))
   where
     plain : (side : Side) → length (siblings side (view s .forest) (w .node)) ≤ 256
     plain side = rw e (omega (arith, few-nodes s h, siblings-few side (view s .forest) (slot-shape s h) (idIn s i) (slot-present s h i there)))
 
-    under : (side : Side) (filter : Filter) → length (filteredSiblings (filterOf filter (view s)) side (view s .forest) (w .node)) ≤ 256
+    under : (side : Side) (filter : Filter) → length (filteredSiblings (filterOf filter (seen (view s))) side (view s .forest) (w .node)) ≤ 256
     under side filter =
-        rw e (omega (arith, few-nodes s h, filtered-few side (view s .forest) (slot-shape s h) (idIn s i) (slot-present s h i there) (filterOf filter (view s))))
+        rw e (omega (arith, few-nodes s h, filtered-few side (view s .forest) (slot-shape s h) (idIn s i) (slot-present s h i there) (filterOf filter (seen (view s)))))
 
     go : (o : Option Side) (c : Option (Option Filter))
         → length {A = FullNodeId} (elim o as (λ _. List FullNodeId) [
           | none ↦ []
-          | some side ↦ elim c [ none ↦ [] | some choice ↦ siblingList (view s) (w .node) side choice ]
+          | some side ↦ elim c [ none ↦ [] | some choice ↦ siblingList (seen (view s)) (w .node) side choice ]
         ]) ≤ 256
     go none c = omega arith
     go (some side) none = omega arith
@@ -121,11 +121,11 @@ walk-few s h i there w e = go (sideOf (w .side)) (filterChoice (w .filter))
 
 module _ (v : State) (w : Walk) where
   -- a call that is refused
-  pub step-refused : (n : ℕ) → n ≡ walkNumber v w → (n ≡ 0 → ⊥) → handedOut w (w .count) n found.Nothing ≡ steppedOf (nextOf v w)
+  pub step-refused : (n : ℕ) → n ≡ walkNumber (v .forest) w → (n ≡ 0 → ⊥) → handedOut w (w .count) n found.Nothing ≡ steppedOf (nextOf v w)
   unfolding steppedOf nextOf stepped foundNode
-  step-refused n e h = rw (← e, after-refused none (getElem? (walkList v w) (w .count)) n h) refl
+  step-refused n e h = rw (← e, after-refused none (getElem? (walkList (seen v) w) (w .count)) n h) refl
 
-  module _ (z : walkNumber v w ≡ 0) (r : FoundNode) (e : foundOf r ≡ getElem? (walkList v w) (w .count)) where
+  module _ (z : walkNumber (v .forest) w ≡ 0) (r : FoundNode) (e : foundOf r ≡ getElem? (walkList (seen v) w) (w .count)) where
     by-place : (o : Option FullNodeId) → foundOf r ≡ o → nextOf v w ≡ stepped 0 w o
     unfolding nextOf after
     by-place o q = rw (z, sym e ∙ q) refl
@@ -141,15 +141,15 @@ module _ (v : State) (w : Walk) where
     step-found x count q k = rw (by-place (some x) (ap foundOf q), q, k, add-one (w .count)) refl
 
     -- there the count is a small number
-    pub step-room : (x : FullNodeId) → length (walkList v w) ≤ 256 → r ≡ found.At x → w .count < 256
+    pub step-room : (x : FullNodeId) → length (walkList (seen v) w) ≤ 256 → r ≡ found.At x → w .count < 256
     unfolding foundOf
-    step-room x few q = omega (arith, few, take-more (walkList v w) (w .count) x (sym e ∙ ap foundOf q) .1)
+    step-room x few q = omega (arith, few, take-more (walkList (seen v) w) (w .count) x (sym e ∙ ap foundOf q) .1)
 
 -- the walk about the node in its slot
 pub finds-asked : (s : List ℕ) (i : ℕ) (w : Walk) (r : FoundNode) → idIn s i ≡ w .node → FindsAt s i (w .side) (w .filter) (w .count) r
-    → foundOf r ≡ getElem? (walkList (view s) w) (w .count)
+    → foundOf r ≡ getElem? (walkList (seen (view s)) w) (w .count)
 finds-asked s i w r e q =
-    q ∙ ap (λ (x : FullNodeId). getElem? (walkList (view s) (record { node = x; side = w .side; filter = w .filter; count = w .count })) (w .count)) e
+    q ∙ ap (λ (x : FullNodeId). getElem? (walkList (seen (view s)) (record { node = x; side = w .side; filter = w .filter; count = w .count })) (w .count)) e
 
 -- ## The node in a slot, the sibling at a place
 
@@ -179,8 +179,8 @@ module _ (s : List ℕ) (i side filter count : ℕ) (r : FoundNode) (on : Side) 
   walk = record { node = idIn s i; side = side; filter = filter; count = count }
 
   pub finds-plain : filter ≡ 0 → foundOf r ≡ getElem? (siblings on (view s .forest) (idIn s i)) count → FindsAt s i side filter count r
-  finds-plain z q = q ∙ ap (λ (l : List FullNodeId). getElem? l count) (sym (list-plain (view s) walk on e z))
+  finds-plain z q = q ∙ ap (λ (l : List FullNodeId). getElem? l count) (sym (list-plain (seen (view s)) walk on e z))
 
   pub finds-filtered : (under : Filter) → filterChoice filter ≡ some (some under)
-      → foundOf r ≡ getElem? (filteredSiblings (filterOf under (view s)) on (view s .forest) (idIn s i)) count → FindsAt s i side filter count r
-  finds-filtered under c q = q ∙ ap (λ (l : List FullNodeId). getElem? l count) (sym (list-filtered (view s) walk on e under c))
+      → foundOf r ≡ getElem? (filteredSiblings (filterOf under (seen (view s))) on (view s .forest) (idIn s i)) count → FindsAt s i side filter count r
+  finds-filtered under c q = q ∙ ap (λ (l : List FullNodeId). getElem? l count) (sym (list-filtered (seen (view s)) walk on e under c))

@@ -50,13 +50,13 @@ calls t = (
 )
 
 returns : (t : ℕ) → common-filter-lts.Need-returns (calls t) (common-filter-at t) common-filter.Post
-returns t c = let u = c .before .before .pre .1 in common-focused _ (u .is-sound) _ (u .focus) _ (u .within) (sym (c .if1 .taken))
+returns t c = let u = c .before .before .pre .1 in common-focused _ (u .is-sound) _ _ (u .within) (sym (c .if1 .taken))
 
 returns-2 : (t : ℕ) → common-filter-lts.Need-returns-2 (calls t) (common-filter-at t) common-filter.Post
 returns-2 t c =
     let g = c .before .before in
     let u = g .before .before .pre .1 in
-    common-transparent _ (u .is-sound) _ (u .focus) _ (u .within) (λ e. g .if1 .left (sym e)) (u .shown)
+    common-transparent _ (u .is-sound) _ _ (u .within) (λ e. g .if1 .left (sym e)) (u .shown)
     (sym (c .before .is-transparent .ensures (u .is-sound) (u .within)) ∙ c .if2 .taken)
 
 returns-3 : (t : ℕ) → common-filter-lts.Need-returns-3 (calls t) (common-filter-at t) common-filter.Post
@@ -64,7 +64,7 @@ returns-3 t c =
     let k = c .before .before .before in
     let g = k .before .before in
     let u = g .before .before .pre .1 in
-    common-root _ (u .is-sound) _ (u .focus) _ (u .within) (λ e. g .if1 .left (sym e)) (u .shown)
+    common-root _ (u .is-sound) _ _ (u .within) (λ e. g .if1 .left (sym e)) (u .shown)
     (sym (k .before .is-transparent .ensures (u .is-sound) (u .within)) ∙ k .if2 .left) _ (c .before .before .parent-slot .ensures (u .is-sound) (u .within))
     (rw (c .before .slots .ensures) at (c .if3 .taken))
 
@@ -74,7 +74,7 @@ common-filter-requires t c κs =
     let u = start .before .pre .1 in
     let up = c .before .before .parent-slot .ensures (u .is-sound) (u .within) in
     let l = rw (c .before .slots .ensures) at (c .if3 .left) in
-    (omega (arith, start .before .pre .0, parent-nearer _ _ _ u _ up l), parent-unhidden _ _ _ u _ up l)
+    (omega (arith, start .before .pre .0, parent-nearer _ _ u _ up l), parent-unhidden _ _ u _ up l)
 
 returns-4 : (t : ℕ) → common-filter-lts.Need-returns-4 (calls t) (common-filter-at t) common-filter.Post
 returns-4 t c =
@@ -82,7 +82,7 @@ returns-4 t c =
     let k = m .before .before .before in
     let g = k .before .before in
     let u = g .before .before .pre .1 in
-    common-dropped _ (u .is-sound) _ (u .focus) _ (u .within) (λ e. g .if1 .left (sym e)) (u .shown)
+    common-dropped _ (u .is-sound) _ _ (u .within) (λ e. g .if1 .left (sym e)) (u .shown)
     (sym (k .before .is-transparent .ensures (u .is-sound) (u .within)) ∙ k .if2 .left) _ (m .before .before .parent-slot .ensures (u .is-sound) (u .within))
     (rw (m .before .slots .ensures) at (m .if3 .left)) _ (c .before .before .common-filter .ensures)
     (sym (c .before .is-exclude-subtree .ensures) ∙ c .if4 .taken)
@@ -98,7 +98,7 @@ returns-5 t c =
     let g = k .before .before in
     let u = g .before .before .pre .1 in
     let plain = sym (k .before .is-transparent .ensures (u .is-sound) (u .within)) ∙ k .if2 .left in
-    common-clipped _ (u .is-sound) _ (u .focus) _ (u .within) (λ e. g .if1 .left (sym e)) (u .shown) plain _ (m .before .before .parent-slot .ensures (u .is-sound) (u .within))
+    common-clipped _ (u .is-sound) _ _ (u .within) (λ e. g .if1 .left (sym e)) (u .shown) plain _ (m .before .before .parent-slot .ensures (u .is-sound) (u .within))
     (rw (m .before .slots .ensures) at (m .if3 .left)) _ (d .before .before .common-filter .ensures)
     (sym (d .before .is-exclude-subtree .ensures) ∙ d .if4 .left)
     (sym (c .before .is-clipped .ensures (u .is-sound) (u .within) plain) ∙ c .if5 .taken)
@@ -111,7 +111,7 @@ returns-6 t c =
     let g = k .before .before in
     let u = g .before .before .pre .1 in
     let plain = sym (k .before .is-transparent .ensures (u .is-sound) (u .within)) ∙ k .if2 .left in
-    common-included _ (u .is-sound) _ (u .focus) _ (u .within) (λ e. g .if1 .left (sym e)) (u .shown) plain _ (m .before .before .parent-slot .ensures (u .is-sound) (u .within))
+    common-included _ (u .is-sound) _ _ (u .within) (λ e. g .if1 .left (sym e)) (u .shown) plain _ (m .before .before .parent-slot .ensures (u .is-sound) (u .within))
     (rw (m .before .slots .ensures) at (m .if3 .left)) _ (d .before .before .common-filter .ensures)
     (sym (d .before .is-exclude-subtree .ensures) ∙ d .if4 .left)
     (sym (c .before .is-clipped .ensures (u .is-sound) (u .within) plain) ∙ c .if5 .left)

@@ -9,7 +9,7 @@ use borrow.Fn.PlainCycle.{Measures, is, falls, and}
 use Rattle.questions.specs.Filters.{filterOf, isExcludeSubtree}
 use Rattle.question_calls.proofs.plain.Above.{up-next}
 use Rattle.question_calls.specs.Plain.{upFrom}
-use Rattle.question_calls.proofs.filters.Near.{included-here, included-on, included-end, hidden-joined, dropped-above}
+use Rattle.question_calls.proofs.filters.Near.{kept-filter, included-here, included-on, included-end, hidden-joined, dropped-above}
 use Rattle.question_calls.proofs.filters.nearest_up.Reads as nearest-up
 use Rattle.question_calls.proofs.filters.nearest_up.Kinds as nearest-up-kinds
 use Rattle.question_calls.proofs.filters.+nearest_up.Lts-nearest_up as nearest-up-lts
@@ -56,7 +56,7 @@ returns : (t : ℕ) → nearest-up-lts.Need-returns (calls t) (nearest-up-at t) 
 returns t c =
     let past = rw (c .before .slots .ensures) at (c .if1 .taken) in
     record {
-      included-is = included-end (filterOf _ _) _ (c .before .before .before .pre .1 .0) _ _ past (c .before .slots .ensures);
+      included-is = included-end (filterOf _ _) _ (c .before .before .before .pre .1) _ _ past (c .before .slots .ensures);
       nothing = λ _. (refl, refl);
       hidden-is = λ l. absurd (omega arith);
       dropped-is = λ l. absurd (omega arith);
@@ -65,35 +65,32 @@ returns t c =
 nearest-up-requires : (t : ℕ) → nearest-up-lts.Need-nearest-up-requires (calls t) (nearest-up-at t) nearest-up.Post
 nearest-up-requires t c κs =
     let start = c .before .before .before .before in
-    let sound = start .pre .1 .0 in
+    let sound = start .pre .1 in
     let l = rw (c .before .before .slots .ensures) at (c .before .if1 .left) in
     (omega (arith, start .pre .0, ap length (up-next _ sound _ _ l (c .parent-slot .ensures sound l))), start .pre .1)
 
 common-filter-told-requires : (t : ℕ) → nearest-up-lts.Need-common-filter-told-requires (calls t) (nearest-up-at t) nearest-up.Post
 common-filter-told-requires t c κs =
-    let sound = c .before .before .before .before .before .before .before .pre .1 .0 in
+    let sound = c .before .before .before .before .before .before .before .pre .1 in
     let l = rw (c .before .before .before .before .before .slots .ensures) at (c .before .before .before .before .if1 .left) in
     let up = c .before .before .before .parent-slot .ensures sound l in
     let near = c .before .before .nearest-up .ensures in
     record {
       is-sound = sound;
-      focus = c .before .before .before .before .before .before .before .pre .1 .1;
       within = l;
       hidden-is = hidden-joined _ sound _ l _ up _ _ (λ past. near .nothing past .0) (near .hidden-is) (c .before .hidden-at .ensures sound l);
-      dropped-is = dropped-above _ sound _ l _ up _ (λ past. near .nothing past .1) (near .dropped-is);
+      dropped-is = dropped-above _ _ sound _ l _ up _ (λ past. near .nothing past .1) (near .dropped-is);
     }
-
-is-kept-requires : (t : ℕ) → nearest-up-lts.Need-is-kept-requires (calls t) (nearest-up-at t) nearest-up.Post
-is-kept-requires t c κs = c .before .common-filter-told .ensures
 
 returns-2 : (t : ℕ) → nearest-up-lts.Need-returns-2 (calls t) (nearest-up-at t) nearest-up.Post
 returns-2 t c =
-    let sound = c .before .before .before .before .before .before .before .before .before .before .before .pre .1 .0 in
+    let sound = c .before .before .before .before .before .before .before .before .before .before .before .pre .1 in
     let l = rw (c .before .before .before .before .before .before .before .before .before .slots .ensures) at (c .before .before .before .before .before .before .before .before .if1 .left) in
     let up = c .before .before .before .before .before .before .before .parent-slot .ensures sound l in
     let near = c .before .before .before .before .before .before .nearest-up .ensures in
+    let kept = c .before .is-kept .ensures ∙ kept-filter _ _ _ _ (c .before .before .before .common-filter-told .ensures) in
     record {
-      included-is = included-here (filterOf _ _) _ sound _ l _ refl (sym (c .before .is-kept .ensures) ∙ c .if2 .taken);
+      included-is = included-here (filterOf _ _) _ sound _ l _ refl (sym kept ∙ c .if2 .taken);
       nothing = λ past. absurd (omega arith);
       hidden-is = λ _. hidden-joined _ sound _ l _ up _ _ (λ past. near .nothing past .0) (near .hidden-is) (c .before .before .before .before .before .hidden-at .ensures sound l);
       dropped-is = λ _. c .before .before .is-exclude-subtree .ensures ∙ ap isExcludeSubtree (c .before .before .before .common-filter-told .ensures);
@@ -101,12 +98,13 @@ returns-2 t c =
 
 returns-3 : (t : ℕ) → nearest-up-lts.Need-returns-3 (calls t) (nearest-up-at t) nearest-up.Post
 returns-3 t c =
-    let sound = c .before .before .before .before .before .before .before .before .before .before .before .pre .1 .0 in
+    let sound = c .before .before .before .before .before .before .before .before .before .before .before .pre .1 in
     let l = rw (c .before .before .before .before .before .before .before .before .before .slots .ensures) at (c .before .before .before .before .before .before .before .before .if1 .left) in
     let up = c .before .before .before .before .before .before .before .parent-slot .ensures sound l in
     let near = c .before .before .before .before .before .before .nearest-up .ensures in
+    let kept = c .before .is-kept .ensures ∙ kept-filter _ _ _ _ (c .before .before .before .common-filter-told .ensures) in
     record {
-      included-is = near .included-is ∙ included-on (filterOf _ _) _ sound _ l _ refl _ up (sym (c .before .is-kept .ensures) ∙ c .if2 .left);
+      included-is = near .included-is ∙ included-on (filterOf _ _) _ sound _ l _ refl _ up (sym kept ∙ c .if2 .left);
       nothing = λ past. absurd (omega arith);
       hidden-is = λ _. hidden-joined _ sound _ l _ up _ _ (λ past. near .nothing past .0) (near .hidden-is) (c .before .before .before .before .before .hidden-at .ensures sound l);
       dropped-is = λ _. c .before .before .is-exclude-subtree .ensures ∙ ap isExcludeSubtree (c .before .before .before .common-filter-told .ensures);
@@ -123,6 +121,6 @@ pub +nearest-up-spec : {M : Type 1} → statement M
     (λ c κs. search needs)
     (common-filter-told-requires t)
     (λ c κs. search needs)
-    (is-kept-requires t)
+    (λ c κs. search needs)
     (returns-2 t)
     (returns-3 t)

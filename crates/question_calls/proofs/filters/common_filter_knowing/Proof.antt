@@ -7,19 +7,15 @@ use Rattle.question_calls.proofs.filters.common_filter_knowing.Tie as t
 returns : tie.Need-returns
 returns c = λ sound there. absurd (omega (arith, c .before .slots .ensures))
 
-common-filter-or-hidden-requires : tie.Need-common-filter-or-hidden-requires
-common-filter-or-hidden-requires c κs = let pre = c .before .before .before .before .before .before .pre in (pre .0, pre .1 .0)
-
 common-filter-told-requires : tie.Need-common-filter-told-requires
 common-filter-told-requires c κs =
-    let pre = c .before .before .before .before .before .before .before .before .pre in
+    let sound = c .before .before .before .before .before .before .before .before .pre .0 in
     let l = rw (c .before .before .before .before .before .before .slots .ensures) at (c .before .before .before .before .before .if1 .left) in
     record {
-      is-sound = pre .0;
-      focus = pre .1 .0;
+      is-sound = sound;
       within = l;
-      hidden-is = c .before .is-hidden .ensures (pre .0) l;
-      dropped-is = c .is-parent-dropped .ensures (pre .0) l;
+      hidden-is = c .before .is-hidden .ensures sound l;
+      dropped-is = c .is-parent-dropped .ensures sound l;
     }
 
 pub common-filter-knowing-spec : {M : Type 1} → statement M
@@ -30,7 +26,7 @@ common-filter-knowing-spec =
     returns
     (λ c κs. search needs)
     (λ c κs. search needs)
-    common-filter-or-hidden-requires
+    (λ c κs. search needs)
     (λ c. c .common-filter-or-hidden .ensures)
     (λ c κs. search needs)
     (λ c κs. search needs)

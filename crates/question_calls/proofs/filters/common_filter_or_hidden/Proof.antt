@@ -7,7 +7,7 @@ use Rattle.question_calls.proofs.filters.common_filter_or_hidden.Statem
 use Rattle.question_calls.proofs.filters.common_filter_or_hidden.Tie as tie
 
 returns : tie.Need-returns
-returns c = λ sound there. common-focused _ sound _ (c .before .before .pre .1) _ there (c .if1 .taken)
+returns c = λ sound there. common-focused _ sound _ _ there (c .if1 .taken)
 
 returns-2 : tie.Need-returns-2
 returns-2 c = λ sound there. absurd (omega (arith, c .before .slots .ensures))
@@ -15,14 +15,14 @@ returns-2 c = λ sound there. absurd (omega (arith, c .before .slots .ensures))
 returns-3 : tie.Need-returns-3
 returns-3 c = λ sound there.
     let g = c .before .before .before .before in
-    common-hidden _ sound _ (g .before .before .pre .1) _ there (g .if1 .left) (sym (c .before .is-hidden .ensures sound there) ∙ c .if3 .taken)
+    common-hidden _ sound _ _ there (g .if1 .left) (sym (c .before .is-hidden .ensures sound there) ∙ c .if3 .taken)
 
 common-filter-requires : tie.Need-common-filter-requires
 common-filter-requires c κs =
     let g = c .before .before .before .before in
-    let sound = g .before .before .pre .0 in
+    let sound = g .before .before .pre in
     let there = rw (c .before .before .before .slots .ensures) at (c .before .before .if2 .left) in
-    record { is-sound = sound; focus = g .before .before .pre .1; within = there; shown = sym (c .before .is-hidden .ensures sound there) ∙ c .if3 .left }
+    record { is-sound = sound; within = there; shown = sym (c .before .is-hidden .ensures sound there) ∙ c .if3 .left }
 
 returns-4 : tie.Need-returns-4
 returns-4 c = λ sound there. c .common-filter .ensures

@@ -7,15 +7,15 @@ use Rattle.question_calls.proofs.filters.common_filter_told.Statement.{
 use Rattle.question_calls.proofs.filters.common_filter_told.Tie as tie
 
 returns : tie.Need-returns
-returns c = let t = c .before .before .pre in common-focused _ (t .is-sound) _ (t .focus) _ (t .within) (sym (c .if1 .taken))
+returns c = let t = c .before .before .pre in common-focused _ (t .is-sound) _ _ (t .within) (sym (c .if1 .taken))
 
 returns-2 : tie.Need-returns-2
-returns-2 c = let t = c .before .before .before .pre in common-hidden _ (t .is-sound) _ (t .focus) _ (t .within) (λ e. c .before .if1 .left (sym e)) (sym (t .hidden-is) ∙ c .if2 .taken)
+returns-2 c = let t = c .before .before .before .pre in common-hidden _ (t .is-sound) _ _ (t .within) (λ e. c .before .if1 .left (sym e)) (sym (t .hidden-is) ∙ c .if2 .taken)
 
 returns-3 : tie.Need-returns-3
 returns-3 c =
     let t = c .before .before .before .before .before .pre in
-    common-transparent _ (t .is-sound) _ (t .focus) _ (t .within) (λ e. c .before .before .before .if1 .left (sym e)) (sym (t .hidden-is) ∙ c .before .before .if2 .left)
+    common-transparent _ (t .is-sound) _ _ (t .within) (λ e. c .before .before .before .if1 .left (sym e)) (sym (t .hidden-is) ∙ c .before .before .if2 .left)
     (sym (c .before .is-transparent .ensures (t .is-sound) (t .within)) ∙ c .if3 .taken)
 
 returns-4 : tie.Need-returns-4

@@ -10,16 +10,14 @@ returns : tie.Need-returns
 returns c = answer-refused _ _ _ _ (c .before .before .asked .ensures .number-is) (c .if1 .taken)
 
 filter-at-requires : tie.Need-filter-at-requires
-filter-at-requires c κs =
-    let at = c .before .before .before .before .asked .ensures .stands (c .before .before .if1 .left) in
-    (at .is-sound, c .before .focused-slot .ensures (at .is-sound))
+filter-at-requires c κs = c .before .before .before .before .asked .ensures .stands (c .before .before .if1 .left) .is-sound
 
 returns-2 : tie.Need-returns-2
 returns-2 c =
     let q = c .before .before .before .before .before .asked .ensures in
     let at = q .stands (c .before .before .before .if1 .left) in
     answer-result _ _ _ _ _ (q .number-is) (c .before .before .before .if1 .left)
-    (c .filter-at .ensures (at .is-sound) (at .within) ∙ ap (filterOf _ _) (at .id-is))
+    (rw (← c .before .before .focused-slot .ensures (at .is-sound)) (c .filter-at .ensures (at .is-sound) (at .within) ∙ ap (filterOf _ _) (at .id-is)))
 
 pub filter-spec : {M : Type 1} → statement M
 filter-spec =

@@ -6,9 +6,6 @@ use borrow.Author.Needs.{needs}
 use Rattle.question_calls.proofs.filters.is_clipped.Statement.{statement}
 use Rattle.question_calls.proofs.filters.is_clipped.Tie as tie
 
-included-above-requires : tie.Need-included-above-requires
-included-above-requires c κs = (c .before .pre .is-sound, c .before .pre .focus)
-
 returns : tie.Need-returns
 returns c = λ sound there plain.
     let u = c .before .before .before .before .pre in
@@ -36,7 +33,7 @@ returns-3 c = λ sound there plain.
 is-first-sibling-requires : tie.Need-is-first-sibling-in-parent-bbox-requires
 is-first-sibling-requires c κs =
     let u = c .before .before .before .before .before .before .before .before .before .before .pre in
-    (u .is-sound, u .focus)
+    u .is-sound
 
 returns-4 : tie.Need-returns-4
 returns-4 c = λ sound there plain.
@@ -54,7 +51,7 @@ returns-4 c = λ sound there plain.
 is-first-sibling-requires-2 : tie.Need-is-first-sibling-in-parent-bbox-requires-2
 is-first-sibling-requires-2 c κs =
     let u = c .before .before .before .before .before .before .before .before .before .before .before .before .pre in
-    (u .is-sound, u .focus)
+    u .is-sound
 
 returns-5 : tie.Need-returns-5
 returns-5 c = λ sound there plain.
@@ -74,7 +71,7 @@ pub is-clipped-spec : {M : Type 1} → statement M
 is-clipped-spec =
     tie.close
     (tie.spec
-    included-above-requires
+    (λ c κs. search needs)
     (λ c κs. search needs)
     returns
     (λ c κs. search needs)

@@ -7,21 +7,18 @@ use Rattle.question_calls.proofs.filters.is_parent_dropped.Statement.{s
 use Rattle.question_calls.proofs.filters.is_parent_dropped.Tie as tie
 
 returns : tie.Need-returns
-returns c = λ sound there. dropped-top _ sound _ there _ (c .before .before .parent-slot .ensures sound there) (rw (c .before .slots .ensures) at (c .if1 .taken))
+returns c = λ sound there. dropped-top _ _ sound _ there _ (c .before .before .parent-slot .ensures sound there) (rw (c .before .slots .ensures) at (c .if1 .taken))
 
 returns-2 : tie.Need-returns-2
 returns-2 c = λ sound there.
-    dropped-known _ sound _ there _ (c .before .before .before .before .parent-slot .ensures sound there) _ (c .before .before .before .before .before .before .pre .1 .1) (c .if2 .taken)
+    dropped-known _ _ sound _ there _ (c .before .before .before .before .parent-slot .ensures sound there) _ (c .before .before .before .before .before .before .pre .1) (c .if2 .taken)
     (rw (c .before .before .before .slots .ensures) at (c .before .before .if1 .left))
-
-common-filter-or-hidden-requires : tie.Need-common-filter-or-hidden-requires
-common-filter-or-hidden-requires c κs = let pre = c .before .before .before .before .before .before .pre in (pre .0, pre .1 .0)
 
 returns-3 : tie.Need-returns-3
 returns-3 c = λ sound there.
     let l = rw (c .before .before .before .before .before .slots .ensures) at (c .before .before .before .before .if1 .left) in
-    dropped-up _ sound _ there _ (c .before .before .before .before .before .before .parent-slot .ensures sound there) _ l
+    dropped-up _ _ sound _ there _ (c .before .before .before .before .before .before .parent-slot .ensures sound there) _ l
     (c .is-exclude-subtree .ensures ∙ ap isExcludeSubtree (c .before .common-filter-or-hidden .ensures sound l))
 
 pub is-parent-dropped-spec : {M : Type 1} → statement M
-is-parent-dropped-spec = tie.close (tie.spec (λ c κs. search needs) (λ c κs. search needs) returns returns-2 common-filter-or-hidden-requires (λ c κs. search needs) returns-3)
+is-parent-dropped-spec = tie.close (tie.spec (λ c κs. search needs) (λ c κs. search needs) returns returns-2 (λ c κs. search needs) (λ c κs. search needs) returns-3)

@@ -7,7 +7,7 @@ use Rattle.question_calls.proofs.filters.known_at.Tie as tie
 
 returns-3 : tie.Need-returns-3
 returns-3 c = λ l.
-    c .is-exclude-subtree .ensures ∙ ap isExcludeSubtree (c .before .common-filter-or-hidden .ensures (c .before .before .before .before .before .before .before .before .before .before .pre .0) l)
+    c .is-exclude-subtree .ensures ∙ ap isExcludeSubtree (c .before .common-filter-or-hidden .ensures (c .before .before .before .before .before .before .before .before .before .before .pre) l)
 
 pub known-at-spec : {M : Type 1} → statement M
 known-at-spec =
@@ -15,12 +15,12 @@ known-at-spec =
     (tie.spec
     (λ c κs. search needs)
     (λ c κs. search needs)
-    (λ c. c .nothing-known .ensures)
+    (λ c. c .nothing-known .ensures _)
     (λ c κs. search needs)
     (λ c κs. search needs)
     (λ c κs. search needs)
     (λ c κs. search needs)
-    (λ c. c .nothing-known2 .ensures)
+    (λ c. c .nothing-known2 .ensures _)
     (λ c κs. search needs)
     (λ c κs. search needs)
     returns-3)

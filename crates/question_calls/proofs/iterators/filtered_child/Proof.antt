@@ -13,18 +13,18 @@ returns : tie.Need-returns
 returns c = c .refused .ensures ∙ node-refused _ _ _ (c .before .before .before .asked .ensures .number-is) (c .before .if1 .taken)
 
 known-at-requires : tie.Need-known-at-requires
-known-at-requires c κs =
-    let sound = c .before .before .before .before .asked .ensures .stands (omega arith) .is-sound in
-    (sound, c .before .focused-slot .ensures sound)
+known-at-requires c κs = c .before .before .before .before .asked .ensures .stands (omega arith) .is-sound
 
 filtered-child-requires : tie.Need-filtered-child-requires
 filtered-child-requires c κs =
     let sound = c .before .before .before .before .before .before .asked .ensures .stands (omega arith) .is-sound in
-    (sound, (c .before .before .before .focused-slot .ensures sound, c .before .known-at .ensures))
+    (sound, c .before .known-at .ensures)
 
 returns-2 : tie.Need-returns-2
 returns-2 c =
-    node-asked _ _ _ (c .before .before .before .before .before .before .before .before .asked .ensures) (omega arith) (filteredChildOn _ (filterOf _ _)) _ _ (c .before .filtered-child .ensures .0) (c .found .ensures)
+    let q = c .before .before .before .before .before .before .before .before .asked .ensures in
+    rw (← c .before .before .before .before .before .focused-slot .ensures (q .stands (omega arith) .is-sound))
+    (node-asked _ _ _ q (omega arith) (filteredChildOn _ (filterOf _ _)) _ _ (c .before .filtered-child .ensures .0) (c .found .ensures))
 
 pub filtered-child-spec : {M : Type 1} → statement M
 filtered-child-spec = tie.close (tie.spec (λ c. search needs) (λ c κs. search needs) (λ c κs. search needs) returns (λ c κs. search needs) (λ c. search needs) known-at-requires (λ c. search needs) filtered-child-requires (λ c κs. search needs) returns-2)

@@ -12,24 +12,24 @@ returns : tie.Need-returns
 returns c = rw (c .no-list .ensures) (list-refused _ _ _ _ _ _ (c .before .before .before .asked .ensures .number-is) (c .before .if1 .taken))
 
 known-at-requires : tie.Need-known-at-requires
-known-at-requires c κs =
-    let sound = c .before .before .before .before .asked .ensures .stands (omega arith) .is-sound in
-    (sound, c .before .focused-slot .ensures sound)
+known-at-requires c κs = c .before .before .before .before .asked .ensures .stands (omega arith) .is-sound
 
 shown-child-requires : tie.Need-shown-child-requires
 shown-child-requires c κs =
     let sound = c .before .before .before .before .before .before .asked .ensures .stands (omega arith) .is-sound in
-    (sound, (c .before .before .before .focused-slot .ensures sound, c .before .known-at .ensures))
+    (sound, c .before .known-at .ensures)
 
 list-from-requires : tie.Need-list-from-requires
 list-from-requires c κs =
     let sound = c .before .before .before .before .before .before .before .before .before .asked .ensures .stands (omega arith) .is-sound in
-    (sound, (c .before .before .before .before .before .before .focused-slot .ensures sound, c .before .before .before .before .known-at .ensures))
+    (sound, c .before .before .before .before .known-at .ensures)
 
 returns-2 : tie.Need-returns-2
 returns-2 c =
-    list-asked _ _ _ (c .before .before .before .before .before .before .before .before .before .before .before .before .asked .ensures) (omega arith) (filteredChildren (filterOf _ _)) _ _ _ _
-    (λ sound there. children-listed (filterOf _ _) _ _ _ _ (c .before .before .before .before .before .shown-child .ensures .0 sound there)) (c .before .before .list-from .ensures)
+    let q = c .before .before .before .before .before .before .before .before .before .before .before .before .asked .ensures in
+    rw (← c .before .before .before .before .before .before .before .before .before .focused-slot .ensures (q .stands (omega arith) .is-sound))
+    (list-asked _ _ _ q (omega arith) (filteredChildren (filterOf _ _)) _ _ _ _
+    (λ sound there. children-listed (filterOf _ _) _ _ _ _ (c .before .before .before .before .before .shown-child .ensures .0 sound there)) (c .before .before .list-from .ensures))
 
 pub filtered-children-spec : {M : Type 1} → statement M
 filtered-children-spec =

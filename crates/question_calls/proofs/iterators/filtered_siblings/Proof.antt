@@ -12,19 +12,19 @@ returns : tie.Need-returns
 returns c = rw (c .no-list .ensures) (list-refused _ _ _ _ _ _ (c .before .before .before .asked .ensures .number-is) (c .before .if1 .taken))
 
 shown-sibling-requires : tie.Need-shown-sibling-requires
-shown-sibling-requires c κs =
-    let sound = c .before .before .before .before .asked .ensures .stands (omega arith) .is-sound in
-    (sound, c .before .focused-slot .ensures sound)
+shown-sibling-requires c κs = c .before .before .before .before .asked .ensures .stands (omega arith) .is-sound
 
 list-from-requires : tie.Need-list-from-requires
 list-from-requires c κs =
     let sound = c .before .before .before .before .before .before .before .asked .ensures .stands (omega arith) .is-sound in
-    (sound, (c .before .before .before .before .focused-slot .ensures sound, c .before .before .shown-sibling .ensures .1))
+    (sound, c .before .before .shown-sibling .ensures .1)
 
 returns-2 : tie.Need-returns-2
 returns-2 c =
-    list-asked _ _ _ (c .before .before .before .before .before .before .before .before .before .before .asked .ensures) (omega arith) (filteredSiblings (filterOf _ _) _) _ _ _ _
-    (c .before .before .before .before .before .shown-sibling .ensures .0) (c .before .before .list-from .ensures)
+    let q = c .before .before .before .before .before .before .before .before .before .before .asked .ensures in
+    rw (← c .before .before .before .before .before .before .before .focused-slot .ensures (q .stands (omega arith) .is-sound))
+    (list-asked _ _ _ q (omega arith) (filteredSiblings (filterOf _ _) _) _ _ _ _
+    (c .before .before .before .before .before .shown-sibling .ensures .0) (c .before .before .list-from .ensures))
 
 pub filtered-siblings-spec : {M : Type 1} → statement M
 filtered-siblings-spec =

@@ -16,8 +16,5 @@ returns c = puts-nothing _ _ (listed-nil _ _ (c .before .before .before .before 
 returns-2 : tie.Need-returns-2
 returns-2 c = puts-collected _ _ _ _ _ _ _ (c .before .before .before .before .before .before .collect .ensures) (c .before .before .put .ensures)
 
-collect-requires : tie.Need-collect-requires
-collect-requires c κs = let pre = c .before .before .before .before .before .before .pre in (pre .0, (pre .1 .0, (pre .1 .1, omega arith)))
-
 pub list-from-spec : {M : Type 1} → statement M
-list-from-spec = tie.close (tie.spec (λ c κs. search needs) returns (λ c. search needs) collect-requires (λ c. search needs) put-requires (λ c. search needs) returns-2)
+list-from-spec = tie.close (tie.spec (λ c κs. search needs) returns (λ c. search needs) (λ c κs. search needs) (λ c. search needs) put-requires (λ c. search needs) returns-2)

@@ -7,25 +7,25 @@ use Rattle.question_calls.proofs.plain.common_filter_without_parent_che
 use Rattle.question_calls.proofs.plain.common_filter_without_parent_checks.Tie as tie
 
 returns : tie.Need-returns
-returns c = λ sound there. by-focused _ sound _ (c .before .before .pre) _ there _ (c .if1 .taken) ∙ sym (checks-by-flag _ _)
+returns c = λ sound there. by-focused _ sound _ _ there _ (c .if1 .taken) ∙ sym (checks-by-flag _ _)
 
 returns-2 : tie.Need-returns-2
 returns-2 c = λ sound there.
     let g = c .before .before in
-    by-hidden _ sound _ (g .before .before .pre) _ there _ (g .if1 .left) (sym (c .before .is-hidden .ensures sound there) ∙ c .if2 .taken) ∙ sym (checks-by-flag _ _)
+    by-hidden _ sound _ _ there _ (g .if1 .left) (sym (c .before .is-hidden .ensures sound there) ∙ c .if2 .taken) ∙ sym (checks-by-flag _ _)
 
 returns-3 : tie.Need-returns-3
 returns-3 c = λ sound there.
     let k = c .before .before in
     let g = k .before .before in
-    by-transparent _ sound _ (g .before .before .pre) _ there _ (g .if1 .left) (sym (k .before .is-hidden .ensures sound there) ∙ k .if2 .left)
+    by-transparent _ sound _ _ there _ (g .if1 .left) (sym (k .before .is-hidden .ensures sound there) ∙ k .if2 .left)
     (sym (c .before .is-transparent .ensures sound there) ∙ c .if3 .taken) ∙ sym (checks-by-flag _ _)
 
 returns-4 : tie.Need-returns-4
 returns-4 c = λ sound there.
     let k = c .before .before in
     let g = k .before .before in
-    by-plain _ sound _ (g .before .before .pre) _ there _ (g .if1 .left) (sym (k .before .is-hidden .ensures sound there) ∙ k .if2 .left)
+    by-plain _ sound _ _ there _ (g .if1 .left) (sym (k .before .is-hidden .ensures sound there) ∙ k .if2 .left)
     (sym (c .before .is-transparent .ensures sound there) ∙ c .if3 .left) ∙ sym (checks-by-flag _ _)
 
 pub common-filter-without-parent-checks-spec : {M : Type 1} → statement M

@@ -6,11 +6,11 @@ use native.Mathlib.Omega.{arith}
 use lib.ListN.{length}
 use borrow.Author.Needs.{needs}
 use Rattle.base.proofs.Tests.{call-false, call-true}
-use Rattle.state_array.specs.View.{idIn, slotsOf, view}
+use Rattle.state_array.specs.View.{idIn, slotsOf}
 use Rattle.questions.specs.Filters.{filterOf}
 use Rattle.question_calls.specs.Slots.{Sound}
 use Rattle.question_calls.proofs.plain.Above.{up-next, up-few}
-use Rattle.question_calls.specs.Plain.{upFrom}
+use Rattle.question_calls.specs.Plain.{seenAt, upFrom}
 use Rattle.question_calls.proofs.shown.Above.{Climbing, climbing-start, climbing-stops, climbing-on, climbing-end}
 use Rattle.question_calls.proofs.shown.climb.Statement.{statement}
 use Rattle.question_calls.proofs.shown.climb.Tie as tie
@@ -19,7 +19,7 @@ abbrev Inv-loop : tie.InvT-loop
 Inv-loop state parents focused filter i n p₀ level₀ p level =
     (n ≡ slotsOf state)
     × (level + length (upFrom state p) ≤ 320)
-    × ((sound : Sound state) → i < slotsOf state → Climbing (filterOf filter (view state)) state sound (idIn state i) p level)
+    × ((sound : Sound state) → i < slotsOf state → Climbing (filterOf filter (seenAt state focused)) state sound (idIn state i) p level)
 
 abbrev μ-loop : tie.MeasureT-loop
 μ-loop state parents focused filter i n p₀ level₀ p level = length (upFrom state p)
@@ -27,12 +27,9 @@ abbrev μ-loop : tie.MeasureT-loop
 loop-holds : tie.Need-loop-holds Inv-loop μ-loop
 loop-holds c = (
   c .before .slots .ensures,
-  omega (arith, up-few _ (c .before .before .before .pre .0) (c .parent-slot .result)),
+  omega (arith, up-few _ (c .before .before .before .pre) (c .parent-slot .result)),
   λ sound there. climbing-start (filterOf _ _) _ sound _ _ there (c .parent-slot .ensures sound there),
 )
-
-is-passed-requires : tie.Need-is-passed-requires Inv-loop μ-loop
-is-passed-requires c κs = c .before .before .before .before .before .pre .1
 
 returns : tie.Need-returns Inv-loop μ-loop
 returns c = λ sound there.
@@ -44,14 +41,14 @@ returns c = λ sound there.
 next : tie.Need-loop-less Inv-loop μ-loop
 next c =
     let l = c .before .before .before .before .loop in
-    let sound = c .before .before .before .before .before .before .before .before .pre .0 in
+    let sound = c .before .before .before .before .before .before .before .before .pre in
     let m = rw (l .inv .0) at (c .before .before .before .loop-test .taken) in
     omega (arith, ap length (up-next _ sound (l .p) _ m (c .parent-slot2 .ensures sound m)))
 
 loop-again : tie.Need-loop-again Inv-loop μ-loop
 loop-again c =
     let l = c .before .before .before .before .loop in
-    let sound = c .before .before .before .before .before .before .before .before .pre .0 in
+    let sound = c .before .before .before .before .before .before .before .before .pre in
     let m = rw (l .inv .0) at (c .before .before .before .loop-test .taken) in
     let up = c .parent-slot2 .ensures sound m in (
       l .inv .0,
@@ -75,7 +72,7 @@ climb-spec =
     (λ c κs. search needs)
     (λ c κs. search needs)
     loop-holds
-    is-passed-requires
+    (λ c κs. search needs)
     returns
     (λ c κs. search needs)
     (λ c. search needs)

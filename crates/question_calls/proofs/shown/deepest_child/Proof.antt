@@ -9,20 +9,18 @@ use Rattle.questions.specs.Filters.{filterOf}
 use Rattle.questions.specs.Links.{ancestors}
 use Rattle.question_calls.specs.Slots.{Sound}
 use Rattle.question_calls.specs.Filters.{Included}
+use Rattle.question_calls.specs.Plain.{seenAt}
 use Rattle.question_calls.proofs.shown.Shown.{DeepestFrom, deepest-nothing, deepest-start, deepest-end, deepest-on, deepest-less}
 use Rattle.question_calls.proofs.shown.deepest_child.Statement.{statement}
 use Rattle.question_calls.proofs.shown.deepest_child.Tie as tie
 
 abbrev Inv-loop : tie.InvT-loop
 Inv-loop state parents focused filter side i n deepest₀ deepest =
-    (n ≡ slotsOf state) × (deepest < slotsOf state) × Included filter state deepest
-    × ((sound : Sound state) → i < slotsOf state → DeepestFrom side state sound (filterOf filter (view state)) (idIn state i) deepest)
+    (n ≡ slotsOf state) × (deepest < slotsOf state) × Included filter state focused deepest
+    × ((sound : Sound state) → i < slotsOf state → DeepestFrom side state sound (filterOf filter (seenAt state focused)) (idIn state i) deepest)
 
 abbrev μ-loop : tie.MeasureT-loop
 μ-loop state parents focused filter side i n deepest₀ deepest = length (view state .forest .nodes) - length (ancestors (view state .forest) (idIn state deepest))
-
-filtered-child-requires : tie.Need-filtered-child-requires Inv-loop μ-loop
-filtered-child-requires c κs = let pre = c .before .before .before .pre in (pre .0, (pre .1, c .known-at .ensures))
 
 returns : tie.Need-returns Inv-loop μ-loop
 returns c = λ sound there.
@@ -40,7 +38,7 @@ loop-holds c =
     )
 
 filtered-child-requires-2 : tie.Need-filtered-child-requires-2 Inv-loop μ-loop
-filtered-child-requires-2 c κs = let pre = c .before .before .before .before .before .before .before .pre in (pre .0, (pre .1, c .known-included .ensures))
+filtered-child-requires-2 c κs = let pre = c .before .before .before .before .before .before .before .pre in (pre, c .known-included .ensures _ (c .before .loop .inv .2))
 
 returns-2 : tie.Need-returns-2 Inv-loop μ-loop
 returns-2 c = λ sound there.
@@ -51,7 +49,7 @@ returns-2 c = λ sound there.
 loop-less : tie.Need-loop-less Inv-loop μ-loop
 loop-less c =
     let l = c .before .before .before .loop in
-    let sound = c .before .before .before .before .before .before .before .before .before .pre .0 in
+    let sound = c .before .before .before .before .before .before .before .before .before .pre in
     deepest-less _ _ sound (filterOf _ _) (l .deepest) _ (l .inv .1) (c .before .filtered-child2 .ensures .0 sound (l .inv .1)) (rw (l .inv .0) at (c .if2 .left))
 
 loop-again : tie.Need-loop-again Inv-loop μ-loop
@@ -73,10 +71,10 @@ deepest-child-spec =
     μ-loop
     (λ c κs. search needs)
     (λ c κs. search needs)
-    filtered-child-requires
+    (λ c κs. search needs)
     returns
     loop-holds
-    (λ c κs. c .loop .inv .2)
+    (λ c κs. search needs)
     filtered-child-requires-2
     returns-2
     loop-less

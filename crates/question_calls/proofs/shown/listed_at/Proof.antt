@@ -3,9 +3,9 @@ use mathlib.Core.Path.{_≡_, refl, sym, ap, _∙_}
 use native.Mathlib.Omega.{arith}
 use lib.ListN.{getElem?}
 use borrow.Author.Needs.{needs}
-use Rattle.state_array.specs.View.{slotsOf, view}
+use Rattle.state_array.specs.View.{slotsOf}
 use Rattle.questions.specs.Filters.{filterOf}
-use Rattle.question_calls.specs.Plain.{listedFrom}
+use Rattle.question_calls.specs.Plain.{seenAt, listedFrom}
 use Rattle.question_calls.proofs.shown.Shown.{at-first, at-end, at-next}
 use Rattle.question_calls.proofs.shown.listed_at.Statement.{statement}
 use Rattle.question_calls.proofs.shown.listed_at.Tie as tie
@@ -13,7 +13,7 @@ use Rattle.question_calls.proofs.shown.listed_at.Tie as tie
 abbrev Inv-loop : tie.InvT-loop
 Inv-loop state parents focused filter known side count n here₀ left₀ here left =
     (n ≡ slotsOf state)
-    × (getElem? (listedFrom (filterOf filter (view state)) side state here) left ≡ getElem? (listedFrom (filterOf filter (view state)) side state here₀) left₀)
+    × (getElem? (listedFrom (filterOf filter (seenAt state focused)) side state here) left ≡ getElem? (listedFrom (filterOf filter (seenAt state focused)) side state here₀) left₀)
 
 abbrev μ-loop : tie.MeasureT-loop
 μ-loop state parents focused filter known side count n here₀ left₀ here left = left
@@ -26,9 +26,6 @@ returns c =
     let l = c .before .before .loop in
     let sound = c .before .before .before .before .before .pre .0 in
     at-end _ _ sound (filterOf _ _) (l .here) _ (l .left) (rw (l .inv .0) at (c .if1 .taken)) (l .inv .0) ∙ l .inv .1
-
-shown-after-requires : tie.Need-shown-after-requires Inv-loop μ-loop
-shown-after-requires c κs = c .before .before .before .before .before .pre
 
 loop-again : tie.Need-loop-again Inv-loop μ-loop
 loop-again c =
@@ -55,7 +52,7 @@ listed-at-spec =
     (λ c κs. search needs)
     loop-holds
     returns
-    shown-after-requires
+    (λ c κs. search needs)
     (λ c. search needs)
     (λ c. search needs)
     loop-again

@@ -4,9 +4,8 @@ use mathlib.Core.Bool.{Bool}
 use mathlib.Core.Path.{sym, ap, _∙_}
 use native.Mathlib.Omega.{arith}
 use borrow.Author.Needs.{needs}
-use Rattle.state_array.specs.View.{view}
 use Rattle.questions.specs.Filters.{filterOf}
-use Rattle.question_calls.specs.Plain.{firstIncluded, upFrom}
+use Rattle.question_calls.specs.Plain.{seenAt, firstIncluded, upFrom}
 use Rattle.question_calls.specs.Filters.{exceptedFilter}
 use Rattle.question_calls.proofs.filters.Near.{plain-filter, asking-filter}
 use Rattle.question_calls.proofs.shown.nearest.Statement.{statement}
@@ -16,14 +15,14 @@ returns : tie.Need-returns
 returns c =
     let a = c .before .before .before .before .before .args in (
       c .included-from .ensures
-          ∙ ap (λ f. firstIncluded f (upFrom (now (a .state)) (a .i))) (plain-filter (view (now (a .state))) _ (sym (c .before .before .before .is-plain .ensures) ∙ c .before .before .if1 .taken)),
+          ∙ ap (λ f. firstIncluded f (upFrom (now (a .state)) (a .i))) (plain-filter _ _ (sym (c .before .before .before .is-plain .ensures) ∙ c .before .before .if1 .taken)),
       λ l. absurd (omega (arith, c .before .slots .ensures)),
     )
 
 returns-2 : tie.Need-returns-2
 returns-2 c =
     let a = c .before .before .before .before .before .args in
-    let v = view (now (a .state)) in
+    let v = seenAt (now (a .state)) (a .focused) in
     let asks = asking-filter v (a .filter) (sym (c .before .before .before .is-plain .ensures) ∙ c .before .before .if1 .left) in
     let same = ap (λ (e : Bool). filterOf (exceptedFilter e) v) (c .before .has-root-exception .ensures) ∙ asks in (
       c .nearest-up .ensures .included-is ∙ ap (λ f. firstIncluded f (upFrom (now (a .state)) (a .i))) same,

@@ -10,7 +10,7 @@ use Rattle.questions.specs.Filters.{filterOf}
 use Rattle.questions.specs.Walks.{shown}
 use Rattle.questions.proofs.Shown.{mass}
 use Rattle.question_calls.specs.Places.{metFrom}
-use Rattle.question_calls.specs.Plain.{unlisted}
+use Rattle.question_calls.specs.Plain.{seenAt, unlisted}
 use Rattle.question_calls.proofs.plain.Above.{include-is}
 use Rattle.question_calls.proofs.plain.Listed.{listed-end, listed-here, listed-on, listed-less}
 use Rattle.question_calls.proofs.shown.Shown.{met-unlisted}
@@ -20,8 +20,8 @@ use Rattle.question_calls.proofs.shown.shown_from.Tie as tie
 abbrev Inv-loop : tie.InvT-loop
 Inv-loop state parents focused filter known side n here₀ consider₀ here consider =
     (n ≡ slotsOf state)
-    × (flatMap (shown (filterOf filter (view state)) side (view state .forest)) (metFrom side state here)
-    ≡ flatMap (shown (filterOf filter (view state)) side (view state .forest)) (metFrom side state here₀))
+    × (flatMap (shown (filterOf filter (seenAt state focused)) side (view state .forest)) (metFrom side state here)
+    ≡ flatMap (shown (filterOf filter (seenAt state focused)) side (view state .forest)) (metFrom side state here₀))
 
 abbrev μ-loop : tie.MeasureT-loop
 μ-loop state parents focused filter known side n here₀ consider₀ here consider = mass side (view state .forest) (metFrom side state here)
@@ -34,9 +34,6 @@ returns c =
     let l = c .before .loop in
     let past = rw (l .inv .0) at (c .if1 .taken) in
     (sym (l .inv .1) ∙ listed-end _ _ _ (l .here) past, λ there. absurd (omega arith))
-
-filter-knowing-requires : tie.Need-filter-knowing-requires Inv-loop μ-loop
-filter-knowing-requires c κs = c .before .before .before .before .pre
 
 returns-2 : tie.Need-returns-2 Inv-loop μ-loop
 returns-2 c =
@@ -88,7 +85,7 @@ shown-from-spec =
     (λ c κs. search needs)
     loop-holds
     returns
-    filter-knowing-requires
+    (λ c κs. search needs)
     (λ c κs. search needs)
     returns-2
     (λ c κs. search needs)

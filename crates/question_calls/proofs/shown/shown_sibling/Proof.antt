@@ -19,7 +19,7 @@ returns c =
       λ sound there.
           siblings-alone _ _ sound (filterOf _ _) _ _ (c .before .before .before .before .climb .ensures sound there) _ _ (c .before .before .before .after .ensures sound there) (rw n at (c .before .if1 .taken))
           (omega (arith, n)),
-      c .nothing-known .ensures,
+      c .nothing-known .ensures _,
     )
 
 returns-2 : tie.Need-returns-2
@@ -31,12 +31,11 @@ returns-2 c =
       near .1,
     )
 
-known-included-requires : tie.Need-known-included-requires
-known-included-requires c κs = λ l.
-    first-is (filterOf _ _) (upFrom (now (c .before .before .before .before .before .before .before .before .before .args .state)) (c .before .before .before .before .before .before .climb .result .slot)) _ (sym (c .before .before .nearest .ensures .0) ∙ slot-id-some _ _ l)
-
 filtered-child-requires : tie.Need-filtered-child-requires
-filtered-child-requires c κs = let pre = c .before .before .before .before .before .before .before .before .before .before .pre in (pre .0, (pre .1, c .known-included .ensures))
+filtered-child-requires c κs =
+    let start = c .before .before .before .before .before .before .before .before .before .before in
+    let up = upFrom (now (start .args .state)) (c .before .before .before .before .before .before .before .climb .result .slot) in
+    (start .pre, c .known-included .ensures _ (λ l. first-is (filterOf _ _) up _ (sym (c .before .before .before .nearest .ensures .0) ∙ slot-id-some _ _ l)))
 
 returns-3 : tie.Need-returns-3
 returns-3 c =
@@ -48,9 +47,6 @@ returns-3 c =
           (rw n at (c .if3 .taken)) (omega (arith, n)),
       near .1,
     )
-
-shown-from-requires : tie.Need-shown-from-requires
-shown-from-requires c κs = let pre = c .before .before .before .before .before .before .before .before .before .before .before .before .pre in (pre .0, (pre .1, c .before .before .before .before .before .nearest .ensures .1))
 
 returns-4 : tie.Need-returns-4
 returns-4 c =
@@ -74,8 +70,8 @@ shown-sibling-spec =
     returns
     (λ c κs. search needs)
     returns-2
-    known-included-requires
+    (λ c κs. search needs)
     filtered-child-requires
     returns-3
-    shown-from-requires
+    (λ c κs. search needs)
     returns-4)

@@ -4,22 +4,17 @@ use Rattle.question_calls.proofs.walk.Steps.{slot-nothing, slot-found, 
 use Rattle.question_calls.proofs.walk.shown_at.Statement.{statement}
 use Rattle.question_calls.proofs.walk.shown_at.Tie as tie
 
-shown-sibling-requires : tie.Need-shown-sibling-requires
-shown-sibling-requires c κs = let sound = c .before .before .pre in (sound, c .focused-slot .ensures sound)
-
-listed-at-requires : tie.Need-listed-at-requires
-listed-at-requires c κs =
-    let sound = c .before .before .before .pre in (sound, (c .before .focused-slot .ensures sound, c .shown-sibling .ensures .1))
-
 returns : tie.Need-returns
 returns c = λ sound there.
-    slot-nothing _ _ _ _ (c .before .slots .ensures) (c .if1 .taken)
-    (listed-place _ _ _ _ _ (c .before .before .listed-at .ensures) (c .before .before .before .shown-sibling .ensures .0 sound there))
+    rw (← c .before .before .before .before .focused-slot .ensures sound)
+    (slot-nothing _ _ _ _ (c .before .slots .ensures) (c .if1 .taken)
+    (listed-place _ _ _ _ _ (c .before .before .listed-at .ensures) (c .before .before .before .shown-sibling .ensures .0 sound there)))
 
 returns-2 : tie.Need-returns-2
 returns-2 c = λ sound there.
-    slot-found _ _ _ _ _ (c .before .before .slots .ensures) (c .before .if1 .left) (c .id-at .ensures)
-    (listed-place _ _ _ _ _ (c .before .before .before .listed-at .ensures) (c .before .before .before .before .shown-sibling .ensures .0 sound there))
+    rw (← c .before .before .before .before .before .focused-slot .ensures sound)
+    (slot-found _ _ _ _ _ (c .before .before .slots .ensures) (c .before .if1 .left) (c .id-at .ensures)
+    (listed-place _ _ _ _ _ (c .before .before .before .listed-at .ensures) (c .before .before .before .before .shown-sibling .ensures .0 sound there)))
 
 pub shown-at-spec : {M : Type 1} → statement M
-shown-at-spec = tie.close (tie.spec (λ c κs. search needs) shown-sibling-requires listed-at-requires (λ c κs. search needs) returns (λ c κs. search needs) returns-2)
+shown-at-spec = tie.close (tie.spec (λ c κs. search needs) (λ c κs. search needs) (λ c κs. search needs) (λ c κs. search needs) returns (λ c κs. search needs) returns-2)

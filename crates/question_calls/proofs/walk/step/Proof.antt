@@ -7,6 +7,7 @@ use borrow.Author.Needs.{needs}
 use lib.ListN.{getElem?}
 use Rattle.state_array.specs.View.{view}
 use Rattle.state_focus.specs.Focus.{foundOf}
+use Rattle.questions.specs.Filters.{seen}
 use Rattle.questions.specs.Kept.{walkList, walkNumber}
 use Rattle.question_calls.specs.Asks.{NodeAt}
 use Rattle.question_calls.specs.Walk.{numberFor}
@@ -15,15 +16,16 @@ use Rattle.question_calls.proofs.walk.step.Statement.{statement}
 use Rattle.question_calls.proofs.walk.step.Tie as tie
 
 -- the number is the definition's
-numbered : (c : tie.After-number-of) → c .number-of .result ≡ walkNumber (view (now (c .before .before .before .before .before .args .state))) (c .before .before .before .before .before .args .walk)
+numbered : (c : tie.After-number-of) → let a = c .before .before .before .before .before .args in
+    c .number-of .result ≡ walkNumber (view (now (a .state)) .forest) (a .walk)
 numbered c =
     let a = c .before .before .before .before .before .args in
     c .number-of .ensures
     ∙ ap (λ (k : ℕ). numberFor k (a .walk .side) (a .walk .filter)) (c .before .before .asked .ensures .number-is)
-    ∙ number-walk (view (now (a .state))) (a .walk)
+    ∙ number-walk (view (now (a .state)) .forest) (a .walk)
 
-zero-number : (c : tie.After-sibling-at)
-    → walkNumber (view (now (c .before .before .before .before .before .before .before .before .args .state))) (c .before .before .before .before .before .before .before .before .args .walk) ≡ 0
+zero-number : (c : tie.After-sibling-at) → let a = c .before .before .before .before .before .before .before .before .args in
+    walkNumber (view (now (a .state)) .forest) (a .walk) ≡ 0
 zero-number c = sym (numbered (c .before .before .before)) ∙ omega arith
 
 -- the node stands in its slot
@@ -34,7 +36,7 @@ node-there c = c .before .before .before .before .before .asked .ensures .stands
 
 -- what is found stands at the walk's count in its list
 place : (c : tie.After-sibling-at) → let a = c .before .before .before .before .before .before .before .before .args in
-    foundOf (c .sibling-at .result) ≡ getElem? (walkList (view (now (a .state))) (a .walk)) (a .walk .count)
+    foundOf (c .sibling-at .result) ≡ getElem? (walkList (seen (view (now (a .state)))) (a .walk)) (a .walk .count)
 place c = finds-asked _ _ (c .before .before .before .before .before .before .before .before .args .walk) _ (node-there c .id-is) (c .sibling-at .ensures)
 
 returns : tie.Need-returns
