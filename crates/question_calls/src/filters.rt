@@ -171,7 +171,7 @@ pub struct Known {
     pub dropped: bool,
 }
 
-// What is known where nothing is.
+// What is known where nothing is, whichever node is focused.
 pub(crate) fn nothing_known(state: &State) -> Known
     ensures { λ r. ⌜ ((k : ℕ) → Knows (now (state .entry)) k r) ⌝ }
 {

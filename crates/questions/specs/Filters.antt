@@ -46,11 +46,12 @@ focusedNode s =
     ]
     else none
 
--- What a filter sees of a state: the forest, and the focused node, if there is one.
+-- What a filter sees: a forest, and the focused node, if there is one.
 pub record Seen : Type 0 where
   pub forest : Forest
   pub focused : Option FullNodeId
 
+-- so of a whole state
 abbrev pub seen : State → Seen
 seen s = record { forest = s .forest; focused = focusedNode s }
 
