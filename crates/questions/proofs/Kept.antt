@@ -24,6 +24,7 @@ unfolding walkNumber
 number-moved s w = refl
 
 module _ (s : State) where
+  -- what a walk goes over in the state, and the number of a call
   abbrev list : Walk → List FullNodeId
   list w = walkList (seen s) w
 

@@ -1,6 +1,6 @@
 -- Laws of links in a sound shape: a node's link and the children of its parent say the same, and each climb is one step nearer the root.
 -- Assumes nothing.
-use mathlib.Core.Bool.{Bool, true, false, _||_}
+use mathlib.Core.Bool.{true, _||_, or-false}
 use mathlib.Core.List.{List, [], _∷_, map, List·Memᴰ, List·Memᴰ·head, List·Memᴰ·tail}
 use mathlib.Core.Option.{Option, none, some, Option·none-ne-some, Option·some-injective}
 use mathlib.Core.Path.{_≡_, refl, sym, ap, _∙_, subst}
@@ -253,8 +253,4 @@ module _ (s : Forest) (h : Shape s) where
 
   pub hidden-top : (x : FullNodeId) → linkAt (s .nodes) x ≡ none → isHidden s x ≡ hiddenAt s x
   unfolding isHidden
-  hidden-top x q = rw (ancestors-end x q) (or-nothing (hiddenAt s x))
-    where
-      or-nothing : (b : Bool) → (b || false) ≡ b
-      or-nothing true = refl
-      or-nothing false = refl
+  hidden-top x q = rw (ancestors-end x q) (or-false (hiddenAt s x))

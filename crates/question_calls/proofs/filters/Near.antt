@@ -27,7 +27,8 @@ use Rattle.question_calls.specs.Plain.{seenAt, isInclude, firstIncluded,
 use Rattle.question_calls.proofs.plain.Above.{include-is, first-included, up-none, up-some, up-next}
 use Rattle.question_calls.proofs.plain.Focus.{focused-not}
 use Rattle.question_calls.specs.declared.filters.Known.{Known}
-use Rattle.question_calls.specs.Filters.{Unhidden, parentDropped, Knows, Told, isPlain, hasRootException, exceptedFilter, isKept, isExcludeNode}
+use Rattle.question_calls.specs.declared.filters.Nearest.{Nearest}
+use Rattle.question_calls.specs.Filters.{Unhidden, parentDropped, Knows, Told, isPlain, hasRootException, exceptedFilter, isKept, isExcludeNode, Near}
 use Rattle.question_calls.proofs.filters.Common.{base-none, common-more, exception-other}
 
 -- ## ExcludeNode is said whatever the parent is
@@ -219,3 +220,42 @@ module _ (s : List ℕ) (k i : ℕ) (hidden dropped : Bool) (t : Told s k i hidd
     pub told-included : dropped ≡ false → isClipped (seenAt s k) (idIn s i) ≡ false → Include ≡ commonFilter (seenAt s k) (idIn s i)
     unfolding ordinary
     told-included e d = sym (told ∙ rw (e, d) refl)
+
+-- ## What the node in slot p tells of the node in slot i below it
+
+module _ (s : List ℕ) (k : ℕ) (e : Bool) (h : Sound s) (i : ℕ) (there : i < slotsOf s) (p : ℕ)
+    (up : slotId s p ≡ parentAt (view s .forest .nodes) (idIn s i)) (above : Nearest) (near : Near s k e p above)
+    (own : Bool) (flag : own ≡ hiddenAt (view s .forest) (idIn s i)) where
+  hidden : (above .hidden || own) ≡ isHidden (view s .forest) (idIn s i)
+  hidden = hidden-joined s h i there p up (above .hidden) own (λ past. near .nothing past .0) (near .hidden-is) flag
+
+  pub near-told : Told s k i (above .hidden || own) (above .dropped)
+  near-told = record {
+    is-sound = h;
+    within = there;
+    hidden-is = hidden;
+    dropped-is = dropped-above s k h i there p up (above .dropped) (λ past. near .nothing past .1) (near .dropped-is);
+  }
+
+  module _ (r : FilterResult) (is : r ≡ commonFilter (seenAt s k) (idIn s i)) (d : Bool) (dropped : d ≡ isExcludeSubtree r)
+      (b : Bool) (kept : b ≡ isKept (view s .forest) e r (idIn s i)) where
+    abbrev filter : FullNodeId → FilterResult
+    filter = filterOf (exceptedFilter e) (seenAt s k)
+
+    included : b ≡ isInclude (filter (idIn s i))
+    included = kept ∙ kept-filter (seenAt s k) (idIn s i) e r is
+
+    near-with : (j : ℕ) → slotId s j ≡ firstIncluded filter (upFrom s i) → Near s k e i (record { included = j; hidden = above .hidden || own; dropped = d })
+    near-with j q = record {
+      included-is = q;
+      nothing = λ past. absurd (omega (arith, past, there));
+      hidden-is = λ _. hidden;
+      dropped-is = λ _. dropped ∙ ap isExcludeSubtree is;
+    }
+
+    -- it is the nearest included one itself, or that is the parent's
+    pub near-here : b ≡ true → Near s k e i (record { included = i; hidden = above .hidden || own; dropped = d })
+    near-here q = near-with i (included-here filter s h i there (filter (idIn s i)) refl (sym included ∙ q))
+
+    pub near-up : b ≡ false → Near s k e i (record { included = above .included; hidden = above .hidden || own; dropped = d })
+    near-up q = near-with (above .included) (near .included-is ∙ included-on filter s h i there (filter (idIn s i)) refl p up (sym included ∙ q))

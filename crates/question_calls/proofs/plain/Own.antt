@@ -1,6 +1,6 @@
 -- Where no ancestor of a node is hidden, the filter without parent checks asks the node's own hidden flag alone, and so it is for all that
 -- stands for the node and for what is ahead of it. Assumes nothing.
-use mathlib.Core.Bool.{Bool, true, false, _||_, true≢false, false≢true}
+use mathlib.Core.Bool.{Bool, true, false, _||_, true≢false, false≢true, or-false as or-nothing}
 use mathlib.Core.List.{List, [], _∷_, flatMap, List·Memᴰ, List·Memᴰ·head, List·Memᴰ·tail, List·Memᴰ·not-nil, nil≢cons}
 use mathlib.Core.Option.{Option, none, some}
 use mathlib.Core.Path.{_≡_, refl, sym, ap, _∙_}
@@ -84,11 +84,7 @@ module _ (v : Seen) where
   -- the two filters agree
   pub own-filter : (x : FullNodeId) → Clear f x → withoutParentChecks v x ≡ ownFilter v x
   unfolding isHidden
-  own-filter x clear = checks-by-flag v x ∙ ap (byFlag v x) (ap (λ (b : Bool). hiddenAt f x || b) clear ∙ nothing (hiddenAt f x)) ∙ sym (own-by-flag v x)
-    where
-      nothing : (b : Bool) → (b || false) ≡ b
-      nothing true = refl
-      nothing false = refl
+  own-filter x clear = checks-by-flag v x ∙ ap (byFlag v x) (ap (λ (b : Bool). hiddenAt f x || b) clear ∙ or-nothing (hiddenAt f x)) ∙ sym (own-by-flag v x)
 
   -- a node whose children stand in its place is not hidden
   own-node : (x : FullNodeId) → ownFilter v x ≡ ExcludeNode → hiddenAt f x ≡ false

@@ -1,15 +1,15 @@
 -- `filters::nearest_up` meets its contract: what is told of a node by those above it. The measure is how many there are from it up. Assumes nothing.
-use mathlib.Core.Path.{refl, sym, ap, _∙_}
+use mathlib.Core.Path.{refl, ap}
 use Prim.Native.Nat.{ℕ, _<_}
 use native.Mathlib.Omega.{arith}
 use lib.ListN.{length}
 use borrow.Author.Needs.{needs}
 use borrow.Fn.Kinds.{In}
 use borrow.Fn.PlainCycle.{Measures, is, falls, and}
-use Rattle.questions.specs.Filters.{filterOf, isExcludeSubtree}
+use Rattle.questions.specs.Filters.{filterOf}
 use Rattle.question_calls.proofs.plain.Above.{up-next}
 use Rattle.question_calls.specs.Plain.{upFrom}
-use Rattle.question_calls.proofs.filters.Near.{kept-filter, included-here, included-on, included-end, hidden-joined, dropped-above}
+use Rattle.question_calls.proofs.filters.Near.{included-end, near-told, near-here, near-up}
 use Rattle.question_calls.proofs.filters.nearest_up.Reads as nearest-up
 use Rattle.question_calls.proofs.filters.nearest_up.Kinds as nearest-up-kinds
 use Rattle.question_calls.proofs.filters.+nearest_up.Lts-nearest_up as nearest-up-lts
@@ -73,42 +73,23 @@ common-filter-told-requires : (t : ℕ) → nearest-up-lts.Need-common-filter-to
 common-filter-told-requires t c κs =
     let sound = c .before .before .before .before .before .before .before .pre .1 in
     let l = rw (c .before .before .before .before .before .slots .ensures) at (c .before .before .before .before .if1 .left) in
-    let up = c .before .before .before .parent-slot .ensures sound l in
-    let near = c .before .before .nearest-up .ensures in
-    record {
-      is-sound = sound;
-      within = l;
-      hidden-is = hidden-joined _ sound _ l _ up _ _ (λ past. near .nothing past .0) (near .hidden-is) (c .before .hidden-at .ensures sound l);
-      dropped-is = dropped-above _ _ sound _ l _ up _ (λ past. near .nothing past .1) (near .dropped-is);
-    }
+    near-told _ _ _ sound _ l _ (c .before .before .before .parent-slot .ensures sound l) _ (c .before .before .nearest-up .ensures) _ (c .before .hidden-at .ensures sound l)
 
 returns-2 : (t : ℕ) → nearest-up-lts.Need-returns-2 (calls t) (nearest-up-at t) nearest-up.Post
 returns-2 t c =
-    let sound = c .before .before .before .before .before .before .before .before .before .before .before .pre .1 in
-    let l = rw (c .before .before .before .before .before .before .before .before .before .slots .ensures) at (c .before .before .before .before .before .before .before .before .if1 .left) in
-    let up = c .before .before .before .before .before .before .before .parent-slot .ensures sound l in
-    let near = c .before .before .before .before .before .before .nearest-up .ensures in
-    let kept = c .before .is-kept .ensures ∙ kept-filter _ _ _ _ (c .before .before .before .common-filter-told .ensures) in
-    record {
-      included-is = included-here (filterOf _ _) _ sound _ l _ refl (sym kept ∙ c .if2 .taken);
-      nothing = λ past. absurd (omega arith);
-      hidden-is = λ _. hidden-joined _ sound _ l _ up _ _ (λ past. near .nothing past .0) (near .hidden-is) (c .before .before .before .before .before .hidden-at .ensures sound l);
-      dropped-is = λ _. c .before .before .is-exclude-subtree .ensures ∙ ap isExcludeSubtree (c .before .before .before .common-filter-told .ensures);
-    }
+    let k = c .before .before .before .before in
+    let sound = k .before .before .before .before .before .before .before .pre .1 in
+    let l = rw (k .before .before .before .before .before .slots .ensures) at (k .before .before .before .before .if1 .left) in
+    near-here _ _ _ sound _ l _ (k .before .before .before .parent-slot .ensures sound l) _ (k .before .before .nearest-up .ensures) _ (k .before .hidden-at .ensures sound l)
+    _ (c .before .before .before .common-filter-told .ensures) _ (c .before .before .is-exclude-subtree .ensures) _ (c .before .is-kept .ensures) (c .if2 .taken)
 
 returns-3 : (t : ℕ) → nearest-up-lts.Need-returns-3 (calls t) (nearest-up-at t) nearest-up.Post
 returns-3 t c =
-    let sound = c .before .before .before .before .before .before .before .before .before .before .before .pre .1 in
-    let l = rw (c .before .before .before .before .before .before .before .before .before .slots .ensures) at (c .before .before .before .before .before .before .before .before .if1 .left) in
-    let up = c .before .before .before .before .before .before .before .parent-slot .ensures sound l in
-    let near = c .before .before .before .before .before .before .nearest-up .ensures in
-    let kept = c .before .is-kept .ensures ∙ kept-filter _ _ _ _ (c .before .before .before .common-filter-told .ensures) in
-    record {
-      included-is = near .included-is ∙ included-on (filterOf _ _) _ sound _ l _ refl _ up (sym kept ∙ c .if2 .left);
-      nothing = λ past. absurd (omega arith);
-      hidden-is = λ _. hidden-joined _ sound _ l _ up _ _ (λ past. near .nothing past .0) (near .hidden-is) (c .before .before .before .before .before .hidden-at .ensures sound l);
-      dropped-is = λ _. c .before .before .is-exclude-subtree .ensures ∙ ap isExcludeSubtree (c .before .before .before .common-filter-told .ensures);
-    }
+    let k = c .before .before .before .before in
+    let sound = k .before .before .before .before .before .before .before .pre .1 in
+    let l = rw (k .before .before .before .before .before .slots .ensures) at (k .before .before .before .before .if1 .left) in
+    near-up _ _ _ sound _ l _ (k .before .before .before .parent-slot .ensures sound l) _ (k .before .before .nearest-up .ensures) _ (k .before .hidden-at .ensures sound l)
+    _ (c .before .before .before .common-filter-told .ensures) _ (c .before .before .is-exclude-subtree .ensures) _ (c .before .is-kept .ensures) (c .if2 .left)
 
 pub +nearest-up-spec : {M : Type 1} → statement M
 +nearest-up-spec = close μ-nearest-up λ t. nearest-up-lts.spec (calls t)
