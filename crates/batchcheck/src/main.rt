@@ -1,5 +1,7 @@
 // Reads texts of calls and says, call by call, which batch is taken and which is refused, and why; answers the questions between them:
 // docs/BATCHCHECK.md. What decides is the library `cartgravel`. Nothing of this program is proved but that it is safe and ends.
+#![tactic(auto)]
+
 mod perform;
 mod run;
 mod status;

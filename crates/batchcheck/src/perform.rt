@@ -15,7 +15,7 @@ use replies::Reply;
 use state_array::State;
 
 // What is printed beside the calls' answers, and how.
-#[derive(Drop)]
+#[derive(Clone, Copy)]
 pub(crate) struct Show {
     pub(crate) quiet: bool,
     pub(crate) tree: bool,

@@ -44,7 +44,7 @@ const FILTERS: u64 = 3;
 const SIDES: u64 = 2;
 
 // A question: of which node, what, and what stands behind that.
-#[derive(Drop)]
+#[derive(Clone, Copy)]
 pub(crate) struct Question {
     pub(crate) id: FullNodeId,
     pub(crate) what: u64,

@@ -31,7 +31,7 @@ const HIDDEN: u64 = 1024;
 const CLIPS: u64 = 2048;
 
 // A byte of a label, how long its text is, and whether that is well written.
-#[derive(Drop)]
+#[derive(Clone, Copy)]
 struct Spelled {
     byte: u8,
     length: usize,

@@ -24,7 +24,7 @@ const OPEN: u8 = 1;
 pub const DUE: u8 = 2;
 
 // The call that is read, or the one before, where none is. Its record stands beside it, in a draft.
-#[derive(Drop)]
+#[derive(Clone, Copy)]
 pub struct Call {
     pub kind: u8,
     pub stage: u8,

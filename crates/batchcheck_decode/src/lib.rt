@@ -1,4 +1,6 @@
 // A record of bytes as a text of calls says it, so that `batchcheck` makes the same bytes of that text. Proved safe and ending, no more.
+#![tactic(auto)]
+
 ghost use Rattle.std.specs.Prelude.{◌<◌};
 
 use batchcheck_floats::exact;

@@ -5,7 +5,7 @@ use program_text::lines::part;
 const ROOM: usize = 4096;
 
 // A path in the making: its bytes stand in a lent array.
-#[derive(Drop)]
+#[derive(Clone, Copy)]
 pub struct Path {
     length: usize,
     good: bool,

@@ -3,7 +3,7 @@ use crate::paths;
 use program_text::lines::part;
 
 // How long a record is, and whether it could be read.
-#[derive(Drop)]
+#[derive(Clone, Copy)]
 pub struct RecordLength {
     pub length: usize,
     pub good: bool,

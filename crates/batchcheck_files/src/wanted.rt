@@ -7,7 +7,7 @@ use program_text::{cursor, decimal, faults, lines};
 const MOST_ANSWER: u64 = 21;
 
 // Where the reading of the file stands.
-#[derive(Drop)]
+#[derive(Clone, Copy)]
 pub struct Wanted {
     input: Input,
     // How many numbers were read, and the last one.

@@ -1,5 +1,7 @@
 // How `batchcheck` prints an f64: as a decimal of at most 15 digits that a text of calls would read as this very number, or, with `~` before it,
 // as one of 15 digits near it. Proved safe and ending, no more.
+#![tactic(auto)]
+
 use program_text::decimal;
 use program_text::print::{Out, hex, number, of_number, put};
 
@@ -18,7 +20,7 @@ const MOST_EXACT: u64 = 22;
 const MOST_FRACTION: u64 = 15;
 
 // Digits times a power of ten, divided by another, of which one is 1.
-#[derive(Drop)]
+#[derive(Clone, Copy)]
 struct Decimal {
     digits: u64,
     up: u64,

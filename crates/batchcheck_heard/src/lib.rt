@@ -2,6 +2,8 @@
 // no more. The way goes to the first filtered child, else to the next filtered sibling, else to that of an item above, and keeps nothing but
 // where it is. It goes by `common_filter_with_root_exception`, which says of every node but ROOT's root what `common_filter` says: so what lies
 // right below the root has siblings where the root itself is no item.
+#![tactic(auto)]
+
 use batchcheck_nodes::draw;
 use batchcheck_nodes::draw::Place;
 use batchcheck_nodes::print::spoken;

@@ -8,7 +8,7 @@ use state_focus::FoundNode;
 use state_lookup::FoundTree;
 
 // A node on the way: its slot, state_array::SLOTS past the end, and how deep it is.
-#[derive(Drop)]
+#[derive(Clone, Copy)]
 pub struct Place {
     pub slot: usize,
     pub depth: usize,

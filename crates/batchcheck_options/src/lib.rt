@@ -1,8 +1,10 @@
 // The arguments of `batchcheck`. Proved safe and ending, no more.
+#![tactic(auto)]
+
 use program_text::cursor;
 
 // What the arguments say so far. An option holds for the files after it, and one after the last file for all.
-#[derive(Drop)]
+#[derive(Clone, Copy)]
 pub struct Options {
     pub quiet: bool,
     pub tree: bool,

@@ -1,4 +1,6 @@
 // The reasons of `explain` in words, and one mend where it is known. Proved safe and ending, no more; nothing is worked out here.
+#![tactic(auto)]
+
 use batchcheck_record::malformed;
 use calls::explain::{Explanation, Way};
 use ids::{FullNodeId, NodeId, TreeIndex};

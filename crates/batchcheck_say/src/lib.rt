@@ -1,4 +1,6 @@
 // What `batchcheck` says of a call: a block, or one line. Proved safe and ending, no more.
+#![tactic(auto)]
+
 mod differences;
 
 ghost use Rattle.std.specs.Prelude.{◌<◌};
@@ -26,7 +28,7 @@ pub const NOT_SAID: u64 = 255;
 pub const MISSING: u64 = 254;
 
 // A call and how it is told. `kind`: 0 start, 1 batch, 2 host focus change. `line`: where the call begins. `call`: its place in the file, from 1.
-#[derive(Drop)]
+#[derive(Clone, Copy)]
 pub struct Seen {
     pub kind: u8,
     pub call: u64,

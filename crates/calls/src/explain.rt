@@ -26,7 +26,7 @@ pub type Way = [u64; 66];
 
 // Why a number is answered, as plain numbers; a field that the number does not use is 0. docs/NUMBERS.md has what each field holds.
 #[repr(C)]
-#[derive(Drop)]
+#[derive(Clone, Copy)]
 pub struct Explanation {
     pub place: usize,
     pub other: usize,

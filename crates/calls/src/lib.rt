@@ -1,5 +1,7 @@
 // The three calls: a start, a batch, a host focus change, over the state's words; in explain.rt why they answer their number. The crate
 // `cartgravel` exports them. The phases of an update, each of which leans on what those before it wrote, are private modules.
+#![tactic(auto)]
+
 mod answers;
 mod apply;
 mod bodies;

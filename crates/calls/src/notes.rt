@@ -55,7 +55,7 @@ pub const CHANGED: usize = 2753;
 
 // What a batch is about: its tree's number, whether that tree is ROOT, how many nodes it lists and how many children they name, whether it
 // has tree data, and the tree's root as the batch leaves it, if there is one.
-#[derive(Drop)]
+#[derive(Clone, Copy)]
 pub struct Scope {
     pub tree: TreeIndex,
     pub is_root_tree: bool,
@@ -67,7 +67,7 @@ pub struct Scope {
 }
 
 // Why a phase turns a batch away: a number of document 01's table, 0 where it does not, and a place for a node's id.
-#[derive(Drop)]
+#[derive(Clone, Copy)]
 pub struct Refusal {
     pub number: u8,
     pub node: FullNodeId,

@@ -18,7 +18,7 @@ const NONE: usize = 64;
 
 // Where the pass stands after a step: at child entry j of listed node i. `twice` is whether the step named a child named before,
 // `at` the listed node that it placed, NONE if none.
-#[derive(Drop)]
+#[derive(Clone, Copy)]
 struct Step {
     i: usize,
     j: usize,
@@ -27,14 +27,14 @@ struct Step {
 }
 
 // The same of a step that names a child: it goes on to the next entry.
-#[derive(Drop)]
+#[derive(Clone, Copy)]
 struct Naming {
     twice: bool,
     at: usize,
 }
 
 // What makes the first of rows 9 to 14 hold, listed nodes and child entries by their places.
-#[derive(Drop)]
+#[derive(Clone, Copy)]
 pub enum Cause {
     // None of them holds.
     Nothing,

@@ -33,7 +33,7 @@ const RELINKED: u64 = 4;
 const REMOVED: u64 = 1;
 
 // The lengths of the four lists, how many elements they take together, and whether the lent slice has room for them.
-#[derive(Drop)]
+#[derive(Clone, Copy)]
 pub struct Lists {
     pub added: usize,
     pub updated: usize,
@@ -44,7 +44,7 @@ pub struct Lists {
 }
 
 // The focus before and after, and the extra ids.
-#[derive(Drop)]
+#[derive(Clone, Copy)]
 pub struct Report {
     pub focus_before: FoundNode,
     pub focus_after: FoundNode,

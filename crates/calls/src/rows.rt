@@ -25,14 +25,14 @@ use state_array::State;
 use state_lookup::FoundTree;
 
 // The root of a tree as a batch leaves it, if there is one.
-#[derive(Drop)]
+#[derive(Clone, Copy)]
 struct Root {
     rooted: bool,
     node: NodeId,
 }
 
 // Two places of one node among the listed ones; both are their number where no node is listed twice.
-#[derive(Drop)]
+#[derive(Clone, Copy)]
 pub struct Again {
     pub first: usize,
     pub second: usize,

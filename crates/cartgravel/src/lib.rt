@@ -1,6 +1,8 @@
 // The library that terminals link: the three calls, why a call gets its number, and in asking.rt the questions. Numbers, slices, plain structs and
 // the state's words alone cross the boundary: a slice passes as a pointer and a length, the state as a pointer. include/cartgravel.h declares the
 // functions for C.
+#![tactic(auto)]
+
 mod asking;
 
 ghost use Rattle.std.specs.Prelude.{◌≡◌};
@@ -77,7 +79,7 @@ pub extern "C" fn cartgravel_explain_start<'a, 'b, 'c>(
 }
 
 // What a step of a kept walk answers, and the walk after it.
-#[derive(Drop)]
+#[derive(Clone, Copy)]
 pub struct PlainStep {
     pub walk: Walk,
     pub answer: FoundId,

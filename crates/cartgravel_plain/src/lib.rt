@@ -1,4 +1,6 @@
 // The answers of the questions as plain numbers and structs, for C: enums become a number and fields that are 0 where there is nothing.
+#![tactic(auto)]
+
 ghost use Rattle.std.proofs.Math.Option.{none};
 ghost use Rattle.std.specs.Prelude.{◌≡◌};
 ghost use Rattle.base.specs.Tests.{if◌then◌else◌};
@@ -24,7 +26,7 @@ use state_lookup::FoundTree;
 
 // A node, if there is one.
 #[repr(C)]
-#[derive(Drop)]
+#[derive(Clone, Copy)]
 pub struct FoundId {
     pub id: OptionalId,
     pub number: u32,
@@ -32,7 +34,7 @@ pub struct FoundId {
 
 // How many ids or bytes were written.
 #[repr(C)]
-#[derive(Drop)]
+#[derive(Clone, Copy)]
 pub struct Listed {
     pub length: usize,
     pub number: u32,
@@ -40,7 +42,7 @@ pub struct Listed {
 
 // A flag, 0 or 1.
 #[repr(C)]
-#[derive(Drop)]
+#[derive(Clone, Copy)]
 pub struct Flag {
     pub value: u32,
     pub number: u32,
@@ -48,7 +50,7 @@ pub struct Flag {
 
 // A transform.
 #[repr(C)]
-#[derive(Drop)]
+#[derive(Clone, Copy)]
 pub struct PlainTransform {
     pub transform: Affine,
     pub number: u32,
@@ -56,7 +58,7 @@ pub struct PlainTransform {
 
 // A box: `kind` is 0 where there is none.
 #[repr(C)]
-#[derive(Drop)]
+#[derive(Clone, Copy)]
 pub struct PlainBox {
     pub rect: Rect,
     pub kind: u32,
@@ -65,21 +67,21 @@ pub struct PlainBox {
 
 // What a filter says: 0 Include, 1 ExcludeNode, 2 ExcludeSubtree.
 #[repr(C)]
-#[derive(Drop)]
+#[derive(Clone, Copy)]
 pub struct PlainResult {
     pub result: u32,
     pub number: u32,
 }
 
 // A filter by its number, if it is one of ours.
-#[derive(Drop)]
+#[derive(Clone, Copy)]
 pub enum FilterNumber {
     Known(Filter),
     Unknown,
 }
 
 // A side by its number, if it is one of ours.
-#[derive(Drop)]
+#[derive(Clone, Copy)]
 pub enum SideNumber {
     Known(Side),
     Unknown,
@@ -87,7 +89,7 @@ pub enum SideNumber {
 
 // What a node says of itself. A field whose flag (the record's) is clear is 0.
 #[repr(C)]
-#[derive(Drop)]
+#[derive(Clone, Copy)]
 pub struct PlainNode {
     pub bounds: Rect,
     pub transform: Affine,
@@ -102,7 +104,7 @@ pub struct PlainNode {
 
 // A tree id, if there is one.
 #[repr(C)]
-#[derive(Drop)]
+#[derive(Clone, Copy)]
 pub struct PlainTreeId {
     pub id: TreeId,
     pub present: u32,
@@ -111,7 +113,7 @@ pub struct PlainTreeId {
 
 // A tree number, if there is one.
 #[repr(C)]
-#[derive(Drop)]
+#[derive(Clone, Copy)]
 pub struct PlainIndex {
     pub index: u32,
     pub present: u32,
@@ -120,7 +122,7 @@ pub struct PlainIndex {
 
 // The root and the focus of a tree, if it exists.
 #[repr(C)]
-#[derive(Drop)]
+#[derive(Clone, Copy)]
 pub struct PlainEnds {
     pub root: OptionalId,
     pub focus: OptionalId,
@@ -129,7 +131,7 @@ pub struct PlainEnds {
 
 // How many nodes and tree numbers there are, and whether the host has the focus.
 #[repr(C)]
-#[derive(Drop)]
+#[derive(Clone, Copy)]
 pub struct PlainCounts {
     pub nodes: usize,
     pub trees: usize,
@@ -381,25 +383,25 @@ pub fn node(a: NodeReading) -> PlainNode
 }
 
 // A field and its flag's weight; 0 where there is nothing.
-#[derive(Drop)]
+#[derive(Clone, Copy)]
 struct RectField {
     value: Rect,
     flag: u8,
 }
 
-#[derive(Drop)]
+#[derive(Clone, Copy)]
 struct AffineField {
     value: Affine,
     flag: u8,
 }
 
-#[derive(Drop)]
+#[derive(Clone, Copy)]
 struct TreeField {
     value: TreeId,
     flag: u8,
 }
 
-#[derive(Drop)]
+#[derive(Clone, Copy)]
 struct NumberField {
     value: u64,
     flag: u8,

@@ -1,5 +1,7 @@
 // Asks whether good states and damaged copies of them are sound: 1 where the definition says so, 0 where not. Standard input has a state to a
 // line. Nothing of this program is proved but that it is safe and ends; `stdout` has what the definition says.
+#![tactic(auto)]
+
 use libc::STDIN_FILENO;
 use program_text::cursor::Cursor;
 use program_text::unbuffered::put;

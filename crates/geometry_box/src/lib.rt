@@ -1,18 +1,20 @@
 // Boxes: document 01, section "Boxes". Transforms and boxes are passed by value, and each operation on f64 rounds once, left to right.
+#![tactic(auto)]
+
 ghost use Rattle.std.specs.Prelude.{◌≡◌};
 ghost use Rattle.geometry_box.specs.Boxes.{identity, product, image, box_of, apart, meet, finite_point, finite_points, box_of_points, least, greatest, least_of, greatest_of, with_plus_zero, overlap};
 
 use geometry::{Affine, Rect};
 
 // A point of the plane.
-#[derive(Drop)]
+#[derive(Clone, Copy)]
 pub struct Point {
     pub x: f64,
     pub y: f64,
 }
 
 // The box from (x0, y0) to (x1, y1), in the order x0, y0, x1, y1; or none.
-#[derive(Drop)]
+#[derive(Clone, Copy)]
 pub enum BoundingBox {
     Box(f64, f64, f64, f64),
     None,

@@ -1,4 +1,5 @@
 // What the questions about a node and about a state answer, as structs and enums.
+#![tactic(auto)]
 
 ghost use Rattle.std.specs.Prelude.{◌≡◌};
 ghost use Rattle.node_answers.specs.Reading.{no_reading};
@@ -12,42 +13,42 @@ use state_focus::FoundNode;
 use state_lookup::FoundTree;
 
 // Bounds, if there are any.
-#[derive(Drop)]
+#[derive(Clone, Copy)]
 pub enum OptionalRect {
     Given(Rect),
     None,
 }
 
 // A transform, if there is one.
-#[derive(Drop)]
+#[derive(Clone, Copy)]
 pub enum OptionalAffine {
     Given(Affine),
     None,
 }
 
 // A node number, if there is one.
-#[derive(Drop)]
+#[derive(Clone, Copy)]
 pub enum OptionalNode {
     Given(NodeId),
     None,
 }
 
 // A tree id, if there is one.
-#[derive(Drop)]
+#[derive(Clone, Copy)]
 pub enum OptionalTree {
     Given(TreeId),
     None,
 }
 
 // A tree number, if there is one.
-#[derive(Drop)]
+#[derive(Clone, Copy)]
 pub enum OptionalIndex {
     Given(TreeIndex),
     None,
 }
 
 // What a node says of itself: its own hidden flag, its own bounds and transform. `child_count` is of a graft 1 where its tree exists, else 0.
-#[derive(Drop)]
+#[derive(Clone, Copy)]
 pub struct NodeReading {
     pub number: u8,
     pub role: u8,
@@ -62,63 +63,63 @@ pub struct NodeReading {
 }
 
 // How many elements a list has: a label's bytes, children.
-#[derive(Drop)]
+#[derive(Clone, Copy)]
 pub struct ListAnswer {
     pub number: u8,
     pub length: usize,
 }
 
 // The inherited hidden flag.
-#[derive(Drop)]
+#[derive(Clone, Copy)]
 pub struct HiddenAnswer {
     pub number: u8,
     pub hidden: bool,
 }
 
 // A transform; all zeros after any number but 0.
-#[derive(Drop)]
+#[derive(Clone, Copy)]
 pub struct TransformAnswer {
     pub number: u8,
     pub transform: Affine,
 }
 
 // A bounding box, if there is one.
-#[derive(Drop)]
+#[derive(Clone, Copy)]
 pub struct BoxAnswer {
     pub number: u8,
     pub bounding_box: BoundingBox,
 }
 
 // A node, if there is one.
-#[derive(Drop)]
+#[derive(Clone, Copy)]
 pub struct NodeAnswer {
     pub number: u8,
     pub node: FoundNode,
 }
 
 // A tree id, if there is one.
-#[derive(Drop)]
+#[derive(Clone, Copy)]
 pub struct TreeIdAnswer {
     pub number: u8,
     pub tree: OptionalTree,
 }
 
 // A tree number, if there is one.
-#[derive(Drop)]
+#[derive(Clone, Copy)]
 pub struct TreeIndexAnswer {
     pub number: u8,
     pub index: OptionalIndex,
 }
 
 // The root and the focus of a tree, if it exists.
-#[derive(Drop)]
+#[derive(Clone, Copy)]
 pub struct TreeEndsAnswer {
     pub number: u8,
     pub ends: FoundTree,
 }
 
 // How many nodes and tree numbers there are, and whether the host has the focus.
-#[derive(Drop)]
+#[derive(Clone, Copy)]
 pub struct CountsAnswer {
     pub number: u8,
     pub nodes: usize,
@@ -127,7 +128,7 @@ pub struct CountsAnswer {
 }
 
 // What the question about a filter answers.
-#[derive(Drop)]
+#[derive(Clone, Copy)]
 pub enum FilterAnswer {
     // 1: the state is not sound; 22: the node is not there.
     Refused(u8),

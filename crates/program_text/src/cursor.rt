@@ -2,7 +2,7 @@
 use crate::lines;
 
 // A place in a line.
-#[derive(Drop)]
+#[derive(Clone, Copy)]
 pub struct Cursor {
     // The word: from one place to before another, empty at the line's end.
     pub from: usize,

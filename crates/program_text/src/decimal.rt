@@ -11,7 +11,7 @@ const MOST_POWER: u64 = 22;
 const MOST_SHIFTED: u64 = 1152921504606846975;
 
 // A run of digits: its number, how many there are, where it ends, and whether there is one and the number fits.
-#[derive(Drop)]
+#[derive(Clone, Copy)]
 struct DigitRun {
     value: u64,
     count: u64,
@@ -20,14 +20,14 @@ struct DigitRun {
 }
 
 // A sign, or none: whether it is a minus, and where what it stands before begins.
-#[derive(Drop)]
+#[derive(Clone, Copy)]
 struct Sign {
     negative: bool,
     end: usize,
 }
 
 // The power of ten of a decimal's exponent.
-#[derive(Drop)]
+#[derive(Clone, Copy)]
 struct Power {
     value: u64,
     negative: bool,

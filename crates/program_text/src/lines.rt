@@ -1,7 +1,7 @@
 // The lines of a file, read through a fixed buffer, so that neither the file's length nor a line's has a limit.
 
 // Where the reading of a file stands.
-#[derive(Drop)]
+#[derive(Clone, Copy)]
 pub struct Input {
     fd: i32,
     // What is left of the bytes read last: from one place to before another.

@@ -160,7 +160,7 @@ fn common_filter_with_root_exception(
 // ## By what is known of the parent
 
 // Whether `common_filter` drops the node in a slot. Past the last slot nothing is known.
-#[derive(Drop)]
+#[derive(Clone, Copy)]
 pub struct Known {
     pub slot: usize,
     pub dropped: bool,
@@ -318,7 +318,7 @@ fn common_filter_told(
 }
 
 // What the ancestors of a node tell of it: whether it is hidden, whether `common_filter` drops it, the nearest included node from it up.
-#[derive(Drop)]
+#[derive(Clone, Copy)]
 pub struct Nearest {
     pub hidden: bool,
     pub dropped: bool,

@@ -1,5 +1,7 @@
 // Modules 6 to 8: the questions about a node and a state, over the state's words. Each module says which part it is. What the questions share
 // goes by slots of a sound state and is not public.
+#![tactic(auto)]
+
 mod filters;
 pub mod iterators;
 mod links;

@@ -14,7 +14,7 @@ use questions::Side;
 use state_array::State;
 
 // Where the siblings on a side stand: the parent's slot, the node's place among the parent's children, how many siblings there are.
-#[derive(Drop)]
+#[derive(Clone, Copy)]
 pub struct Run {
     pub parent: usize,
     pub index: usize,

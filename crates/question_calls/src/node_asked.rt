@@ -5,7 +5,7 @@ use ids::FullNodeId;
 use state_array::State;
 
 // 1 or 22, or 0 and the node's slot.
-#[derive(Drop)]
+#[derive(Clone, Copy)]
 pub struct AskedNode {
     pub number: u8,
     pub slot: usize,

@@ -18,7 +18,7 @@ use questions::{Filter, Side};
 use state_array::State;
 
 // Where a list begins, and what is known of the parent of its first nodes.
-#[derive(Drop)]
+#[derive(Clone, Copy)]
 pub struct Start {
     pub known: Known,
     pub place: Place,
@@ -137,7 +137,7 @@ fn climb(state: &State, parents: &[u16], focused: usize, filter: Filter, i: usiz
 }
 
 // The nearest included node from a node up, and what is known of the node.
-#[derive(Drop)]
+#[derive(Clone, Copy)]
 struct Near {
     known: Known,
     included: usize,

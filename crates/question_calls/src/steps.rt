@@ -12,7 +12,7 @@ use questions::Side;
 use state_array::State;
 
 // Where a walk stands: the slot of a node, and how many levels it may climb. Past the last slot it is at its end.
-#[derive(Drop)]
+#[derive(Clone, Copy)]
 pub struct Place {
     pub slot: usize,
     pub level: usize,

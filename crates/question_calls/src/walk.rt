@@ -19,7 +19,7 @@ use state_array::State;
 use state_focus::FoundNode;
 
 // What a call answers, and the walk after it.
-#[derive(Drop)]
+#[derive(Clone, Copy)]
 pub struct Stepped {
     pub walk: Walk,
     pub answer: NodeAnswer,

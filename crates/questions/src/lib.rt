@@ -1,9 +1,11 @@
 // Modules 6 to 8, the questions about a node: their definitions stand in specs/, their laws in proofs/. Here are the kinds that both the
 // definitions and the code name, as the crate has them.
+#![tactic(auto)]
+
 use ids::FullNodeId;
 
 // What a filter says of a node (src/filters.rs).
-#[derive(Drop)]
+#[derive(Clone, Copy)]
 pub enum FilterResult {
     // The node is shown.
     Include,
@@ -14,7 +16,7 @@ pub enum FilterResult {
 }
 
 // The three filters of src/filters.rs.
-#[derive(Drop)]
+#[derive(Clone, Copy)]
 pub enum Filter {
     // `common_filter`
     Common,
@@ -25,7 +27,7 @@ pub enum Filter {
 }
 
 // A side of a node among its siblings.
-#[derive(Drop)]
+#[derive(Clone, Copy)]
 pub enum Side {
     // Those after it, in order.
     Following,
@@ -35,7 +37,7 @@ pub enum Side {
 
 // A sibling walk that the caller keeps: plain numbers, so that any bytes are a walk. specs/Kept has what the numbers mean.
 #[repr(C)]
-#[derive(Drop)]
+#[derive(Clone, Copy)]
 pub struct Walk {
     // Whose siblings are walked.
     pub node: FullNodeId,

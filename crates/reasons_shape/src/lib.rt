@@ -1,4 +1,6 @@
 // The first rule of a sound state that a state breaks, for any words. Each rule has a function, which answers rule 0 where the rule is kept.
+#![tactic(auto)]
+
 mod links;
 mod reached;
 mod trees;

@@ -22,7 +22,7 @@ use state_focus::FoundNode;
 use state_rules::{Kid, kid_at};
 
 // The topmost node above one that is never met, and the parent that it records; nothing where they go round in a circle.
-#[derive(Drop)]
+#[derive(Clone, Copy)]
 struct Climb {
     node: FoundNode,
     by: FoundNode,

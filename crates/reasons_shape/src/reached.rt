@@ -16,7 +16,7 @@ use state_lookup::FoundTree;
 use state_rules::{Kid, kid_at};
 
 // Links under which a node is met: 0, 1, or 2 for more than one; and the first.
-#[derive(Drop)]
+#[derive(Clone, Copy)]
 pub struct Links {
     pub count: u64,
     pub first: LinkRow,

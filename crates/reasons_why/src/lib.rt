@@ -1,4 +1,6 @@
 // A reason as a plain struct, which the parts of `explain` answer. specs/Why.antt says which field holds what for each number.
+#![tactic(auto)]
+
 ghost use Rattle.std.specs.Prelude.{◌≡◌};
 ghost use Rattle.reasons.specs.Reasons.{accepted};
 ghost use Rattle.reasons_why.specs.Why.{why_of};
@@ -7,7 +9,7 @@ use ids::TreeId;
 use state_focus::FoundNode;
 
 // Why a number is answered; a field that its number does not use is 0 or nothing.
-#[derive(Drop)]
+#[derive(Clone, Copy)]
 pub struct Why {
     // A number of document 01's table, 0 where there is no reason.
     pub number: u8,

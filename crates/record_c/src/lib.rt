@@ -1,4 +1,6 @@
 // The batch record for programs in other languages. A `&[u8]` passes as a pointer and a length.
+#![tactic(auto)]
+
 ghost use Rattle.std.specs.Prelude.{◌≡◌};
 ghost use Rattle.record.specs.Parse.{well_formed};
 

@@ -4,7 +4,7 @@ ghost use Rattle.std.proofs.Math.Option.{none};
 ghost use Rattle.record_layout.specs.Noted.{plain_offence, noted};
 
 // A rule of the record by its number, 0 where none is broken, and the offset of the bytes that break it.
-#[derive(Drop)]
+#[derive(Clone, Copy)]
 pub struct Offence {
     pub rule: u8,
     pub offset: usize,

@@ -1,4 +1,6 @@
 // Module 2, the batch record: the first of its rules that bytes, of any length, break. The rules stand in record_rules/specs.
+#![tactic(auto)]
+
 ghost use Rattle.std.specs.Prelude.{◌≡◌, ◌^◌, ◌<◌, take};
 ghost use Rattle.base.specs.Floats.{f64_at, is_finite, zero_bytes};
 ghost use Rattle.geometry.specs.Geometry.{zero_rect, finite_rect, zero_affine, finite_affine};

@@ -2,6 +2,8 @@
 //   "NAME" NODES ENTRIES LABEL LENGTH AT BYTE AT BYTE ..
 // for the first LENGTH bytes of a record with as many nodes, all ENTRIES child entries at the first node and a label of LABEL bytes at each, with
 // the byte at each AT replaced. The file stdout has what document 01, "The batch record", says of each.
+#![tactic(auto)]
+
 ghost use Rattle.std.specs.Prelude.{◌<◌, ◌≤◌};
 
 use libc::STDIN_FILENO;

@@ -1,5 +1,7 @@
 // The accessors of a batch record. Each answers for any bytes and any index; of bytes that `record_layout::layout` passes, the batch that they say is
 // the parsed one. Past the last node, child entry or byte there are zeros.
+#![tactic(auto)]
+
 ghost use Rattle.std.specs.Prelude.{◌≡◌, ◌<◌, length, get_or};
 ghost use Rattle.base.specs.Tests.{is_some};
 ghost use Rattle.record.specs.Parse.{batch_of};
@@ -10,7 +12,7 @@ use ids::{NodeId, TreeId};
 use record_wire::{f64_of, u8_at, u16_at, u64_at};
 
 // The header's fields; the counts of child entries and label bytes and the offsets follow from the nodes.
-#[derive(Drop)]
+#[derive(Clone, Copy)]
 pub struct BatchHeader {
     pub nodes: usize,
     pub has_tree_data: bool,
@@ -20,7 +22,7 @@ pub struct BatchHeader {
 }
 
 // A node record's fields, but for its label, which `label` lends. Its children are the child entries from `first_child`.
-#[derive(Drop)]
+#[derive(Clone, Copy)]
 pub struct NodeRecord {
     pub id: NodeId,
     pub active_descendant: NodeId,

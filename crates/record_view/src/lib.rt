@@ -1,6 +1,8 @@
 // A view that holds the lent bytes of a batch, with thin functions for the header, a node record and a child entry. Each takes the view apart and
 // calls an accessor of `record_reader` on the slice, so it answers for any bytes and any index; each is proved by a walk of its MIR, by hand. The
 // functions `read_..` have plain parameters and read through the view: whoever calls them needs no walk.
+#![tactic(auto)]
+
 ghost use Rattle.std.specs.Prelude.{◌≡◌};
 ghost use Rattle.record_reader.specs.Reader.{node_record_of};
 ghost use Rattle.record_view.specs.View.{header_in, entry_in, children_end};
@@ -8,7 +10,7 @@ ghost use Rattle.record_view.specs.View.{header_in, entry_in, children_end};
 use ids::NodeId;
 use record_reader::{BatchHeader, NodeRecord};
 
-#[derive(Drop)]
+#[derive(Clone, Copy)]
 pub struct BatchView<'a> {
     pub bytes: &'a [u8],
 }

@@ -2,6 +2,8 @@
 // many there are, and a frame for each follows (replay_frame). It writes a line for each that differs, with its place in the list and the parts that
 // differ; then how many calls had each number and how many questions of each kind there were; then how many of both there were and how many
 // differ. Nothing of it is proved but that it is safe and ends.
+#![tactic(auto)]
+
 use libc::STDIN_FILENO;
 use program_text::unbuffered::{of_number, put, put_line};
 use replay_frame::parts::part_if;

@@ -1,4 +1,6 @@
 // A call of the list that the program `replay` runs, and the parts of its answer that are not the crate's. Proved safe and ending, no more.
+#![tactic(auto)]
+
 ghost use Rattle.std.specs.Prelude.{◌≤◌};
 
 use replay_frame::parts::part_if;
@@ -7,7 +9,7 @@ use replies::{Lengths, OptionalId, Reply};
 use state_array::State;
 
 // The number that a call answered, and the parts that differ, each a bit.
-#[derive(Drop)]
+#[derive(Clone, Copy)]
 pub struct Verdict {
     pub number: u64,
     pub parts: u64,

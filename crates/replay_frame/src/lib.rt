@@ -20,6 +20,8 @@
 //   84  the bytes of the state, if it follows; the words of the answer
 // Each is two bytes, but 8 for the digest, a value and a node number and 4 for a tree number. In the list a frame is coded: two bytes say how many
 // follow, and in these a zero byte and a byte n stand for n zeros, from n = 128 on for 128 * (n - 127).
+#![tactic(auto)]
+
 pub mod digest;
 pub mod lent;
 pub mod parts;

@@ -10,7 +10,7 @@ use state_array::State;
 use state_focus::FoundNode;
 
 // What is answered.
-#[derive(Drop)]
+#[derive(Clone, Copy)]
 pub(crate) struct Answer {
     pub(crate) number: u8,
     // The hidden flag; a filter's result, 0 Include, 1 ExcludeNode, 2 ExcludeSubtree; of a walk 1 where it became another walk.

@@ -1,6 +1,8 @@
 // A question of modules 6 to 8 of the list that the program `replay` runs, and the parts of its answer that are not the crate's. Proved safe and
 // ending, no more. A question's number is 12 * kind + 3 * filter + side: `tell` has the kinds in order; a filter is 0 for none, then as a walk has
 // it; a side is 0 for none, 1 following, 2 preceding.
+#![tactic(auto)]
+
 mod answers;
 
 use answers::Answer;

@@ -1,4 +1,6 @@
 // What the three calls answer, as plain numbers and structs, and the host flag as they take it.
+#![tactic(auto)]
+
 ghost use Rattle.std.proofs.Math.Option.{none};
 ghost use Rattle.std.specs.Prelude.{◌≡◌};
 ghost use Rattle.base.specs.Tests.{if◌then◌else◌};
@@ -10,7 +12,7 @@ use state_focus::FoundNode;
 
 // A node's id, or none: then each part is 0.
 #[repr(C)]
-#[derive(Drop)]
+#[derive(Clone, Copy)]
 pub struct OptionalId {
     pub node: u64,
     pub tree: u32,
@@ -19,7 +21,7 @@ pub struct OptionalId {
 
 // How many ids each of the four lists has.
 #[repr(C)]
-#[derive(Drop)]
+#[derive(Clone, Copy)]
 pub struct Lengths {
     pub added: usize,
     pub updated: usize,
@@ -29,7 +31,7 @@ pub struct Lengths {
 
 // The focus before and after, and the extra ids.
 #[repr(C)]
-#[derive(Drop)]
+#[derive(Clone, Copy)]
 pub struct Report {
     pub focus_before: OptionalId,
     pub focus_after: OptionalId,
@@ -39,7 +41,7 @@ pub struct Report {
 
 // What a call answers.
 #[repr(C)]
-#[derive(Drop)]
+#[derive(Clone, Copy)]
 pub struct Reply {
     pub lengths: Lengths,
     pub report: Report,

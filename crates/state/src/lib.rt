@@ -1,1 +1,2 @@
 // The abstract state: its definition stands in specs/, its laws in proofs/.
+#![tactic(auto)]

@@ -1,5 +1,7 @@
 // The state in memory: one array of words, nodes in ascending order of id. Any words are a value; specs/View says what they stand for.
 // It is lent whole, so a function takes one argument for it, and no call copies it.
+#![tactic(auto)]
+
 ghost use Rattle.std.specs.Prelude.{◌≡◌, ◌+◌, ◌≤◌, ◌<◌, ◌%◌, ◌^◌, min, ltb, length, set};
 ghost use Rattle.base.specs.Tests.{◌&&◌, if◌then◌else◌};
 ghost use Rattle.base.specs.Bytes.{bit, list_of};
@@ -92,7 +94,7 @@ pub const WORDS: usize = CHILDREN + ENTRIES;
 pub type State = [u64; WORDS];
 
 // A node's parent and its place among the parent's children. `linked` is 0 where it has none.
-#[derive(Drop)]
+#[derive(Clone, Copy)]
 pub struct LinkRow {
     pub parent: FullNodeId,
     pub index: u64,
@@ -101,7 +103,7 @@ pub struct LinkRow {
 
 // What going down reads of a node: the tree that it grafts, the record's flags (bit 0 hidden, 1 clips children, 2 active descendant, 3 graft,
 // 4 bounds, 5 transform), and its part of the child entries.
-#[derive(Drop)]
+#[derive(Clone, Copy)]
 pub struct ShapeRow {
     pub graft: TreeId,
     pub flags: u64,
@@ -124,7 +126,7 @@ pub struct Body {
 }
 
 // A tree number's row. `exists` is 0 while the tree does not exist.
-#[derive(Drop)]
+#[derive(Clone, Copy)]
 pub struct TreeRow {
     pub id: TreeId,
     pub root: NodeId,

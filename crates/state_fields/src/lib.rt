@@ -1,4 +1,6 @@
 // Whether the fields of a state's nodes obey the record's rules. Floats are judged by their bit patterns.
+#![tactic(auto)]
+
 ghost use Rattle.std.specs.Prelude.{◌≡◌, ◌+◌, ◌≤◌, ◌<◌};
 ghost use Rattle.base.specs.Tests.{all};
 ghost use Rattle.base.specs.Bytes.{bit};

@@ -1,4 +1,6 @@
 // Module 4: the effective focus, and the answer of `TreeState::focus`, of any state.
+#![tactic(auto)]
+
 ghost use Rattle.std.specs.Prelude.{◌≡◌, ◌+◌};
 ghost use Rattle.state.specs.Focus.{through_grafts, effective_focus, or_active_descendant, state_focus};
 ghost use Rattle.state_array.specs.View.{trees_of, view};
@@ -9,7 +11,7 @@ use state_array::State;
 use state_lookup::FoundTree;
 
 // A node, if there is one.
-#[derive(Drop)]
+#[derive(Clone, Copy)]
 pub enum FoundNode {
     At(FullNodeId),
     Nothing,

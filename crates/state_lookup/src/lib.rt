@@ -1,4 +1,6 @@
 // Searches in a state: the slot of a node, the tree of a tree id. Each answers for any words.
+#![tactic(auto)]
+
 ghost use Rattle.std.specs.Prelude.{true, ◌≡◌, get_or};
 ghost use Rattle.base.specs.Search.{First};
 ghost use Rattle.ids.specs.Ids.{same_tree};
@@ -11,14 +13,14 @@ use ids::{FullNodeId, TreeId, TreeIndex};
 use state_array::{State, id_at, tree_at};
 
 // The root and the focus of a tree.
-#[derive(Drop)]
+#[derive(Clone, Copy)]
 pub struct Ends {
     pub root: FullNodeId,
     pub focus: FullNodeId,
 }
 
 // The tree of a tree id, if it exists.
-#[derive(Drop)]
+#[derive(Clone, Copy)]
 pub enum FoundTree {
     At(Ends),
     Nothing,

@@ -1,4 +1,6 @@
 // Rules of a sound state, for any words, that why a state is not sound asks too: what is met one step below a node, grafts, ROOT, the focus.
+#![tactic(auto)]
+
 ghost use Rattle.std.specs.Prelude.{◌≡◌};
 ghost use Rattle.state.specs.Sound.{root_first, focus_present};
 ghost use Rattle.state_array.specs.View.{id_in, view};
@@ -10,7 +12,7 @@ use state_focus::FoundNode;
 use state_lookup::FoundTree;
 
 // What is met one step below a node at a place.
-#[derive(Drop)]
+#[derive(Clone, Copy)]
 pub enum Kid {
     At(FullNodeId),
     Nothing,

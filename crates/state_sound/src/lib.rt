@@ -1,4 +1,6 @@
 // Whether a state is sound, for any words. Each part is lent the whole state, and says what it decides of the forest that it shows.
+#![tactic(auto)]
+
 mod walk;
 
 ghost use Rattle.std.specs.Prelude.{◌≡◌, true, ◌<◌};

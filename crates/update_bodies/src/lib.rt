@@ -1,4 +1,6 @@
 // A node's data, read from a record or from a slot, and one comparison of two nodes by value, whatever their homes.
+#![tactic(auto)]
+
 ghost use Rattle.std.specs.Prelude.{◌≡◌, ◌+◌, ◌*◌, ◌<◌, get_or};
 ghost use Rattle.std.specs.Float.Ieee.{eq, of_bits};
 ghost use Rattle.std.specs.Float.{binary64};

@@ -1,4 +1,6 @@
 // Rows 15 to 17 of an outcome, why they refuse it, and the way that leads to the focus; and 20, an outcome with too many nodes.
+#![tactic(auto)]
+
 mod way;
 
 ghost use Rattle.std.specs.Prelude.{◌≡◌, ltb, length};

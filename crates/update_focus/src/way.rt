@@ -15,7 +15,7 @@ use state_focus::FoundNode;
 use state_lookup::FoundTree;
 
 // Whether a node grafts a tree, and that tree, ROOT where it does not.
-#[derive(Drop)]
+#[derive(Clone, Copy)]
 struct Graft {
     grafts: bool,
     tree: TreeId,

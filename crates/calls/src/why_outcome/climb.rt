@@ -14,7 +14,7 @@ use state_array::State;
 use state_focus::FoundNode;
 
 // A node that lost its place, and the listed node that no longer names it, if there are such.
-#[derive(Drop)]
+#[derive(Clone, Copy)]
 pub(crate) struct Lost {
     pub node: FoundNode,
     pub by: FoundNode,

@@ -16,7 +16,7 @@ use state_array::State;
 use state_focus::FoundNode;
 
 // A tree, the first node that grafts it and its slot, and the next one that does.
-#[derive(Drop)]
+#[derive(Clone, Copy)]
 pub(crate) struct Regraft {
     pub tree: TreeId,
     pub slot: usize,
@@ -25,7 +25,7 @@ pub(crate) struct Regraft {
 }
 
 // A tree that two nodes graft, if there is one.
-#[derive(Drop)]
+#[derive(Clone, Copy)]
 pub(crate) enum Regrafted {
     Twice(Regraft),
     Never,
