@@ -29,7 +29,7 @@ module _ (s : Forest) (h : Shape s) where
     shown_deep : (room : ℕ) (side : Side) (x y : FullNodeId) → present s.nodes x ≡ true → Memᴰ y (shown_within filter room side s x)
         → Deep (length (ancestors s x)) y
     unfolding shown_within
-    shown_deep zero side x y there i = absurd (Memᴰ.not_nil i)
+    shown_deep zero side x y there i = absurd (Memᴰ.not-nil i)
     shown_deep (suc room) side x y there i = go (filter x) i (λ z. shown_deep room side z y)
       where
         go : (r : FilterResult)
@@ -46,7 +46,7 @@ module _ (s : Forest) (h : Shape s) where
             let c = member_child s h x m.0 there (turned_member side (child_ids s x) m.0 m.1) in
             let d = f m.0 c.0 m.2 in
             (d.0, omega (arith, d.1, ap length c.1))
-        go ExcludeSubtree i f = absurd (Memᴰ.not_nil i)
+        go ExcludeSubtree i f = absurd (Memᴰ.not-nil i)
 
     pub filtered_deeper : (x y : FullNodeId) → present s.nodes x ≡ true → Memᴰ y (filtered_children filter s x) → Deep (suc (length (ancestors s x))) y
     unfolding filtered_children shown

@@ -19,7 +19,7 @@ module _ {A B : Type 0} where
   -- an element of the whole is one of an element's list
   pub flat_member : (f : A → List B) (xs : List A) (y : B) → Memᴰ y (flat_map f xs) → (x : A) × Memᴰ x xs × Memᴰ y (f x)
   unfolding flat_map
-  flat_member f [] y i = absurd (Memᴰ.not_nil i)
+  flat_member f [] y i = absurd (Memᴰ.not-nil i)
   flat_member f (x ∷ xs) y i = go (Memᴰ.append_cases (f x) i) (flat_member f xs y)
     where
       go : Memᴰ y (f x) ⊎ Memᴰ y (flat_map f xs) → (Memᴰ y (flat_map f xs) → (z : A) × Memᴰ z xs × Memᴰ y (f z))

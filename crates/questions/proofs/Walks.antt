@@ -85,9 +85,9 @@ module _ (filter : FullNodeId → FilterResult) (side : Side) (s : Forest) where
   next_below x y = go (filter x)
     where
       go : (r : FilterResult) → Memᴰ y (next_shown x r) → Memᴰ y (child_ids s x)
-      go Include i = absurd (Memᴰ.not_nil i)
+      go Include i = absurd (Memᴰ.not-nil i)
       go ExcludeNode i = turned_member side (child_ids s x) y i
-      go ExcludeSubtree i = absurd (Memᴰ.not_nil i)
+      go ExcludeSubtree i = absurd (Memᴰ.not-nil i)
 
   module _ (h : Shape s) (x : FullNodeId) (there : present s.nodes x ≡ true) where
     shown_step : shown filter side s x ≡ own_shown x (filter x) ++ flat_map (shown filter side s) (next_shown x (filter x))

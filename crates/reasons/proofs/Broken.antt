@@ -76,7 +76,7 @@ module _ (s : Forest) where
       (λ q. let empty : xs ≡ [] = rw q at rest in
       rw (q, smallest) (
         Memᴰ.head refl,
-        λ y i. ⊎_elim (λ p. rw p (before_self x)) (λ j. absurd (Memᴰ.not_nil (rw empty at j)))
+        λ y i. ⊎_elim (λ p. rw p (before_self x)) (λ j. absurd (Memᴰ.not-nil (rw empty at j)))
             (Memᴰ.cases_cons i),
       ))
       (λ z q. rw (q, smallest) (pick z (rw q at rest) (before z x) refl))
@@ -96,7 +96,7 @@ module _ (s : Forest) where
 
   pub absent_ids_lem : (ns : List NodeState) (x : FullNodeId) → Memᴰ x (absent_ids s ns) → present s.nodes x ≡ false
   unfolding absent_ids
-  absent_ids_lem [] x i = absurd (Memᴰ.not_nil i)
+  absent_ids_lem [] x i = absurd (Memᴰ.not-nil i)
   absent_ids_lem (n ∷ ns) x i =
       ⊎_elim (λ j. not_true (keep_passes (λ x. not (present s.nodes x)) (ids_below s n) x j)) (λ j. absent_ids_lem ns x j)
       (Memᴰ.append_cases (keep (λ x. not (present s.nodes x)) (ids_below s n)) i)

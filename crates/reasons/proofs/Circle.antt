@@ -100,7 +100,7 @@ module _ {ns : List NodeState} {P : FullNodeId → ParentAndIndex → Type 0} wh
 module _ (s : Forest) where
   visited_unmet : {k : ℕ} {x y : FullNodeId} (u : UnmetUp s k x y) → Unmet s x → (z : FullNodeId) → Memᴰ z (visited u) → Unmet s z
   unfolding visited
-  visited_unmet there h z i = ⊎_elim (λ q. rw q h) (λ j. absurd (Memᴰ.not_nil j)) (Memᴰ.cases_cons i)
+  visited_unmet there h z i = ⊎_elim (λ q. rw q h) (λ j. absurd (Memᴰ.not-nil j)) (Memᴰ.cases_cons i)
   visited_unmet (step l q p u) h z i = ⊎_elim (λ r. rw r h) (λ j. visited_unmet u p z j) (Memᴰ.cases_cons i)
 
   -- as many steps as there are nodes, each to a node never met, come to one of them twice

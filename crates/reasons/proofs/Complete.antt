@@ -41,7 +41,7 @@ use Rattle.reasons.proofs.Unsound.{Beyond, breaks_beyond, state_broken}
 
 -- a list with one element at most, which has this one
 single : {A : Type 0} (xs : List A) (x : A) → length xs ≤ 1 → Memᴰ x xs → xs ≡ x ∷ []
-single [] x l i = absurd (Memᴰ.not_nil i)
+single [] x l i = absurd (Memᴰ.not-nil i)
 single (y ∷ []) x l i = rw (Memᴰ.eq_of_singleton i)
 single (y ∷ z ∷ zs) x l i = absurd (omega arith)
 
@@ -88,7 +88,7 @@ module _ (s : Forest) (k : Unbroken s) where
   going_below : (d : ℕ) → d < suc (length s.nodes) → (m j : Met) → Going d m → Memᴰ j (below_id s m.id) → Going (suc d) j
   unfolding within ids_below met_links
   going_below d l m j g =
-      below_id_by (λ ms. Memᴰ j ms → Going (suc d) j) s m.id (λ i. absurd (Memᴰ.not_nil i))
+      below_id_by (λ ms. Memᴰ j ms → Going (suc d) j) s m.id (λ i. absurd (Memᴰ.not-nil i))
       (λ n q i. let member = find_member s.nodes m.id n q in
       let same = find_id s.nodes m.id n q in
       let there = k.there n j.id member (member_map (λ (z : Met). z.id) (below s n) j i) in
@@ -105,8 +105,8 @@ module _ (s : Forest) (k : Unbroken s) where
   down_recorded : (room d : ℕ) (ms : List Met) → d + room ≤ suc (length s.nodes) → ((m : Met) → Memᴰ m ms → Going d m)
       → (m : Met) → Memᴰ m (down room s ms) → recorded s.nodes m ≡ true
   unfolding down
-  down_recorded zero d ms l h m i = absurd (Memᴰ.not_nil i)
-  down_recorded (suc room) d [] l h m i = absurd (Memᴰ.not_nil i)
+  down_recorded zero d ms l h m i = absurd (Memᴰ.not-nil i)
+  down_recorded (suc room) d [] l h m i = absurd (Memᴰ.not-nil i)
   down_recorded (suc room) d (n ∷ ms) l h m i =
       ⊎_elim (λ q. rw q (going_recorded d n (h n (Memᴰ.head refl))))
       (λ j. down_recorded room (suc d) (below_id s n.id ++ ms) (omega arith)
@@ -180,7 +180,7 @@ module _ (s : Forest) (k : Unbroken s) where
           ⊎_elim
           (λ p. by_test (same_option same_id (root_of s) (some n.id))
           (λ t. subst IsMet (same_id→≡ r.root n.id (rw r.is_root_lem at t)) root_met)
-          (λ t. absurd (Memᴰ.not_nil (rw t at p))))
+          (λ t. absurd (Memᴰ.not-nil (rw t at p))))
           (λ p. let z = links_below_lem s (reached s) n.id s.nodes l p in
           subst IsMet z.4 (below_met z.0 z.2 z.1 (known_met z.0.id z.6) z.3))
           (Memᴰ.append_cases (root_links s n.id) j)

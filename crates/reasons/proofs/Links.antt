@@ -70,7 +70,7 @@ below_elsewhere s k n h =
 pub links_below_lem : (s : Forest) (xs : List FullNodeId) (x : FullNodeId) (ns : List NodeState) (l : Option ParentAndIndex) → Memᴰ l (links_from s xs x ns)
     → (n : NodeState) × Memᴰ n ns × (m : Met) × Memᴰ m (below s n) × (m.id ≡ x) × (m.link ≡ l) × (has same_id xs n.id ≡ true)
 unfolding links_from links_below
-links_below_lem s xs x [] l i = absurd (mathlib.Core.List.Memᴰ.not_nil i)
+links_below_lem s xs x [] l i = absurd (mathlib.Core.List.Memᴰ.not-nil i)
 links_below_lem s xs x (n ∷ ns) l i =
     ⊎_elim
     (λ j. by_test (has same_id xs n.id)
@@ -83,7 +83,7 @@ links_below_lem s xs x (n ∷ ns) l i =
       z.2,
       t,
     ))
-    (λ t. absurd (mathlib.Core.List.Memᴰ.not_nil (rw t at j))))
+    (λ t. absurd (mathlib.Core.List.Memᴰ.not-nil (rw t at j))))
     (λ j. let z = links_below_lem s xs x ns l j in (z.0, mathlib.Core.List.Memᴰ.tail z.1, z.2, z.3, z.4, z.5, z.6))
     (mathlib.Core.List.Memᴰ.append_cases (if has same_id xs n.id then links_below s x n else []) i)
 
@@ -228,7 +228,7 @@ module _ (s : Forest) (h : Shape s) where
       (λ j. by_test (same_option same_id (root_of s) (some x))
       (λ t. let same : r.root ≡ x = same_id→≡ r.root x (rw r.is_root_lem at t) in
       ap (link_at s.nodes) (sym same) ∙ d.parentless ∙ sym (mathlib.Core.List.Memᴰ.eq_of_singleton (rw t at j)))
-      (λ t. absurd (mathlib.Core.List.Memᴰ.not_nil (rw t at j))))
+      (λ t. absurd (mathlib.Core.List.Memᴰ.not-nil (rw t at j))))
       (λ j. let z = links_below_lem s xs x s.nodes l j in
       ap (link_at s.nodes) (sym z.4) ∙ d.parented z.2 (below_way z.0 z.2 z.1 z.3) ∙ z.5)
       (mathlib.Core.List.Memᴰ.append_cases (root_links s x) i)
@@ -278,5 +278,5 @@ module _ (s : Forest) (h : Shape s) where
       let i = find_member s.nodes l.parent c.parent c.there in
       let up : has same_id (reached s) c.parent.id ≡ true = rw (find_id s.nodes l.parent c.parent c.there)
       (reached_all l.parent (parent_present s h x l p)) in
-      mathlib.Core.List.Memᴰ.not_nil (subst (λ (ls : List (Option ParentAndIndex)). Memᴰ (some l) ls) q
+      mathlib.Core.List.Memᴰ.not-nil (subst (λ (ls : List (Option ParentAndIndex)). Memᴰ (some l) ls) q
       (mathlib.Core.List.Memᴰ.append_right (root_links s x) (below_links s (reached s) s.nodes c.parent (record { id = x; link = some l }) i up c.below))))

@@ -22,7 +22,7 @@ has_member xs x e = let z = any_found (same_id x) xs e in Memᴰ.cast (same_id�
 
 -- what is kept passes
 pub keep_passes : {A : Type 0} (p : A → Bool) (xs : List A) (x : A) → Memᴰ x (keep p xs) → p x ≡ true
-keep_passes p [] x i = absurd (Memᴰ.not_nil i)
+keep_passes p [] x i = absurd (Memᴰ.not-nil i)
 keep_passes p (y ∷ ys) x i =
     by_test (p y) (λ t. ⊎_elim (λ q. ap p q ∙ t) (λ j. keep_passes p ys x j) (Memᴰ.cases_cons (rw t at i))) (λ t. keep_passes p ys x (rw t at i))
 
@@ -80,7 +80,7 @@ module _ {A : Type 0} where
 module _ {A B : Type 0} (f : A → B) where
   -- an image is that of an element
   pub map_member : (xs : List A) (y : B) → Memᴰ y (map f xs) → (x : A) × Memᴰ x xs × (f x ≡ y)
-  map_member [] y i = absurd (Memᴰ.not_nil i)
+  map_member [] y i = absurd (Memᴰ.not-nil i)
   map_member (x ∷ xs) y i =
       ⊎_elim (λ q. (x, Memᴰ.head refl, sym q)) (λ j. let z = map_member xs y j in (z.0, Memᴰ.tail z.1, z.2)) (Memᴰ.cases_cons i)
 

@@ -186,7 +186,7 @@ module _ (s : Forest) where
       let n = z.0 in
       let there = ids_absent s s.nodes n.0 x (at_member n.1) n.3.0 n.3.1 in
       by_option (smallest ids)
-      (λ q. let empty : ids ≡ [] = rw q at (smallest_least s ids) in absurd (Memᴰ.not_nil (rw empty at there)))
+      (λ q. let empty : ids ≡ [] = rw q at (smallest_least s ids) in absurd (Memᴰ.not-nil (rw empty at there)))
       (λ y q. let least : Smallest s ids y = rw q at (smallest_least s ids) in
       let above = absent_above s s.nodes y least.0 in
       let small : before y x ≡ false = z.1 above.0 y above.1 above.2 (absent_ids_lem s s.nodes y least.0) in

@@ -33,7 +33,7 @@ use Rattle.reasons.proofs.Broken.{spot_none, Smallest, smallest_least, ids_absen
 twice_none : (k : ℕ) (ids : List TreeId) (es : List TreeEntry) → tree_twice_from k ids es ≡ none
     → (distinct same_tree (map (λ e. e.id) es) ≡ true) × ((e : TreeEntry) → Memᴰ e es → has same_tree ids e.id ≡ false)
 unfolding tree_twice_from
-twice_none k ids [] q = (refl, λ e i. absurd (Memᴰ.not_nil i))
+twice_none k ids [] q = (refl, λ e i. absurd (Memᴰ.not-nil i))
 twice_none k ids (e ∷ es) q =
     let this = none_if (has same_tree ids e.id) _ _ q in
     let rest = twice_none (suc k) (e.id ∷ ids) es this.1 in
@@ -67,7 +67,7 @@ module _ (s : Forest) where
   -- an absent id stands below a node
   pub absent_above : (ns : List NodeState) (x : FullNodeId) → Memᴰ x (absent_ids s ns) → (n : NodeState) × Memᴰ n ns × Memᴰ x (ids_below s n)
   unfolding absent_ids
-  absent_above [] x i = absurd (Memᴰ.not_nil i)
+  absent_above [] x i = absurd (Memᴰ.not-nil i)
   absent_above (n ∷ ns) x i =
       ⊎_elim (λ j. (n, Memᴰ.head refl, keep_member (λ x. not (present s.nodes x)) (ids_below s n) x j))
       (λ j. let z = absent_above ns x j in (z.0, Memᴰ.tail z.1, z.2))
@@ -80,7 +80,7 @@ module _ (s : Forest) where
       let ids = absent_ids s s.nodes in
       by_option (smallest ids)
       (λ q. let empty : ids ≡ [] = rw q at (smallest_least s ids) in
-      by_test (present s.nodes x) (λ t. t) (λ t. absurd (Memᴰ.not_nil (rw empty at (ids_absent s s.nodes n x i j t)))))
+      by_test (present s.nodes x) (λ t. t) (λ t. absurd (Memᴰ.not-nil (rw empty at (ids_absent s s.nodes n x i j t)))))
       (λ y q. let least : Smallest s ids y = rw q at (smallest_least s ids) in
       let above = absent_above s.nodes y least.0 in
       let nowhere = none_made (λ p. absent_below p y) (spot (λ n. has same_id (ids_below s n) y) s.nodes) (rw (q, absence) at e) in

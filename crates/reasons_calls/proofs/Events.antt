@@ -108,7 +108,7 @@ module _ (s : Forest) (b : Batch) where
   places_namings : (earlier : List Listed) (cs : List NodeId) (l : Listed) → Memᴰ (places l) (namings s b earlier cs)
       → Memᴰ l earlier × (has same_node cs l.id ≡ true)
   unfolding namings
-  places_namings earlier [] l i = absurd (mathlib.Core.List.Memᴰ.not_nil i)
+  places_namings earlier [] l i = absurd (mathlib.Core.List.Memᴰ.not-nil i)
   places_namings earlier (c ∷ cs) l i =
       let later : Memᴰ (places l) (namings s b earlier cs) → Memᴰ l earlier × (has same_node (c ∷ cs) l.id ≡ true) =
       λ k. let z = places_namings earlier cs l k in (z.0, or_right (same_node l.id c) z.1) in
@@ -123,7 +123,7 @@ module _ (s : Forest) (b : Batch) where
   places_events : (earlier ls : List Listed) (l : Listed) → Memᴰ (places l) (events s b earlier ls)
       → Memᴰ l (earlier ++ ls) × HasPlace (named_ids (earlier ++ ls)) l
   unfolding events named_ids
-  places_events earlier [] l i = absurd (mathlib.Core.List.Memᴰ.not_nil i)
+  places_events earlier [] l i = absurd (mathlib.Core.List.Memᴰ.not-nil i)
   places_events earlier (k ∷ ls) l i =
       ⊎_elim (λ j. ⊎_elim
       (λ m. let z = places_namings earlier k.body.children l m in (
@@ -136,7 +136,7 @@ module _ (s : Forest) (b : Batch) where
         mathlib.Core.List.Memᴰ.append_right earlier (mathlib.Core.List.Memᴰ.head same),
         rw same (by_test (placed_at_turn s b k.id) (λ p. rw p) (λ p. rw p (in_both k.id (rw p at t)))),
       ))
-      (λ t. absurd (mathlib.Core.List.Memᴰ.not_nil (rw t at m))))
+      (λ t. absurd (mathlib.Core.List.Memᴰ.not-nil (rw t at m))))
       (mathlib.Core.List.Memᴰ.append_cases (namings s b earlier k.body.children) j))
       (λ j. rw (append_snoc earlier k ls) at (places_events (earlier ++ k ∷ []) ls l j))
       (mathlib.Core.List.Memᴰ.append_cases (namings s b earlier k.body.children ++ (if turn then places k ∷ [] else [])) i)

@@ -90,7 +90,7 @@ module _ (s : Forest) (b : Batch) where
       (λ t. repeated_says (earlier ++ x ∷ []) xs (append_snoc earlier x xs ∙ e) (apart_more earlier x t apart))
 
   pub repeated_true : IfSome (OfBatch s b) (repeated_after s b [] (listed_ids b.nodes))
-  repeated_true = repeated_says [] (listed_ids b.nodes) refl (λ m k l i j less. Memᴰ.not_nil (at_member i))
+  repeated_true = repeated_says [] (listed_ids b.nodes) refl (λ m k l i j less. Memᴰ.not-nil (at_member i))
 
   -- ## 9
 
@@ -154,7 +154,7 @@ module _ (s : Forest) (b : Batch) where
 
   until_start : Until 0 []
   until_start = record {
-    when = λ l i. absurd (Memᴰ.not_nil i);
+    when = λ l i. absurd (Memᴰ.not-nil i);
     those = λ l i less at. absurd (omega arith);
     one = λ k l i j t less. absurd (omega arith);
   }
@@ -243,7 +243,7 @@ module _ (s : Forest) (b : Batch) where
   unfolding pass_fault listed_ids
   pass_true d =
       pass_says 0 [] [] moments (from_start moments) until_start (λ c. rw zero-add (ap (count (same_node c)) (names_events s b [] b.nodes)))
-      (λ l i. absurd (Memᴰ.not_nil i)) (placed_listed s b) (once_pass s b d)
+      (λ l i. absurd (Memᴰ.not-nil i)) (placed_listed s b) (once_pass s b d)
 
   -- ## 13 and 14
 

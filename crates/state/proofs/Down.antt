@@ -67,7 +67,7 @@ Under p m = (i : ℕ) × (m.link ≡ some (record { parent = p; index = i }))
 
 children_under : (p : FullNodeId) (i : ℕ) (cs : List NodeId) (m : Met) → Memᴰ m (children_met p i cs) → Under p m
 unfolding children_met met_under
-children_under p i [] m e = absurd (Memᴰ.not_nil e)
+children_under p i [] m e = absurd (Memᴰ.not-nil e)
 children_under p i (c ∷ cs) m (Memᴰ.head q) = (i, ap (λ k. k.link) q)
 children_under p i (c ∷ cs) m (Memᴰ.tail e) = children_under p (suc i) cs m e
 
@@ -76,11 +76,11 @@ pub below_under : (s : Forest) (n : NodeState) (m : Met) → Memᴰ m (below s n
 unfolding met_under
 below_under s n m =
     below_by (λ ms. Memᴰ m ms → Under n.id m) s n (children_under n.id 0 n.body.children m)
-    (λ e. absurd (Memᴰ.not_nil e)) (λ u e. (0, ap (λ k. k.link) (Memᴰ.eq_of_singleton e)))
+    (λ e. absurd (Memᴰ.not-nil e)) (λ u e. (0, ap (λ k. k.link) (Memᴰ.eq_of_singleton e)))
 
 below_id_under : (s : Forest) (x : FullNodeId) (m : Met) → Memᴰ m (below_id s x) → Under x m
 below_id_under s x m =
-    below_id_by (λ ms. Memᴰ m ms → Under x m) s x (λ e. absurd (Memᴰ.not_nil e))
+    below_id_by (λ ms. Memᴰ m ms → Under x m) s x (λ e. absurd (Memᴰ.not-nil e))
     (λ n q e. subst (λ y. Under y m) (find_id s.nodes x n q) (below_under s n m e))
 
 -- ## Climbing
@@ -193,6 +193,7 @@ some_met x (m ∷ ms) c e =
 -- where room is left, all of the nodes that the way starts from are met
 down_starts : (s : Forest) (room : ℕ) (ms : List Met) → length (down room s ms) < room → (m : Met) → Memᴰ m ms → Memᴰ m (down room s ms)
 unfolding down
+down_starts s (suc room) [] l m i = elim i [ ]
 down_starts s zero ms l m i = absurd (not-suc-le-zero l)
 down_starts s (suc room) (k ∷ ms) l m (Memᴰ.head q) = Memᴰ.head q
 down_starts s (suc room) (k ∷ ms) l m (Memᴰ.tail i) =
@@ -203,7 +204,7 @@ pub down_below : (s : Forest) (room : ℕ) (ms : List Met) → length (down room
     → (k m : Met) → Memᴰ k (down room s ms) → Memᴰ m (below_id s k.id) → Memᴰ m (down room s ms)
 unfolding down
 down_below s zero ms l k m i j = absurd (not-suc-le-zero l)
-down_below s (suc room) [] l k m i j = absurd (Memᴰ.not_nil i)
+down_below s (suc room) [] l k m i j = absurd (Memᴰ.not-nil i)
 down_below s (suc room) (n ∷ ms) l k m (Memᴰ.head q) j =
     Memᴰ.tail (down_starts s room (below_id s n.id ++ ms) (le_of_suc-le-suc l) m
     (Memᴰ.append_left ms (subst (λ (x : Met). Memᴰ m (below_id s x.id)) q j)))
@@ -213,8 +214,8 @@ down_below s (suc room) (n ∷ ms) l k m (Memᴰ.tail i) j = Memᴰ.tail (down_b
 pub down_each : (P : Met → Type 0) (s : Forest) → ((k m : Met) → P k → Memᴰ m (below_id s k.id) → P m)
     → (room : ℕ) (ms : List Met) → ((m : Met) → Memᴰ m ms → P m) → (m : Met) → Memᴰ m (down room s ms) → P m
 unfolding down
-down_each P s f zero ms h m e = absurd (Memᴰ.not_nil e)
-down_each P s f (suc room) [] h m e = absurd (Memᴰ.not_nil e)
+down_each P s f zero ms h m e = absurd (Memᴰ.not-nil e)
+down_each P s f (suc room) [] h m e = absurd (Memᴰ.not-nil e)
 down_each P s f (suc room) (k ∷ ms) h m (Memᴰ.head q) = h m (Memᴰ.head q)
 down_each P s f (suc room) (k ∷ ms) h m (Memᴰ.tail i) =
     down_each P s f room (below_id s k.id ++ ms)

@@ -19,7 +19,7 @@ Placed s m = (l : ParentAndIndex) → m.link ≡ some l → (n : NodeState) × (
 
 below_placed : (s : Forest) (x : FullNodeId) (m : Met) → Memᴰ m (below_id s x) → Placed s m
 below_placed s x m =
-    below_id_by (λ ms. Memᴰ m ms → Placed s m) s x (λ e. absurd (Memᴰ.not_nil e))
+    below_id_by (λ ms. Memᴰ m ms → Placed s m) s x (λ e. absurd (Memᴰ.not-nil e))
     (λ n q e l f. let u = below_under s n m e in
     let up : l ≡ record { parent = n.id; index = u.0 } = some-injective l _ (sym f ∙ u.1) in
     (n, rw (ap (λ k. k.parent) up ∙ find_id s.nodes x n q) q, e))

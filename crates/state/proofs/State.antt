@@ -55,6 +55,7 @@ all_find p ns x n e f = all_member p ns n e (find_member ns x n f)
 -- a node that stands in order is found by its id
 pub find_self : (ns : List NodeState) (n : NodeState) → ascending ns ≡ true → Memᴰ n ns → find n.id ns ≡ some n
 unfolding find ascending
+find_self [] n e x'' = elim x'' [ ]
 find_self (m ∷ ns) n e (Memᴰ.head q) = rw (q, same_id_refl m.id)
 find_self (m ∷ ns) n e (Memᴰ.tail i) =
     rw (before_apart m.id n.id (all_member (λ k. before m.id k.id) ns n (both e).0 i)) (find_self ns n (both e).1 i)

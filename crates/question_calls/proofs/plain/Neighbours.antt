@@ -34,7 +34,7 @@ module _ {A B : Type 0} (g : A → List B) (x : A) (y : B) (j : Memᴰ y (g x)) 
   flat_mem (z ∷ xs) (mathlib.Core.List.Memᴰ.tail i) = mathlib.Core.List.Memᴰ.append_right (g z) (flat_mem xs i)
 
 not_nil : {A : Type 0} (xs : List A) (y : A) → Memᴰ y xs → not (is_nil xs) ≡ true
-not_nil [] y i = absurd (mathlib.Core.List.Memᴰ.not_nil i)
+not_nil [] y i = absurd (mathlib.Core.List.Memᴰ.not-nil i)
 not_nil (x ∷ xs) y i = refl
 
 -- ## A listed node is a filtered child of its filtered parent

@@ -144,7 +144,7 @@ module _ (v : Seen) where
     member_drop (suc n) (x ∷ xs) y i = Memᴰ.tail (member_drop n xs y i)
 
     member_take : (n : ℕ) (xs : List FullNodeId) (y : FullNodeId) → Memᴰ y (take n xs) → Memᴰ y xs
-    member_take zero xs y i = absurd (Memᴰ.not_nil i)
+    member_take zero xs y i = absurd (Memᴰ.not-nil i)
     member_take (suc n) [] y i = i
     member_take (suc n) (x ∷ xs) y (Memᴰ.head e) = Memᴰ.head e
     member_take (suc n) (x ∷ xs) y (Memᴰ.tail i) = Memᴰ.tail (member_take n xs y i)
@@ -159,7 +159,7 @@ module _ (v : Seen) where
     clear_sibling side x y clear i = go (link_at f.nodes x) refl
       where
         go : (o : Option ParentAndIndex) → link_at f.nodes x ≡ o → (present f.nodes y ≡ true) × Clear f y
-        go none q = absurd (Memᴰ.not_nil (rw (siblings_none side f x q) at i))
+        go none q = absurd (Memᴰ.not-nil (rw (siblings_none side f x q) at i))
         go (some l) q =
             let m = member_beside side l.index (child_ids f l.parent) y (rw (siblings_of side f x l q) at i) in
             let c = member_child f h l.parent y (parent_present f h x l q) m in
@@ -167,7 +167,7 @@ module _ (v : Seen) where
 
     -- an ancestor has some of the ancestors alone
     clear_above : (up : List FullNodeId) (x p : FullNodeId) → ancestors f x ≡ up → any (hidden_at f) up ≡ false → Memᴰ p up → Clear f p
-    clear_above [] x p e c i = absurd (Memᴰ.not_nil i)
+    clear_above [] x p e c i = absurd (Memᴰ.not-nil i)
     clear_above (q ∷ up) x p e c i = go i (clear_above up q p (ancestors_cons f h x q up e).above (or-false (hidden_at f q) c).1)
       where
         go : Memᴰ p (q ∷ up) → (Memᴰ p up → Clear f p) → Clear f p

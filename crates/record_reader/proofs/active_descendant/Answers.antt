@@ -3,11 +3,7 @@ use mathlib.Core.Path.{refl, ap, ◌∙◌}
 use Rattle.ids.specs.declared.NodeId.{NodeId}
 use Rattle.record_reader.proofs.Reader.{field_is}
 use borrow.Author.Rules.{rules}
-use Rattle.record_reader.proofs.active_descendant.Statement.{statement}
-use Rattle.record_reader.proofs.active_descendant.Tie as tie
+use Rattle.record_reader.proofs.active_descendant.Goals as goal
 
-returns : tie.Need-returns
+pub returns : goal.returns
 returns c = ap {B = NodeId} (λ n. record { 0 = n }) c.word.ensures ∙ field_is _ _ 8 8 (λ n. record { 0 = n }) (λ l. l.body.active_descendant) refl refl
-
-pub active_descendant_spec : {M : Type 1} → statement M
-active_descendant_spec = tie.close (tie.spec (λ c κs. search rules) returns)

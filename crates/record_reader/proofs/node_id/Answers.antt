@@ -4,11 +4,7 @@ use native.Mathlib.Nat.{add-zero}
 use Rattle.ids.specs.declared.NodeId.{NodeId}
 use Rattle.record_reader.proofs.Reader.{field_is}
 use borrow.Author.Rules.{rules}
-use Rattle.record_reader.proofs.node_id.Statement.{statement}
-use Rattle.record_reader.proofs.node_id.Tie as tie
+use Rattle.record_reader.proofs.node_id.Goals as goal
 
-returns : tie.Need-returns
+pub returns : goal.returns
 returns c = ap {B = NodeId} (λ n. record { 0 = n }) c.word.ensures ∙ field_is _ _ 8 0 (λ n. record { 0 = n }) (λ l. l.id) refl (rw add-zero)
-
-pub node_id_spec : {M : Type 1} → statement M
-node_id_spec = tie.close (tie.spec (λ c κs. search rules) returns)
