@@ -19,16 +19,8 @@ use Rattle.record_layout.specs.declared.found.Offence.{Offence}
 use Rattle.record_layout.specs.Noted.{plain_offence, noted}
 use Rattle.record_layout.proofs.Noted.{plain_none, totals_noted}
 use native.Mathlib.Omega.{arith}
-use Rattle.record_layout.proofs.offence.Statement.{statement}
-use Rattle.record_layout.proofs.offence.Tie as tie
-
--- the first i records keep their rules, with so many children and label bytes
-record Counted (s : List ℕ) (n children labels i : ℕ) : Type 0 where
-  passed : Passed (λ k. is_none (record_offence s k)) n i
-  children_are : children ≡ children_before s i
-  labels_are : labels ≡ labels_before s i
-  children_small : children ≤ 65535 * i
-  labels_small : labels ≤ 65535 * i
+use Rattle.record_layout.proofs.offence.Invariants.{Counted}
+use Rattle.record_layout.proofs.offence.Goals as goal
 
 counted_start : {s : List ℕ} {n : ℕ} → Counted s n 0 0 0
 unfolding children_before labels_before
@@ -81,68 +73,24 @@ counted_end {s} {i} p l header count e26 e25 e0 entries_are bytes-are =
     totals_noted s e26 e25 e0 at_end p.children_are p.labels_are entries_are bytes-are
     ∙ ap plain_offence (sym (fault_in_totals s header (rw at_end at p.passed.each)))
 
-abbrev invariant_loop : tie.invariant_loop
-invariant_loop batch nodes children₀ labels₀ i₀ children labels i = Counted batch nodes children labels i
+pub returns-then-header-ne0 : goal.returns-then-header-ne0
+returns-then-header-ne0 c = header_broken _ c.header_offence-header.ensures c.if-header-ne0.true
 
-abbrev decreases_loop : tie.decreases_loop
-decreases_loop batch nodes children₀ labels₀ i₀ children labels i = nodes - i
+pub loop-i-init : goal.loop-i-init
+loop-i-init c = counted_start
 
-returns : tie.Need-returns invariant_loop decreases_loop
-returns c = header_broken _ c.before.before.header-offence.ensures c.if1.true
+pub returns-then-record-ne0 : goal.returns-then-record-ne0
+returns-then-record-ne0 c =
+    counted_broken c.loop-i.invariant c.loop-i-test.true c.record_offence-record.ensures
+    (header_is_kept _ c.header_offence-header.ensures c.if-header-ne0.false) c.u16_at-nodes.ensures c.if-record-ne0.true
 
-returns_2 : tie.Need-returns-2 invariant_loop decreases_loop
-returns_2 c =
-    let at-loop = c.before.before.before.before in
-    let at-start = at-loop.before.before in
-    counted_broken at-loop.loop.invariant c.before.before.before.loop-test.true c.before.before.record-offence.ensures
-    (header_is_kept _ at-start.before.before.header-offence.ensures at-start.if1.false) at-loop.before.u16-at.ensures c.if2.true
+pub loop-i-preserved : goal.loop-i-preserved
+loop-i-preserved c =
+    counted_more c.loop-i.invariant c.loop-i-test.true c.record_offence-record.ensures c.if-record-ne0.false
+    (omega arith) (omega arith) c.u16_at.ensures c.u16_at-in-loop-i.ensures
 
-loop_again : tie.Need-loop-preserved invariant_loop decreases_loop
-loop_again c =
-    let at_test = c.before.before.before.before.before in
-    counted_more at_test.before.loop.invariant at_test.loop-test.true c.before.before.before.before.record-offence.ensures c.before.before.if2.false
-    (omega arith) (omega arith) c.before.u16-at2.ensures c.u16-at3.ensures
-
-returns_3 : tie.Need-returns-3 invariant_loop decreases_loop
-returns_3 c =
-    let at_test = c.before.before.before.before.before in
-    let at-loop = at_test.before in
-    let at-start = at-loop.before.before in
-    counted_end at-loop.loop.invariant at_test.loop-test.false (header_is_kept _ at-start.before.before.header-offence.ensures at-start.if1.false)
-    at-loop.before.u16-at.ensures c.then2.ensures c.before.before.then.ensures c.before.before.before.before.none.ensures
-    c.before.before.before.u16-at4.ensures c.before.u16-at5.ensures
-
-pub offence_spec : {M : Type 1} → statement M
-offence_spec =
-    tie.close
-    (tie.spec
-    invariant_loop
-    decreases_loop
-    (λ c κs. omega arith)
-    returns
-    (λ c κs. omega arith)
-    (λ c. omega arith)
-    (λ c. counted_start)
-    (λ c. omega arith)
-    (λ c. omega arith)
-    (λ c κs. omega arith)
-    returns_2
-    (λ c. omega arith)
-    (λ c κs. omega arith)
-    (λ c. omega arith)
-    (λ c. omega arith)
-    (λ c. omega arith)
-    (λ c κs. omega arith)
-    (λ c. omega arith)
-    (λ c. omega arith)
-    (λ c. omega arith)
-    (λ c. omega arith)
-    loop_again
-    (λ c κs. omega arith)
-    (λ c κs. omega arith)
-    (λ c. omega arith)
-    (λ c κs. omega arith)
-    (λ c κs. omega arith)
-    (λ c. omega arith)
-    (λ c κs. omega arith)
-    returns_3)
+pub returns : goal.returns
+returns c =
+    counted_end c.loop-i.invariant c.loop-i-test.false (header_is_kept _ c.header_offence-header.ensures c.if-header-ne0.false)
+    c.u16_at-nodes.ensures c.then-2.ensures c.then.ensures c.none.ensures
+    c.u16_at-2.ensures c.u16_at-3.ensures
