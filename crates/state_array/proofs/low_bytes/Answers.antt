@@ -6,30 +6,22 @@ use native.Mathlib.Omega.{arith}
 use lib.Pow.{pow_pos, pow-lt}
 use Rattle.state_array.proofs.Labels.{shift_bytes}
 use borrow.Author.Rules.{rules}
-use Rattle.state_array.proofs.low_bytes.Statement.{statement}
-use Rattle.state_array.proofs.low_bytes.Tie as tie
+use Rattle.state_array.proofs.low_bytes.Goals as goal
 
 -- what the shift gives
 power : (n : ℕ) → n < 8 → 1 * 2 ^ (8 * n) % 18446744073709551616 ≡ 2 ^ (8 * n)
 power n h = rw (one-mul (2 ^ (8 * n))) (mod-eq_of_lt (pow-lt {i = 8 * n} {j = 64} (omega arith)))
 
-returns : tie.Need-returns
-returns c =
-    let n = c.before.args.n in
+pub nonzero_rem-result : goal.nonzero_rem-result
+nonzero_rem-result c = rw (power c.args.n (omega arith)) (pow_pos (8 * c.args.n))
+
+pub returns-then-n-lt8 : goal.returns-then-n-lt8
+returns-then-n-lt8 c =
+    let n = c.args.n in
     let few : min 8 n ≡ n = omega arith in
     rw (power n (omega arith), shift_bytes n, few)
 
-returns_2 : tie.Need-returns-2
-returns_2 c =
-    let eight : min 8 c.before.args.n ≡ 8 = omega arith in
-    rw eight (sym (mod-eq_of_lt c.before.ranges.w.fits))
-
-pub low_bytes_spec : {M : Type 1} → statement M
-low_bytes_spec =
-    tie.close
-    (tie.spec
-    (λ c. search rules)
-    (λ c. search rules)
-    (λ c. rw (power c.before.args.n (omega arith)) (pow_pos (8 * c.before.args.n)))
-    returns
-    returns_2)
+pub returns-else-n-lt8 : goal.returns-else-n-lt8
+returns-else-n-lt8 c =
+    let eight : min 8 c.args.n ≡ 8 = omega arith in
+    rw eight (sym (mod-eq_of_lt c.ranges.w.fits))
