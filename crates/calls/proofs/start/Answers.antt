@@ -7,8 +7,8 @@ use Rattle.calls.proofs.start.Goals as goal
 
 pub returns-then-refusal-ne0 : goal.returns-then-refusal-ne0
 returns-then-refusal-ne0 c =
-    first_refused _ c.args.host-focused _ c.clear.ensures _ c.start_rows-refusal.ensures c.if-refusal-ne0.true _ c.refused.ensures
+    first_refused _ c.args.host_focused _ c.clear.ensures _ c.start_rows-refusal.ensures c.if-refusal-ne0.true _ c.refused.ensures
 
 pub started-requires : goal.started-requires
 started-requires c =
-    (sym (ap (λ (k : Refusal). k.number) c.start_rows-refusal.ensures) ∙ c.if-refusal-ne0.false, c.clear.ensures)
+    record { batch_value = sym (ap (λ (k : Refusal). k.number) c.start_rows-refusal.ensures) ∙ c.if-refusal-ne0.false; state_value = c.clear.ensures }

@@ -13,16 +13,16 @@ use Rattle.calls.proofs.started.Goals as goal
 
 pub apply-refusal-requires : goal.apply-refusal-requires
 apply-refusal-requires c =
-    (told_start _ _ _ _ c.requires.0 (ap (λ (q : State). q.forest) c.seed.ensures ∙ seed_forest _ _) (c.start_scope-scope.ensures c.requires.0) refl, refl)
+    record { told = told_start _ _ _ _ c.requires.batch_value (ap (λ (q : State). q.forest) c.seed.ensures ∙ seed_forest _ _) (c.start_scope-scope.ensures c.requires.batch_value) refl; next_value = refl }
 
 pub returns-then-refusal-ne0 : goal.returns-then-refusal-ne0
 returns-then-refusal-ne0 c =
-    later_refused _ _ _ _ c.requires.0 c.seed.ensures (c.start_scope-scope.ensures c.requires.0) _ c.apply-refusal.ensures.number c.if-refusal-ne0.true _ c.clear.ensures _ c.refused.ensures
+    later_refused _ _ _ _ c.requires.batch_value c.seed.ensures (c.start_scope-scope.ensures c.requires.batch_value) _ c.apply-refusal.ensures.number c.if-refusal-ne0.true _ c.clear.ensures _ c.refused.ensures
 
 pub returns : goal.returns
 returns c =
     let zero = c.if-refusal-ne0.false in
-    start_accepted_lem _ _ _ _ c.requires.0 c.seed.ensures (c.start_scope-scope.ensures c.requires.0) _ c.apply-refusal.ensures.number zero _ _
+    start_accepted_lem _ _ _ _ c.requires.batch_value c.seed.ensures (c.start_scope-scope.ensures c.requires.batch_value) _ c.apply-refusal.ensures.number zero _ _
     (c.apply-refusal.ensures.written (later_pass _ _ _ _ refl (sym (ap (λ (k : Refusal). k.number) c.apply-refusal.ensures.number) ∙ zero))) _
     (subst (λ (o : Option FullNodeId). OnlyAfter o c.report_start.result) c.focus.ensures c.report_start.ensures) _
     (rw (← c.no_lengths.ensures) c.accepted.ensures)

@@ -12,7 +12,7 @@ use Rattle.calls.proofs.updated.Goals as goal
 
 pub apply-refusal-requires : goal.apply-refusal-requires
 apply-refusal-requires c =
-    (told_update _ _ _ _ c.requires (c.scope_of-scope.ensures (first_passed _ _ c.requires).formed) refl, refl)
+    record { told = told_update _ _ _ _ c.requires (c.scope_of-scope.ensures (first_passed _ _ c.requires).formed) refl; next_value = refl }
 
 pub returns-then-refusal-ne0 : goal.returns-then-refusal-ne0
 returns-then-refusal-ne0 c =
@@ -30,7 +30,7 @@ returns-then-not-lists c =
 pub report_update-report-requires : goal.report_update-report-requires
 report_update-report-requires c =
     let given = c.write_changed.ensures in
-    (given.told.given.kept.ascending, ascending_next given)
+    record { state_value = given.told.given.kept.ascending; next_value = ascending_next given }
 
 pub returns : goal.returns
 returns c =

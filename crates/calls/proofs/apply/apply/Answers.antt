@@ -10,7 +10,7 @@ pub returns-then-early-ne0 : goal.returns-then-early-ne0
 returns-then-early-ne0 c = applied_early _ _ _ _ _ _ c.pass_rows-early.ensures c.if-early-ne0.true
 
 pub first_clash-requires : goal.first_clash-requires
-first_clash-requires c = let told = told_compared c.write.ensures.told in (few_listed _ _ _ told.given, clash_room told)
+first_clash-requires c = let told = told_compared c.write.ensures.told in record { k_bound = few_listed _ _ _ told.given; clash_room = clash_room told }
 
 pub returns : goal.returns
 returns c =

@@ -13,7 +13,7 @@ pub loop-i-init : goal.loop-i-init
 loop-i-init c = filling_begins (omega (arith, few_listed))
 
 pub differs_at-differs-requires : goal.differs_at-differs-requires
-differs_at-differs-requires c = (rw c.loop-i.invariant.filled (told_fill _ _ _ _ GONE c.requires DIFFERS _ _ (omega arith)), omega arith)
+differs_at-differs-requires c = record { told = rw c.loop-i.invariant.filled (told_fill _ _ _ _ GONE c.requires DIFFERS _ _ (omega arith)); i_lt_listed = omega arith }
 
 pub loop-i-preserved : goal.loop-i-preserved
 loop-i-preserved c = search filling_goes

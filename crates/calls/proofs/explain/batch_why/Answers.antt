@@ -7,7 +7,7 @@ use Rattle.calls.proofs.explain.batch_why.Goals as goal
 
 pub returns-then-early-ne0 : goal.returns-then-early-ne0
 returns-then-early-ne0 c =
-    record { explained = judged_early _ _ c.pass_why-early.ensures c.if-early-ne0.true c.requires.1.1; written = λ z. absurd (c.if-early-ne0.true z) }
+    record { explained = judged_early _ _ c.pass_why-early.ensures c.if-early-ne0.true c.requires.way_value; written = λ z. absurd (c.if-early-ne0.true z) }
 
 pub returns : goal.returns
 returns c =

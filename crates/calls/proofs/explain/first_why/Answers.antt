@@ -13,7 +13,7 @@ returns-then-o-ne0 c = search first_offence
 pub before_pass-requires : goal.before_pass-requires
 before_pass-requires c =
     let formed = offence_formed _ c.offence-o.ensures (λ i. omega (arith, c.shared_slice_known-1.given i)) c.if-o-ne0.false in
-    (formed, c.scope_of-scope.ensures formed)
+    record { batch_value = formed; scoped = c.scope_of-scope.ensures formed }
 
 pub returns : goal.returns
 returns c = search first_rest

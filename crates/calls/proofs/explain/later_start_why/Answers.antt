@@ -10,9 +10,13 @@ use Rattle.calls.proofs.explain.later_start_why.Goals as goal
 
 pub batch_why-requires : goal.batch_why-requires
 batch_why-requires c =
-    (told_start _ _ _ _ c.requires.0 (ap (λ (q : State). q.forest) c.seed.ensures ∙ seed_forest _ _) (c.start_scope-scope.ensures c.requires.0) refl, (refl, c.requires.1.1))
+    record {
+      told = told_start _ _ _ _ c.requires.batch_value (ap (λ (q : State). q.forest) c.seed.ensures ∙ seed_forest _ _) (c.start_scope-scope.ensures c.requires.batch_value) refl;
+      next_value = refl;
+      way_value = c.requires.way_value;
+    }
 
 pub returns : goal.returns
 returns c =
-    later_start_explains _ (λ i. omega (arith, c.shared_slice_known-1.given i)) c.requires.0
-    (ap (λ (q : State). q.forest) c.seed.ensures ∙ seed_forest _ _) (asked_start _ _ _ (c.start_scope-scope.ensures c.requires.0)) c.batch_why.ensures.explained
+    later_start_explains _ (λ i. omega (arith, c.shared_slice_known-1.given i)) c.requires.batch_value
+    (ap (λ (q : State). q.forest) c.seed.ensures ∙ seed_forest _ _) (asked_start _ _ _ (c.start_scope-scope.ensures c.requires.batch_value)) c.batch_why.ensures.explained

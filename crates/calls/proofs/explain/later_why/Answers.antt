@@ -9,12 +9,16 @@ use Rattle.calls.proofs.explain.later_why.Goals as goal
 
 pub batch_why-why-requires : goal.batch_why-why-requires
 batch_why-why-requires c =
-    (told_update _ _ _ _ c.requires.0 (c.scope_of-scope.ensures (first_passed _ _ c.requires.0).formed) refl, (refl, c.requires.1))
+    record {
+      told = told_update _ _ _ _ c.requires.batch_value (c.scope_of-scope.ensures (first_passed _ _ c.requires.batch_value).formed) refl;
+      next_value = refl;
+      way_value = c.requires.way_value;
+    }
 
 pub returns-then-why-ne0 : goal.returns-then-why-ne0
 returns-then-why-ne0 c =
-    later_explains _ (λ i. omega (arith, c.shared_slice_known-1.given i)) _ _ c.requires.0
-    (asked_update _ _ _ (c.scope_of-scope.ensures (first_passed _ _ c.requires.0).formed)) c.batch_why-why.ensures.explained c.if-why-ne0.true
+    later_explains _ (λ i. omega (arith, c.shared_slice_known-1.given i)) _ _ c.requires.batch_value
+    (asked_update _ _ _ (c.scope_of-scope.ensures (first_passed _ _ c.requires.batch_value).formed)) c.batch_why-why.ensures.explained c.if-why-ne0.true
 
 pub slice_why-requires : goal.slice_why-requires
 slice_why-requires c =
@@ -23,5 +27,5 @@ slice_why-requires c =
 
 pub returns : goal.returns
 returns c =
-    last_explains _ (λ i. omega (arith, c.shared_slice_known-1.given i)) _ _ c.requires.0
-    (asked_update _ _ _ (c.scope_of-scope.ensures (first_passed _ _ c.requires.0).formed)) c.batch_why-why.ensures.explained c.if-why-ne0.false c.slice_why.ensures
+    last_explains _ (λ i. omega (arith, c.shared_slice_known-1.given i)) _ _ c.requires.batch_value
+    (asked_update _ _ _ (c.scope_of-scope.ensures (first_passed _ _ c.requires.batch_value).formed)) c.batch_why-why.ensures.explained c.if-why-ne0.false c.slice_why.ensures

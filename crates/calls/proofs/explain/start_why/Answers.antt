@@ -12,7 +12,8 @@ returns-then-refusal-ne0 c =
     c.first_start_why.ensures c.clear.ensures
 
 pub later_start_why-requires : goal.later_start_why-requires
-later_start_why-requires c = (
-  sym (ap (λ (q : Refusal). q.number) c.start_rows-refusal.ensures) ∙ c.if-refusal-ne0.false,
-  (c.requires, c.clear.ensures),
-)
+later_start_why-requires c = record {
+  batch_value = sym (ap (λ (q : Refusal). q.number) c.start_rows-refusal.ensures) ∙ c.if-refusal-ne0.false;
+  memory_value = c.requires;
+  way_value = c.clear.ensures;
+}

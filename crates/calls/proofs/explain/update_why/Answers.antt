@@ -13,4 +13,4 @@ returns-then-refusal-ne0 c =
 
 pub later_why-requires : goal.later_why-requires
 later_why-requires c =
-    (sym (ap (λ (q : Refusal). q.number) c.first_rows-refusal.ensures) ∙ c.if-refusal-ne0.false, c.clear.ensures)
+    record { batch_value = sym (ap (λ (q : Refusal). q.number) c.first_rows-refusal.ensures) ∙ c.if-refusal-ne0.false; way_value = c.clear.ensures }

@@ -8,24 +8,17 @@ use native.Mathlib.Omega.{arith}
 use borrow.Author.Rules.{rules}
 use Rattle.calls.proofs.gone.fate_at.Goals as goal
 
--- the slot of the node's parent
-there : (c : tie.After-slot) → (let a = c.before.before.before.before.before.before.before.before.before.args in get_or a.notes.now (ABOVE + a.i) 0 < slots_of a.state.now)
-there c =
-    let link = c.before.before.before.before.before.before in
-    let s = link.before.before.before in
-    parent_within s.requires.0 s.requires.1 link.before.id-at.ensures link.link_at_lem.ensures c.before.before.if1.false
-
 pub returns-then-l-eq0 : goal.returns-then-l-eq0
 returns-then-l-eq0 c = search fate_top
 
 pub overflow_add-parent_turn : goal.overflow_add-parent_turn
-overflow_add-parent_turn c = omega (arith, there c.before.before.before)
+overflow_add-parent_turn c = omega (arith, parent_within c.requires.told c.requires.i_bound c.id_at-x.ensures c.link_at-l.ensures c.if-l-eq0.false)
 
 pub offset_bounds-notes-slot : goal.offset_bounds-notes-slot
-offset_bounds-notes-slot c = omega (arith, there c.before.before.before)
+offset_bounds-notes-slot c = omega (arith, parent_within c.requires.told c.requires.i_bound c.id_at-x.ensures c.link_at-l.ensures c.if-l-eq0.false)
 
 pub bounds-notes-slot : goal.bounds-notes-slot
-bounds-notes-slot c = omega (arith, there c.before.before.before)
+bounds-notes-slot c = omega (arith, parent_within c.requires.told c.requires.i_bound c.id_at-x.ensures c.link_at-l.ensures c.if-l-eq0.false)
 
 pub returns-then-x-scope : goal.returns-then-x-scope
 returns-then-x-scope c = search fate_mine
@@ -34,7 +27,7 @@ pub returns-then-p-x : goal.returns-then-p-x
 returns-then-p-x c = search fate_below
 
 pub fate_under-requires : goal.fate_under-requires
-fate_under-requires c = (c.requires.0, there c.before.before.before.before.before.before)
+fate_under-requires c = record { told = c.requires.told; slot_bound = parent_within c.requires.told c.requires.i_bound c.id_at-x.ensures c.link_at-l.ensures c.if-l-eq0.false }
 
 pub returns : goal.returns
 returns c = search fate_root

@@ -13,16 +13,16 @@ use borrow.Author.Rules.{rules}
 use Rattle.calls.proofs.gone.pass_on.Goals as goal
 
 pub loop-room-init : goal.loop-room-init
-loop-room-init c = (omega (arith, c.requires.1.0), λ scope fated h e. (rw c.slots-room.ensures (climb_start _ _ scope _ h), fated))
+loop-room-init c = (omega (arith, c.requires.i_bound.0), λ scope fated h e. (rw c.slots-room.ensures (climb_start _ _ scope _ h), fated))
 
 pub returns-then-notes-at-ne-AS_PARENT : goal.returns-then-notes-at-ne-AS_PARENT
-returns-then-notes-at-ne-AS_PARENT c = (c.loop-room.invariant.1 _ c.requires.0 c.requires.1.0 c.requires.1.1).1
+returns-then-notes-at-ne-AS_PARENT c = (c.loop-room.invariant.1 _ c.requires.fated c.requires.i_bound.0 c.requires.i_bound.1).1
 
 pub loop-room-preserved : goal.loop-room-preserved
 loop-room-preserved c =
     let l = c.loop-room in
     let a = c.args in
-    let before = l.invariant.1 a.scope c.requires.0 c.requires.1.0 c.requires.1.1 in
+    let before = l.invariant.1 a.scope c.requires.fated c.requires.i_bound.0 c.requires.i_bound.1 in
     let there : (scope : Scope) → Climbing a.state.now a.batch.now scope a.i l.room l.at → Fated a.i a.state.now a.batch.now scope l.notes
     → Climbing a.state.now a.batch.now scope a.i (l.room - 1) (get_or l.notes (ABOVE + l.at) 0) =
     λ scope climb fated. memo_step _ _ scope fated _ _ _ climb c.if-notes-at-ne-AS_PARENT.false c.loop-room-test.true in (
@@ -33,4 +33,4 @@ loop-room-preserved c =
     )
 
 pub returns : goal.returns
-returns c = (c.loop-room.invariant.1 _ c.requires.0 c.requires.1.0 c.requires.1.1).1
+returns c = (c.loop-room.invariant.1 _ c.requires.fated c.requires.i_bound.0 c.requires.i_bound.1).1

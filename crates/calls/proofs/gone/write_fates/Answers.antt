@@ -16,7 +16,7 @@ loop-i-init c = filling_begins (omega arith)
 pub fate_at-fate-requires : goal.fate_at-fate-requires
 fate_at-fate-requires c =
     let told = c.requires in
-    (rw c.loop-i.invariant.filled (told_fill _ _ _ _ ABOVE_TOLD told FATES _ _ (omega arith)), omega (arith, c.slots-n.ensures))
+    record { told = rw c.loop-i.invariant.filled (told_fill _ _ _ _ ABOVE_TOLD told FATES _ _ (omega arith)); i_bound = omega (arith, c.slots-n.ensures) }
 
 pub loop-i-preserved : goal.loop-i-preserved
 loop-i-preserved c = search filling_goes

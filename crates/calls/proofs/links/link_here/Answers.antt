@@ -22,7 +22,7 @@ returns-then-cut-owner c = search here_cut_after
 
 pub named_link-requires : goal.named_link-requires
 named_link-requires c =
-    named_room c.requires.0 (owner_owns c.requires.0 c.args.x c.requires.1 (omega arith) c.owner_of-owner.ensures)
+    named_room c.requires.told (owner_owns c.requires.told c.args.x c.requires.naming_value (omega arith) c.owner_of-owner.ensures)
 
 pub returns : goal.returns
 returns c = search here_named

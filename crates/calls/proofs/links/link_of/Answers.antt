@@ -9,7 +9,7 @@ use Rattle.calls.proofs.links.link_of.Goals as goal
 
 pub link_of_old-requires : goal.link_of_old-requires
 link_of_old-requires c =
-    (c.requires.0, omega (arith, (c.requires.1.stays c.if-code-lt-SLOTS.true).0, forest_length c.args.state.now))
+    record { told = c.requires.told; i_bound = omega (arith, (c.requires.coded.stays c.if-code-lt-SLOTS.true).0, forest_length c.args.state.now) }
 
 pub returns-then-code-lt-SLOTS : goal.returns-then-code-lt-SLOTS
 unfolding link_word code_id code_link
@@ -18,8 +18,11 @@ returns-then-code-lt-SLOTS c = rw (lt-ltb c.args.code SLOTS c.if-code-lt-SLOTS.t
 pub link_of_new-requires : goal.link_of_new-requires
 unfolding code_id
 link_of_new-requires c =
-    let new = c.requires.1.new c.if-code-lt-SLOTS.false in
-    (c.requires.0, record { listed = new.0; new = rw (le-ltb c.args.code SLOTS c.if-code-lt-SLOTS.false) at new.1 })
+    let new = c.requires.coded.new c.if-code-lt-SLOTS.false in
+    record {
+      told = c.requires.told;
+      new_listed = record { listed = new.0; new = rw (le-ltb c.args.code SLOTS c.if-code-lt-SLOTS.false) at new.1 };
+    }
 
 pub returns : goal.returns
 unfolding link_word code_id code_link

@@ -6,7 +6,7 @@ use native.Mathlib.Omega.{arith}
 use Rattle.calls.proofs.links.link_of_new.Goals as goal
 
 pub listed_id-x-requires : goal.listed_id-x-requires
-listed_id-x-requires c = omega (arith, few_listed, c.requires.1.listed, c.requires.0.given.scoped.listed)
+listed_id-x-requires c = omega (arith, few_listed, c.requires.new_listed.listed, c.requires.told.given.scoped.listed)
 
 pub position_in-j-requires : goal.position_in-j-requires
 position_in-j-requires c = omega (arith, few_named)

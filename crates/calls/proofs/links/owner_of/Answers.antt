@@ -16,12 +16,12 @@ loop-low-init c = (omega arith, omega arith, λ i h. absurd (omega arith), λ i 
 pub loop-low-preserved-then-j-notes : goal.loop-low-preserved-then-j-notes
 loop-low-preserved-then-j-notes c =
     let l = c.loop-low in
-    (omega arith, omega arith, l.invariant.2, λ i h m. lt-ltb c.args.j (get_or c.args.notes.now (ENDS + i) 0) (omega (arith, c.requires.1 (l.low + (l.high - l.low) / 2) i h m)))
+    (omega arith, omega arith, l.invariant.2, λ i h m. lt-ltb c.args.j (get_or c.args.notes.now (ENDS + i) 0) (omega (arith, c.requires.rises (l.low + (l.high - l.low) / 2) i h m)))
 
 pub loop-low-preserved : goal.loop-low-preserved
 loop-low-preserved c =
     let l = c.loop-low in
-    (omega arith, omega arith, λ i h. le-ltb c.args.j (get_or c.args.notes.now (ENDS + i) 0) (omega (arith, c.requires.1 i (l.low + (l.high - l.low) / 2) (omega arith) (omega arith))), l.invariant.3)
+    (omega arith, omega arith, λ i h. le-ltb c.args.j (get_or c.args.notes.now (ENDS + i) 0) (omega (arith, c.requires.rises i (l.low + (l.high - l.low) / 2) (omega arith) (omega arith))), l.invariant.3)
 
 pub returns : goal.returns
 returns c =

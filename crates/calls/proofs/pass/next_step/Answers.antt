@@ -14,7 +14,7 @@ pub bounds-notes-i : goal.bounds-notes-i
 bounds-notes-i c = omega (arith, node_room)
 
 pub name_step-named-requires : goal.name_step-named-requires
-name_step-named-requires c = (c.requires, omega (arith, end_here))
+name_step-named-requires c = record { standing = c.requires; j_bound = omega (arith, end_here) }
 
 pub overflow_add-entry : goal.overflow_add-entry
 overflow_add-entry c = omega (arith, entry_limit)

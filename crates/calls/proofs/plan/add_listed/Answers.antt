@@ -21,7 +21,7 @@ pub overflow_add-j : goal.overflow_add-j
 overflow_add-j c = omega (arith, few_listed)
 
 pub insert-requires : goal.insert-requires
-insert-requires c = omega (arith, few_listed, few_slots _ _ _ c.requires.0.told.given)
+insert-requires c = omega (arith, few_listed, few_slots _ _ _ c.requires.planned.told.given)
 
 pub overflow_add-result : goal.overflow_add-result
 overflow_add-result c = omega (arith, few_listed)

@@ -9,7 +9,7 @@ use borrow.Author.Rules.{rules}
 use Rattle.calls.proofs.plan.insert.Goals as goal
 
 pub loop-r-init : goal.loop-r-init
-loop-r-init c = (omega arith, omega arith, c.requires.1, shift_none _ _)
+loop-r-init c = (omega arith, omega arith, c.requires.notes_len, shift_none _ _)
 
 pub loop-r-preserved : goal.loop-r-preserved
 loop-r-preserved c =

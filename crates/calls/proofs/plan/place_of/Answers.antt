@@ -37,18 +37,18 @@ bounds-notes-middle c = omega (arith, few_listed)
 
 pub id_of-requires : goal.id_of-requires
 id_of-requires c =
-    planned_room c.requires.0 c.requires.1 (omega arith)
+    planned_room c.requires.planned c.requires.j_lt_listed (omega arith)
 
 pub overflow_add-low : goal.overflow_add-low
 overflow_add-low c = omega (arith, few_listed)
 
 pub loop-low-preserved-then-is_before : goal.loop-low-preserved-then-is_before
 loop-low-preserved-then-is_before c =
-    between_above _ c.requires.0.codes.up c.loop-low.invariant _ (omega arith) (omega arith) (planned_noted c.requires.0 c.requires.1 (omega arith) c.id_of.ensures) c.is_before.ensures c.if-is_before.true
+    between_above _ c.requires.planned.codes.up c.loop-low.invariant _ (omega arith) (omega arith) (planned_noted c.requires.planned c.requires.j_lt_listed (omega arith) c.id_of.ensures) c.is_before.ensures c.if-is_before.true
 
 pub loop-low-preserved : goal.loop-low-preserved
 loop-low-preserved c =
-    between_below _ c.requires.0.codes.up c.loop-low.invariant _ (omega arith) (omega arith) (planned_noted c.requires.0 c.requires.1 (omega arith) c.id_of.ensures) c.is_before.ensures c.if-is_before.false
+    between_below _ c.requires.planned.codes.up c.loop-low.invariant _ (omega arith) (omega arith) (planned_noted c.requires.planned c.requires.j_lt_listed (omega arith) c.id_of.ensures) c.is_before.ensures c.if-is_before.false
 
 pub returns : goal.returns
 returns c = search (between_ends, new_noted)

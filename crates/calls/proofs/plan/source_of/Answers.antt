@@ -21,16 +21,16 @@ pub returns-then-turn-lt1 : goal.returns-then-turn-lt1
 returns-then-turn-lt1 c = search source_first
 
 pub overflow_add-turn-2 : goal.overflow_add-turn-2
-overflow_add-turn-2 c = omega (arith, few_listed, turn_few c.requires.0 c.requires.1 c.if-first-code.false c.if-turn-lt1.false)
+overflow_add-turn-2 c = omega (arith, few_listed, turn_few c.requires.told c.requires.r_bound c.if-first-code.false c.if-turn-lt1.false)
 
 pub offset_bounds-notes-turn : goal.offset_bounds-notes-turn
-offset_bounds-notes-turn c = omega (arith, few_listed, turn_few c.requires.0 c.requires.1 c.if-first-code.false c.if-turn-lt1.false)
+offset_bounds-notes-turn c = omega (arith, few_listed, turn_few c.requires.told c.requires.r_bound c.if-first-code.false c.if-turn-lt1.false)
 
 pub bounds-notes-turn : goal.bounds-notes-turn
-bounds-notes-turn c = omega (arith, few_listed, turn_few c.requires.0 c.requires.1 c.if-first-code.false c.if-turn-lt1.false)
+bounds-notes-turn c = omega (arith, few_listed, turn_few c.requires.told c.requires.r_bound c.if-first-code.false c.if-turn-lt1.false)
 
 pub overflow_add-result : goal.overflow_add-result
-overflow_add-result c = omega (arith, few_listed, turn_few c.requires.0 c.requires.1 c.if-first-code.false c.if-turn-lt1.false)
+overflow_add-result c = omega (arith, few_listed, turn_few c.requires.told c.requires.r_bound c.if-first-code.false c.if-turn-lt1.false)
 
 pub returns-then-notes-turn-eq1 : goal.returns-then-notes-turn-eq1
 returns-then-notes-turn-eq1 c = search source_differs

@@ -16,7 +16,7 @@ loop-r-init c = filling_begins (omega (arith, few_after, c.requires.written 11 (
 pub source_of-source-requires : goal.source_of-source-requires
 source_of-source-requires c =
     let told = c.requires in
-    (rw c.loop-r.invariant.filled (told_fill _ _ _ _ CODED told SOURCES _ _ (omega arith)), omega (arith, told.written 11 (omega arith) 0 (omega arith)))
+    record { told = rw c.loop-r.invariant.filled (told_fill _ _ _ _ CODED told SOURCES _ _ (omega arith)); r_bound = omega (arith, told.written 11 (omega arith) 0 (omega arith)) }
 
 pub loop-r-preserved : goal.loop-r-preserved
 loop-r-preserved c = search filling_goes

@@ -6,7 +6,7 @@ use native.Mathlib.Omega.{arith}
 use Rattle.calls.proofs.reading.write_named_slots.Goals as goal
 
 pub find_each-requires : goal.find_each-requires
-find_each-requires c = (c.requires.given.kept.ascending, omega (arith, few_named))
+find_each-requires c = record { state_value = c.requires.given.kept.ascending; slot_room = omega (arith, few_named) }
 
 pub returns : goal.returns
 returns c =

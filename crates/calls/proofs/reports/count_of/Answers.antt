@@ -1,5 +1,4 @@
 -- `reports::count_of` meets its contract: the slots passed are counted. Assumes nothing.
-use mathlib.Core.Logic.{⊎_elim}
 use mathlib.Core.Path.{◌≡◌, sym, ap, ◌∙◌}
 use Prim.Native.Nat.{◌-◌, ◌≤◌}
 use lib.ListN.{length}
@@ -8,6 +7,7 @@ use Rattle.calls.proofs.reports.Slice.{slots_none, count_hit, count_miss}
 use borrow.Author.Rules.{rules}
 use native.Mathlib.Omega.{arith}
 use Rattle.calls.proofs.reports.count_of.Goals as goal
+use Rattle.calls.proofs.reports.count_of.Goals.{then-has_bit, else-has_bit}
 
 pub loop-i-init : goal.loop-i-init
 loop-i-init c = (omega arith, omega arith, sym (ap length (slots_none _ _ _)))
@@ -17,10 +17,10 @@ loop-i-preserved c =
     let i = c.loop-i.i in
     let a = c.args in
     let bit = sym c.has_bit.ensures in
-    ⊎_elim
-    (λ w. (omega arith, omega (arith, w.1), w.1 ∙ omega (arith, count_hit a.weight a.notes.now a.start i (bit ∙ w.0.taken))))
-    (λ w. (omega arith, omega (arith, w.1), w.1 ∙ omega (arith, count_miss a.weight a.notes.now a.start i (bit ∙ w.0.left))))
-    c.if-has_bit.branch
+    elim c.if-has_bit.branch [
+      | then-has_bit w ↦ (omega arith, omega (arith, w.count-is), w.count-is ∙ omega (arith, count_hit a.weight a.notes.now a.start i (bit ∙ w.if-has_bit.true)))
+      | else-has_bit w ↦ (omega arith, omega (arith, w.count-is), w.count-is ∙ omega (arith, count_miss a.weight a.notes.now a.start i (bit ∙ w.if-has_bit.false)))
+    ]
 
 pub returns : goal.returns
 returns c =

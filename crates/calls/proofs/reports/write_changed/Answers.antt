@@ -15,13 +15,14 @@ loop-r-init c = filling_begins (omega arith)
 
 pub change_at-change-requires : goal.change_at-change-requires
 change_at-change-requires c =
-    let given = c.requires in (
-      record {
+    let given = c.requires in
+    record {
+      outcomes = record {
         told = rw c.loop-r.invariant.filled (told_fill _ _ _ _ PLANNED given.told CHANGED _ _ (omega arith));
         next_is = given.next_is;
-      },
-      omega (arith, c.slots-n.ensures),
-    )
+      };
+      r_bound = omega (arith, c.slots-n.ensures);
+    }
 
 pub loop-r-preserved : goal.loop-r-preserved
 loop-r-preserved c = search filling_goes

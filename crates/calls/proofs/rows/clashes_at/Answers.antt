@@ -8,13 +8,13 @@ pub returns-then-notes-i-ne1 : goal.returns-then-notes-i-ne1
 returns-then-notes-i-ne1 c = search clash_alike
 
 pub overflow_add-result : goal.overflow_add-result
-overflow_add-result c = omega (arith, c.requires.1 c.if-notes-i-ne1.false)
+overflow_add-result c = omega (arith, c.requires.i_bound_2 c.if-notes-i-ne1.false)
 
 pub offset_bounds-notes-slot : goal.offset_bounds-notes-slot
-offset_bounds-notes-slot c = omega (arith, c.requires.1 c.if-notes-i-ne1.false)
+offset_bounds-notes-slot c = omega (arith, c.requires.i_bound_2 c.if-notes-i-ne1.false)
 
 pub bounds-notes-slot : goal.bounds-notes-slot
-bounds-notes-slot c = omega (arith, c.requires.1 c.if-notes-i-ne1.false)
+bounds-notes-slot c = omega (arith, c.requires.i_bound_2 c.if-notes-i-ne1.false)
 
 pub returns : goal.returns
 returns c = search clash_differs

@@ -9,7 +9,7 @@ use native.Mathlib.Omega.{arith}
 use Rattle.calls.proofs.rows.entries_of.Goals as goal
 
 pub returns-then-k-lt1 : goal.returns-then-k-lt1
-returns-then-k-lt1 = (λ c formed. entries_none _ (omega (arith, c.before.node-count.ensures)))
+returns-then-k-lt1 c = λ formed. entries_none _ (omega (arith, c.node_count-k.ensures))
 
 pub returns : goal.returns
 returns c =

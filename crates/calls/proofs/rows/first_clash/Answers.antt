@@ -10,7 +10,7 @@ pub loop-i-init : goal.loop-i-init
 loop-i-init c = search scan
 
 pub clashes_at-requires : goal.clashes_at-requires
-clashes_at-requires c = (omega arith, c.requires.1 c.loop-i.i c.loop-i-test.true)
+clashes_at-requires c = record { i_bound = omega arith; i_bound_2 = c.requires.clash_room c.loop-i.i c.loop-i-test.true }
 
 pub returns-then-clashes_at : goal.returns-then-clashes_at
 returns-then-clashes_at c = search scan

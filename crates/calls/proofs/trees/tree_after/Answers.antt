@@ -14,7 +14,7 @@ returns-then-row-eq0 c = search other_unborn
 
 pub root_goes-requires : goal.root_goes-requires
 root_goes-requires c =
-    let told = c.requires.0 in
+    let told = c.requires.told in
     (told.given.kept.ascending, omega (arith, trees_few _ _ told.given.kept told.given.numbered))
 
 pub returns-then-root_goes : goal.returns-then-root_goes

@@ -24,7 +24,7 @@ pub loop-k-init : goal.loop-k-init
 loop-k-init c = (c.tree_count-count.ensures ∙ sym (trees_count c.requires.given), omega arith, search fills_none)
 
 pub tree_after-row-requires : goal.tree_after-row-requires
-tree_after-row-requires c = (c.requires, omega (arith, c.loop-k.invariant.0))
+tree_after-row-requires c = record { told = c.requires; k_in_bounds = omega (arith, c.loop-k.invariant.0) }
 
 pub loop-k-preserved : goal.loop-k-preserved
 loop-k-preserved c =

@@ -7,7 +7,7 @@ use Rattle.calls.proofs.rows.Clashes.{clash_room}
 use Rattle.calls.proofs.why_outcome.removed_why.Goals as goal
 
 pub first_clash-i-requires : goal.first_clash-i-requires
-first_clash-i-requires c = let told = c.requires in (few_listed _ _ _ told.given, clash_room (told_fewer (omega arith) told))
+first_clash-i-requires c = let told = c.requires in record { k_bound = few_listed _ _ _ told.given; clash_room = clash_room (told_fewer (omega arith) told) }
 
 pub returns-then-scope-i : goal.returns-then-scope-i
 returns-then-scope-i c = search (rules, removed_none)

@@ -24,10 +24,10 @@ pub overflow_add-next-2 : goal.overflow_add-next-2
 overflow_add-next-2 c = omega (arith, few_named)
 
 pub overflow_sub-e : goal.overflow_sub-e
-overflow_sub-e c = omega (arith, first_within c.requires.0 c.args.j c.position_in-first.ensures)
+overflow_sub-e c = omega (arith, first_within c.requires.told c.args.j c.position_in-first.ensures)
 
 pub position_in-requires : goal.position_in-requires
-position_in-requires c = omega (arith, few_named, first_within c.requires.0 c.args.j c.position_in-first.ensures)
+position_in-requires c = omega (arith, few_named, first_within c.requires.told c.args.j c.position_in-first.ensures)
 
 pub overflow_add-second : goal.overflow_add-second
 overflow_add-second c = omega (arith, few_named)

@@ -40,7 +40,7 @@ loop-r-preserved c =
       omega arith,
       λ scope told.
           let among = node_among told c.loop-r-test.true in
-          rw (c.write_run-first.ensures.0, c.write_run-first.ensures.1, c.put_first_child.ensures)
+          rw (c.write_run-first.ensures.value, c.write_run-first.ensures.next_after, c.put_first_child.ensures)
           (runs_more _ l.r l.first _ _ l.next among (omega arith) (kids told among) (l.invariant.2 scope told)),
     )
 

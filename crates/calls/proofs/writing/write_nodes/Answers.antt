@@ -25,7 +25,7 @@ id_of-x-requires c = code_few c.requires (omega (arith, c.loop-r.invariant.0))
 pub link_of-l-requires : goal.link_of-l-requires
 link_of-l-requires c =
     let told = c.requires in
-    (told_compared told, code_there told (omega (arith, c.loop-r.invariant.0)))
+    record { told = told_compared told; coded = code_there told (omega (arith, c.loop-r.invariant.0)) }
 
 pub loop-r-preserved : goal.loop-r-preserved
 unfolding link_word

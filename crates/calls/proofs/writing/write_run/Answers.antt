@@ -28,4 +28,4 @@ overflow_add-result c = omega (arith, c.child_count-count.ensures)
 pub returns : goal.returns
 returns c =
     let count = c.child_count-count.ensures in
-    (ap (λ n. c.args.first + n) count, filling_ends c.loop-j.invariant c.loop-j-test.false ∙ rw count)
+    record { value = ap (λ n. c.args.first + n) count; next_after = filling_ends c.loop-j.invariant c.loop-j-test.false ∙ rw count }

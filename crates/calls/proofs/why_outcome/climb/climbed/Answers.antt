@@ -8,7 +8,7 @@ pub loop-room-init : goal.loop-room-init
 loop-room-init c = search (rules, climbing_starts)
 
 pub fate_at-requires : goal.fate_at-requires
-fate_at-requires c = (told_fewer (omega arith) c.requires.0, c.loop-room.invariant.there)
+fate_at-requires c = record { told = told_fewer (omega arith) c.requires.told; i_bound = c.loop-room.invariant.there }
 
 pub returns-then-fate_at-ne-AS_PARENT : goal.returns-then-fate_at-ne-AS_PARENT
 returns-then-fate_at-ne-AS_PARENT c = search (rules, climbing_ends)

@@ -8,7 +8,7 @@ pub returns-then-l-eq0 : goal.returns-then-l-eq0
 returns-then-l-eq0 c = search (rules, here_top)
 
 pub fate_at-requires : goal.fate_at-requires
-fate_at-requires c = (told_fewer (omega arith) c.requires.0, c.requires.1)
+fate_at-requires c = record { told = told_fewer (omega arith) c.requires.told; i_bound = c.requires.at_bound }
 
 pub returns-then-fate_at-ne-GOES : goal.returns-then-fate_at-ne-GOES
 returns-then-fate_at-ne-GOES c = search (rules, here_stays)
