@@ -1,9 +1,6 @@
 -- `reasons_shape::fields` meets its contract: the fields of each node passed obey the rules. Assumes nothing.
-use Prim.Native.Nat.{◌-◌}
-use Rattle.reasons_shape.proofs.Slots.{Seeking, seeking_start, seeking_more, spot_kept, spot_broken, fields_at, field_says}
-use Rattle.record.specs.Batch.{fields_ok}
+use Rattle.reasons_shape.proofs.Slots.{seeking_start, seeking_more, spot_kept, spot_broken, fields_at, field_says}
 use borrow.Author.Rules.{rules}
-use mathlib.Core.Bool.{not}
 use Rattle.reasons_shape.proofs.fields.Goals as goal
 
 pub loop-i-init : goal.loop-i-init

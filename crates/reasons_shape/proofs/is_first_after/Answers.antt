@@ -1,7 +1,5 @@
 -- `reasons_shape::is_first_after` meets its contract: each id passed comes after it. Assumes nothing.
-use Prim.Native.Nat.{◌+◌}
-use Prim.Native.Nat.{◌-◌}
-use Rattle.reasons_shape.proofs.Slots.{Ahead, ahead_start, ahead_more, ahead_fails, ahead_end}
+use Rattle.reasons_shape.proofs.Slots.{ahead_start, ahead_more, ahead_fails, ahead_end}
 use borrow.Author.Rules.{rules}
 use Rattle.reasons_shape.proofs.is_first_after.Goals as goal
 

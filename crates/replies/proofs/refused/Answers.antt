@@ -1,5 +1,4 @@
 -- `replies::refused` meets its contract. Assumes nothing.
-use borrow.Author.Rules.{rules}
 use Rattle.replies.specs.Plain.{refused_reply}
 use Rattle.replies.proofs.refused.Goals as goal
 

@@ -1,6 +1,5 @@
 -- `update_bodies::body_of` meets its contract. Assumes nothing.
 use native.Mathlib.Omega.{arith}
-use borrow.Author.Rules.{rules}
 use borrow.Author.Tests.{lt-ltb, le-ltb}
 use Rattle.state_array.specs.Layout.{SLOTS}
 use Rattle.update_bodies.specs.Bodies.{code_body}

@@ -1,6 +1,5 @@
 -- `update_bodies::label_words` meets its contract. Assumes nothing.
 use Rattle.base.specs.Bytes.{list_of}
-use borrow.Author.Rules.{rules}
 use Rattle.update_bodies.proofs.label_words.Goals as goal
 
 pub returns : goal.returns

@@ -1,6 +1,5 @@
 -- `update_bodies::listed_body` meets its contract. Assumes nothing.
 use Rattle.update_bodies.specs.Bodies.{listed_body}
-use borrow.Author.Rules.{rules}
 use Rattle.update_bodies.proofs.listed_body.Goals as goal
 
 pub returns : goal.returns

@@ -1,7 +1,6 @@
 -- `update_bodies::pattern` meets its contract. Assumes nothing.
 use mathlib.Core.Path.{sym, ◌∙◌}
 use Rattle.record_reader.proofs.Reader.{field_here, field_past}
-use borrow.Author.Rules.{rules}
 use Rattle.update_bodies.proofs.pattern.Goals as goal
 
 pub returns-then-u16_at-i : goal.returns-then-u16_at-i

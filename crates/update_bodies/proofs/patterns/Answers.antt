@@ -1,7 +1,6 @@
 -- `update_bodies::patterns` meets its contract. Assumes nothing.
 use Rattle.base.specs.Bytes.{list_of}
 use Rattle.update_bodies.specs.Bodies.{patterns_in}
-use borrow.Author.Rules.{rules}
 use Rattle.update_bodies.proofs.patterns.Goals as goal
 
 pub returns : goal.returns

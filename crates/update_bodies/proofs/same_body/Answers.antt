@@ -1,7 +1,6 @@
 -- `update_bodies::same_body` meets its contract: one test for each field. Assumes nothing.
 use Rattle.base.specs.Tests.{◌&&◌}
 use Rattle.update_bodies.proofs.Same.{body_compared}
-use borrow.Author.Rules.{rules}
 use Rattle.update_bodies.proofs.same_body.Goals as goal
 
 pub returns : goal.returns

@@ -3,7 +3,6 @@ use Rattle.base.specs.Tests.{◌&&◌}
 use Rattle.base.specs.Floats.{same_value}
 use Rattle.geometry.specs.Geometry.{same_rect}
 use Rattle.update_bodies.specs.Bodies.{bounds_of}
-use borrow.Author.Rules.{rules}
 use Rattle.update_bodies.proofs.same_bounds.Goals as goal
 
 pub returns : goal.returns

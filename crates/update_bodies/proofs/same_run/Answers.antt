@@ -1,13 +1,7 @@
 -- `update_bodies::same_run` meets its contract: the words passed are the same. Assumes nothing.
-use mathlib.Core.Bool.{true}
-use mathlib.Core.Path.{◌≡◌, sym, ◌∙◌}
-use Prim.Native.Nat.{◌+◌, ◌-◌, ◌≤◌}
+use mathlib.Core.Path.{sym, ◌∙◌}
 use native.Mathlib.Omega.{arith}
-use lib.Dec.{eqb}
-use lib.ListN.{get_or}
-use borrow.Author.Rules.{rules}
 use borrow.Author.Tests.{eq-eqb, ne_eqb}
-use Rattle.base.specs.Bytes.{all_below}
 use Rattle.base.proofs.Bytes.{all_below_none, all_below_more, all_below_fails}
 use Rattle.update_bodies.specs.Bodies.{same_run}
 use Rattle.base.proofs.Indexed.{all_below_end}

@@ -3,7 +3,6 @@ use Rattle.base.specs.Tests.{◌&&◌}
 use Rattle.base.specs.Floats.{same_value}
 use Rattle.geometry.specs.Geometry.{same_affine}
 use Rattle.update_bodies.specs.Bodies.{transform_of}
-use borrow.Author.Rules.{rules}
 use Rattle.update_bodies.proofs.same_transform.Goals as goal
 
 pub returns : goal.returns

@@ -1,7 +1,6 @@
 -- `update_bodies::same_value` meets its contract. Assumes nothing.
 use mathlib.Core.Path.{ap₂}
 use lib.Ieee.{eq}
-use borrow.Author.Rules.{rules}
 use Rattle.update_bodies.proofs.same_value.Goals as goal
 
 pub returns : goal.returns

@@ -4,7 +4,6 @@ use Prim.Native.Nat.{◌+◌}
 use lib.ListN.{get_or-eq_default}
 use native.Mathlib.Omega.{arith}
 use Rattle.base.proofs.Compared.{get_d_within}
-use borrow.Author.Rules.{rules}
 use Rattle.update_bodies.proofs.word_in.Goals as goal
 
 pub returns-then-n-from : goal.returns-then-n-from

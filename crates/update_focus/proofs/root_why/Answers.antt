@@ -1,5 +1,4 @@
 -- `update_focus::root_why` meets its contract. Assumes nothing.
-use borrow.Author.Rules.{rules}
 use Rattle.reasons_why.specs.Why.{why_of, found}
 use Rattle.update_focus.proofs.root_why.Goals as goal
 

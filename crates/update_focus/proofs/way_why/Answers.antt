@@ -1,5 +1,4 @@
 -- `update_focus::way_why` meets its contract. Assumes nothing.
-use borrow.Author.Rules.{rules}
 use Rattle.reasons_why.specs.Why.{found}
 use Rattle.update_focus.proofs.way_why.Goals as goal
 

@@ -1,11 +1,6 @@
 -- `update_focus::write_way` meets its contract: the first j words are stored. Assumes nothing.
-use Prim.Native.Nat.{◌-◌}
-use lib.ListN.{get_or}
 use native.Mathlib.Omega.{arith}
-use Rattle.base.proofs.Loops.{Filling, filling_begins}
-use Rattle.ids.specs.Ids.{id_words}
-use Rattle.reasons_calls.specs.Outcome.{focus_way}
-use Rattle.state_array.specs.View.{view}
+use Rattle.base.proofs.Loops.{filling_begins}
 use borrow.Author.Rules.{rules}
 use Rattle.update_focus.proofs.Ways.{words_go, words_are}
 use Rattle.update_focus.proofs.write_way.Goals as goal

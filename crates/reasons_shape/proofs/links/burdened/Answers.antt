@@ -1,10 +1,7 @@
 -- `reasons_shape::links::burdened` meets its contract: each graft passed is bare. Assumes nothing.
-use Prim.Native.Nat.{◌-◌}
 use Rattle.reasons_shape.proofs.LinkRules.{burden_says, bare_is}
-use Rattle.reasons_shape.proofs.Slots.{Seeking, seeking_start, seeking_more, spot_kept, spot_broken}
-use Rattle.state.specs.Sound.{graft_is_bare}
+use Rattle.reasons_shape.proofs.Slots.{seeking_start, seeking_more, spot_kept, spot_broken}
 use borrow.Author.Rules.{rules}
-use mathlib.Core.Bool.{not}
 use Rattle.reasons_shape.proofs.links.burdened.Goals as goal
 
 pub loop-i-init : goal.loop-i-init

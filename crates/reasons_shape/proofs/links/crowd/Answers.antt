@@ -1,9 +1,7 @@
 -- `reasons_shape::links::crowd` meets its contract: no node passed has more than 256 children. Assumes nothing.
-use Prim.Native.Nat.{◌-◌}
 use Rattle.base.proofs.Scan.{call_is}
-use Rattle.reasons.specs.Shape.{crowded}
 use Rattle.reasons_shape.proofs.LinkRules.{crowd_says}
-use Rattle.reasons_shape.proofs.Slots.{Seeking, seeking_start, seeking_more, spot_kept, spot_broken}
+use Rattle.reasons_shape.proofs.Slots.{seeking_start, seeking_more, spot_kept, spot_broken}
 use borrow.Author.Rules.{rules}
 use Rattle.reasons_shape.proofs.links.crowd.Goals as goal
 

@@ -1,8 +1,5 @@
 -- `reasons_shape::links::first_above` meets its contract: no node passed stands above the id. Assumes nothing.
-use Prim.Native.Nat.{◌-◌}
-use Rattle.base.proofs.Scan.{Missed, scan}
-use Rattle.reasons_shape.specs.Reached.{below_at}
-use borrow.Author.Rules.{rules}
+use Rattle.base.proofs.Scan.{scan}
 use Rattle.reasons_shape.proofs.links.first_above.Goals as goal
 
 pub loop-p-init : goal.loop-p-init

@@ -1,8 +1,7 @@
 -- `reasons_shape::links::first_above` meets its contract: no node passed stands above the id. Assumes nothing.
 use Prim.Native.Nat.{◌-◌}
-use Rattle.base.proofs.Scan.{Missed, scan}
+use Rattle.base.proofs.Scan.{Missed}
 use Rattle.reasons_shape.specs.Reached.{below_at}
-use borrow.Author.Rules.{rules}
 use Rattle.reasons_shape.proofs.links.first_above.Given as goal
 
 abbrev pub invariant-loop-p : goal.invariant-loop-p

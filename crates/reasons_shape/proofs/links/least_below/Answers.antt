@@ -1,6 +1,5 @@
 -- `reasons_shape::links::least_below` meets its contract: the absent ids of each place passed are compared. Assumes nothing.
-use Prim.Native.Nat.{◌-◌, ◌≤◌}
-use Rattle.reasons_shape.proofs.Least.{Lessening, lessening_start, lessening_end, lessening_none, lessening_present, lessening_absent}
+use Rattle.reasons_shape.proofs.Least.{lessening_start, lessening_end, lessening_none, lessening_present, lessening_absent}
 use borrow.Author.Rules.{rules}
 use Rattle.reasons_shape.proofs.links.least_below.Goals as goal
 

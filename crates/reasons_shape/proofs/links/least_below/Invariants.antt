@@ -1,7 +1,6 @@
 -- `reasons_shape::links::least_below` meets its contract: the absent ids of each place passed are compared. Assumes nothing.
 use Prim.Native.Nat.{◌-◌, ◌≤◌}
-use Rattle.reasons_shape.proofs.Least.{Lessening, lessening_start, lessening_end, lessening_none, lessening_present, lessening_absent}
-use borrow.Author.Rules.{rules}
+use Rattle.reasons_shape.proofs.Least.{Lessening}
 use Rattle.reasons_shape.proofs.links.least_below.Given as goal
 
 abbrev pub invariant-loop-j : goal.invariant-loop-j

@@ -1,11 +1,7 @@
 -- `reasons_shape::links::met_twice` meets its contract: no node passed is met more than once. Assumes nothing.
-use Prim.Native.Nat.{◌-◌}
 use Rattle.base.proofs.Scan.{call_is}
-use Rattle.reasons.specs.Shape.{is_met_twice}
-use Rattle.reasons_shape.specs.Reached.{reached_in}
 use Rattle.reasons_shape.proofs.LinkRules.{twice_says}
-use Rattle.reasons_shape.proofs.Slots.{Seeking, seeking_start, seeking_more, spot_kept, spot_broken}
-use Rattle.state_array.specs.View.{view}
+use Rattle.reasons_shape.proofs.Slots.{seeking_start, seeking_more, spot_kept, spot_broken}
 use borrow.Author.Rules.{rules}
 use Rattle.reasons_shape.proofs.links.met_twice.Goals as goal
 

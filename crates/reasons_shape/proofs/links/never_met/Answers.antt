@@ -1,10 +1,6 @@
 -- `reasons_shape::links::never_met` meets its contract: each node passed is met. Assumes nothing.
-use Prim.Native.Nat.{◌-◌}
-use Rattle.reasons.specs.Shape.{is_never_met}
-use Rattle.reasons_shape.specs.Reached.{reached_in}
 use Rattle.reasons_shape.proofs.LinkRules.{never_is, unmet_kept, unmet_broken}
-use Rattle.reasons_shape.proofs.Slots.{Seeking, seeking_start, seeking_more}
-use Rattle.state_array.specs.View.{view}
+use Rattle.reasons_shape.proofs.Slots.{seeking_start, seeking_more}
 use borrow.Author.Rules.{rules}
 use Rattle.reasons_shape.proofs.links.never_met.Goals as goal
 

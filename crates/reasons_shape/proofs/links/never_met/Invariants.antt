@@ -2,10 +2,8 @@
 use Prim.Native.Nat.{◌-◌}
 use Rattle.reasons.specs.Shape.{is_never_met}
 use Rattle.reasons_shape.specs.Reached.{reached_in}
-use Rattle.reasons_shape.proofs.LinkRules.{never_is, unmet_kept, unmet_broken}
-use Rattle.reasons_shape.proofs.Slots.{Seeking, seeking_start, seeking_more}
+use Rattle.reasons_shape.proofs.Slots.{Seeking}
 use Rattle.state_array.specs.View.{view}
-use borrow.Author.Rules.{rules}
 use Rattle.reasons_shape.proofs.links.never_met.Given as goal
 
 abbrev pub invariant-loop-i : goal.invariant-loop-i

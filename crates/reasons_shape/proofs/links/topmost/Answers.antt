@@ -1,5 +1,5 @@
 -- `reasons_shape::links::topmost` meets its contract: the laws of `Climbing`. Assumes nothing.
-use Rattle.reasons_shape.proofs.LinkRules.{Climbing, climbing_start, climbing_end, climbing_top, climbing_held, climbing_on}
+use Rattle.reasons_shape.proofs.LinkRules.{climbing_start, climbing_end, climbing_top, climbing_held, climbing_on}
 use borrow.Author.Rules.{rules}
 use Rattle.reasons_shape.proofs.links.topmost.Goals as goal
 

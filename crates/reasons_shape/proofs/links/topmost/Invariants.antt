@@ -1,6 +1,5 @@
 -- `reasons_shape::links::topmost` meets its contract: the laws of `Climbing`. Assumes nothing.
-use Rattle.reasons_shape.proofs.LinkRules.{Climbing, climbing_start, climbing_end, climbing_top, climbing_held, climbing_on}
-use borrow.Author.Rules.{rules}
+use Rattle.reasons_shape.proofs.LinkRules.{Climbing}
 use Rattle.reasons_shape.proofs.links.topmost.Given as goal
 
 abbrev pub invariant-loop-left : goal.invariant-loop-left

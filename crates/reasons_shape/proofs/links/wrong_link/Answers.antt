@@ -1,6 +1,5 @@
 -- `reasons_shape::links::wrong_link` meets its contract: each node passed records the link under which it is met. Assumes nothing.
-use Prim.Native.Nat.{◌-◌}
-use Rattle.reasons_shape.proofs.LinkRules.{Agreeing, agreeing_start, agreeing_more, agreeing_fails, agreeing_end}
+use Rattle.reasons_shape.proofs.LinkRules.{agreeing_start, agreeing_more, agreeing_fails, agreeing_end}
 use borrow.Author.Rules.{rules}
 use Rattle.reasons_shape.proofs.links.wrong_link.Goals as goal
 

@@ -1,7 +1,6 @@
 -- `reasons_shape::reached::add_below` meets its contract: the links of each place passed are added. Assumes nothing.
-use Prim.Native.Nat.{◌-◌, ◌≤◌}
 use borrow.Author.Rules.{rules}
-use Rattle.reasons_shape.proofs.reached.Meeting.{Adding, adding_start, adding_end, adding_none, adding_other, adding_more}
+use Rattle.reasons_shape.proofs.reached.Meeting.{adding_start, adding_end, adding_none, adding_other, adding_more}
 use Rattle.reasons_shape.proofs.reached.add_below.Goals as goal
 
 pub loop-j-init : goal.loop-j-init

@@ -1,7 +1,6 @@
 -- `reasons_shape::reached::is_below` meets its contract: the id stands at no place passed. Assumes nothing.
-use Prim.Native.Nat.{◌-◌, ◌≤◌}
 use borrow.Author.Rules.{rules}
-use Rattle.reasons_shape.proofs.reached.Below.{Looking, looking_start, looking_end, looking_none, looking_hit, looking_more}
+use Rattle.reasons_shape.proofs.reached.Below.{looking_start, looking_end, looking_none, looking_hit, looking_more}
 use Rattle.reasons_shape.proofs.reached.is_below.Goals as goal
 
 pub loop-j-init : goal.loop-j-init

@@ -1,7 +1,6 @@
 -- `reasons_shape::reached::reached` meets its contract: the laws of `Reaching`. Assumes nothing.
-use Prim.Native.Nat.{◌-◌}
 use borrow.Author.Rules.{rules}
-use Rattle.reasons_shape.proofs.reached.Marks.{Reaching, reached_none, reaching_start, reaching_more, reaching_end}
+use Rattle.reasons_shape.proofs.reached.Marks.{reached_none, reaching_start, reaching_more, reaching_end}
 use Rattle.reasons_shape.proofs.reached.reached.Goals as goal
 
 pub returns-in_default : goal.returns-in_default

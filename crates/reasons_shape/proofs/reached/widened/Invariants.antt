@@ -1,8 +1,7 @@
 -- `reasons_shape::reached::widened` meets its contract: each mark passed is stored. Assumes nothing.
 use Prim.Native.Nat.{◌-◌}
-use borrow.Author.Rules.{rules}
 use Rattle.reasons_shape.specs.Reached.{next_mark}
-use Rattle.reasons_shape.proofs.reached.Marks.{Storing, storing_start, storing_more, storing_end}
+use Rattle.reasons_shape.proofs.reached.Marks.{Storing}
 use Rattle.reasons_shape.proofs.reached.widened.Given as goal
 
 abbrev pub invariant-loop-i : goal.invariant-loop-i

@@ -1,6 +1,5 @@
 -- `reasons_shape::trees::later_graft` meets its contract: no node passed grafts the tree. Assumes nothing.
-use Prim.Native.Nat.{◌+◌, ◌-◌}
-use Rattle.reasons_shape.proofs.TreeRules.{Holding, holding_start, holding_more, holding_here, holding_end}
+use Rattle.reasons_shape.proofs.TreeRules.{holding_start, holding_more, holding_here, holding_end}
 use borrow.Author.Rules.{rules}
 use Rattle.reasons_shape.proofs.trees.later_graft.Goals as goal
 

@@ -1,7 +1,6 @@
 -- `reasons_shape::trees::later_graft` meets its contract: no node passed grafts the tree. Assumes nothing.
 use Prim.Native.Nat.{◌+◌, ◌-◌}
-use Rattle.reasons_shape.proofs.TreeRules.{Holding, holding_start, holding_more, holding_here, holding_end}
-use borrow.Author.Rules.{rules}
+use Rattle.reasons_shape.proofs.TreeRules.{Holding}
 use Rattle.reasons_shape.proofs.trees.later_graft.Given as goal
 
 abbrev pub invariant-loop-j : goal.invariant-loop-j

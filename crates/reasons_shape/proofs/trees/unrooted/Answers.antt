@@ -1,6 +1,5 @@
 -- `reasons_shape::trees::unrooted` meets its contract: each tree passed is rooted. Assumes nothing.
-use Prim.Native.Nat.{◌-◌}
-use Rattle.reasons_shape.proofs.TreeRules.{Rooting, rooting_start, rooting_more, rooting_fails, rooting_end}
+use Rattle.reasons_shape.proofs.TreeRules.{rooting_start, rooting_more, rooting_fails, rooting_end}
 use borrow.Author.Rules.{rules}
 use Rattle.reasons_shape.proofs.trees.unrooted.Goals as goal
 

@@ -1,7 +1,6 @@
 -- `reasons_shape::trees::unrooted` meets its contract: each tree passed is rooted. Assumes nothing.
 use Prim.Native.Nat.{◌-◌}
-use Rattle.reasons_shape.proofs.TreeRules.{Rooting, rooting_start, rooting_more, rooting_fails, rooting_end}
-use borrow.Author.Rules.{rules}
+use Rattle.reasons_shape.proofs.TreeRules.{Rooting}
 use Rattle.reasons_shape.proofs.trees.unrooted.Given as goal
 
 abbrev pub invariant-loop-k : goal.invariant-loop-k

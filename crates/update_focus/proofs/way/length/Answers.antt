@@ -1,7 +1,6 @@
 -- `update_focus::way::length` meets its contract: each place passed has a node. Assumes nothing.
-use Prim.Native.Nat.{◌-◌}
 use borrow.Author.Rules.{rules}
-use Rattle.update_focus.proofs.Ways.{Counting, counting_starts, counting_goes, counting_ends, counting_full}
+use Rattle.update_focus.proofs.Ways.{counting_starts, counting_goes, counting_ends, counting_full}
 use Rattle.update_focus.proofs.way.length.Goals as goal
 
 pub loop-k-init : goal.loop-k-init
