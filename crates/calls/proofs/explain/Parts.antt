@@ -10,14 +10,13 @@ use lib.ListN.{get_or, length}
 use borrow.Author.Tests.{eq-eqb}
 use Rattle.base.specs.Tests.{is_some, is_none}
 use Rattle.base.proofs.Cases.{by_test, by_option}
-use Rattle.base.proofs.Tests.{not_true, not_false}
 use Rattle.ids.specs.Ids.{ROOT, same_tree}
 use Rattle.ids.specs.declared.TreeId.{TreeId}
 use Rattle.record.specs.Batch.{Batch, listed_ids}
 use Rattle.record.specs.Parse.{well_formed, batch_of}
 use Rattle.record_layout.specs.declared.found.Offence as layout
 use Rattle.record_layout.specs.Noted.{plain_offence}
-use Rattle.record_rules.specs.Rules.{Offence, record_fault}
+use Rattle.record_rules.specs.Rules.{record_fault}
 use Rattle.record_rules.proofs.Rules.{numbered, fault_numbered, fault_none}
 use Rattle.state.specs.State.{Forest}
 use Rattle.state.specs.Down.{root_of}

@@ -1,5 +1,4 @@
 -- `calls::host_focus` meets its contract: a law for each way out. Assumes nothing.
-use borrow.Author.Rules.{rules}
 use mathlib.Core.Path.{sym, ◌∙◌}
 use Rattle.calls.proofs.answers.Host.{host_refused, host_accepted}
 use Rattle.calls.proofs.host_focus.Goals as goal

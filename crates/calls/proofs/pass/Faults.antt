@@ -10,7 +10,7 @@ use lib.Dec.{eqb, ltb}
 use lib.ListN.{length, get_or, take, set}
 use lib.Seq.{take-suc, get_or-set_same, get_or-set_other}
 use borrow.Author.Tests.{eqb-true, eqb-false, lt-ltb, le-ltb, eq-eqb, ne_eqb}
-use Rattle.base.specs.Tests.{◌&&◌, if◌then◌else◌, is_some, same_option, has, is_nil, given}
+use Rattle.base.specs.Tests.{◌&&◌, if◌then◌else◌, is_some, same_option, has, is_nil}
 use Rattle.base.proofs.Tests.{and_false}
 use Rattle.base.proofs.Lists.{any_append, none_of}
 use Rattle.base.specs.Search.{First}

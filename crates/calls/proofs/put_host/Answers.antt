@@ -1,5 +1,4 @@
 -- `calls::put_host` meets its contract. Assumes nothing.
-use borrow.Author.Rules.{rules}
 use mathlib.Core.Path.{ap, ◌∙◌}
 use Rattle.state_array.specs.Put.{host_put}
 use Rattle.calls.proofs.put_host.Goals as goal

@@ -1,5 +1,4 @@
 -- `calls::started` meets its contract: a law for each way out. Assumes nothing.
-use borrow.Author.Rules.{rules}
 use mathlib.Core.Option.{Option}
 use mathlib.Core.Path.{refl, sym, ap, ◌∙◌, subst}
 use Rattle.ids.specs.declared.FullNodeId.{FullNodeId}

@@ -1,5 +1,4 @@
 -- `calls::update` meets its contract: a law for each way out. Assumes nothing.
-use borrow.Author.Rules.{rules}
 use mathlib.Core.Path.{sym, ap, ◌∙◌}
 use Rattle.calls.specs.declared.notes.Refusal.{Refusal}
 use Rattle.calls.proofs.answers.Updates.{first_refused}

@@ -1,5 +1,4 @@
 -- `calls::updated` meets its contract: a law for each way out. Assumes nothing.
-use borrow.Author.Rules.{rules}
 use mathlib.Core.Path.{refl, sym, ap, ◌∙◌}
 use Rattle.base.proofs.Tests.{not_true, not_false}
 use Rattle.calls.specs.declared.notes.Refusal.{Refusal}

@@ -24,7 +24,7 @@ use Rattle.state_array.specs.declared.LinkRow.{LinkRow}
 use Rattle.state_array.specs.View.{id_in, link_in, link_of, slots_of}
 use Rattle.state_focus.specs.declared.FoundNode.{FoundNode}
 use Rattle.state_focus.specs.declared.FoundNode.TheVariants as node
-use Rattle.update.specs.Words.{here, listed}
+use Rattle.update.specs.Words.{here}
 use Rattle.update.specs.Gone.{Fate, stays, goes, asParent, replaced, fate}
 use Rattle.update.specs.Numbers.{updated_and_removed}
 use Rattle.calls.specs.Fates.{fate_code, fate_by, fate_mark, fate_word}

@@ -1,5 +1,5 @@
 -- Laws of 12's second part: the first tree that two nodes graft, found one node at a time, and which of them claims it. Assumes nothing.
-use mathlib.Core.Bool.{Bool, true, false, not}
+use mathlib.Core.Bool.{Bool, true, false}
 use mathlib.Core.List.{List, [], ◌∷◌}
 use mathlib.Core.Option.{Option, none, some}
 use mathlib.Core.Path.{◌≡◌, refl, sym, ap, ap₂, ◌∙◌}
@@ -12,7 +12,7 @@ use lib.Seq.{drop-cons}
 use borrow.Author.Tests.{lt-ltb, le-ltb}
 use Rattle.base.specs.Tests.{◌&&◌, if◌then◌else◌, is_some, same_option, first_given, has}
 use Rattle.base.specs.Bytes.{bit}
-use Rattle.base.proofs.Tests.{not_true, not_false, bit_is}
+use Rattle.base.proofs.Tests.{bit_is}
 use Rattle.ids.specs.Ids.{same_tree, same_node}
 use Rattle.ids.specs.declared.TreeId.{TreeId}
 use Rattle.ids.specs.declared.NodeId.{NodeId}

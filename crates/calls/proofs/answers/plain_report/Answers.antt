@@ -1,5 +1,4 @@
 -- `answers::plain_report` meets its contract: part by part. Assumes nothing.
-use borrow.Author.Rules.{rules}
 use Rattle.calls.specs.Plain.{plain_report}
 use Rattle.calls.proofs.answers.plain_report.Goals as goal
 

@@ -1,5 +1,4 @@
 -- `apply::apply` meets its contract: a law for each way out. Assumes nothing.
-use borrow.Author.Rules.{rules}
 use Rattle.calls.proofs.writing.Plan.{told_compared}
 use Rattle.calls.proofs.notes.Told.{few_listed}
 use Rattle.calls.proofs.rows.Clashes.{clash_room, clash_any}

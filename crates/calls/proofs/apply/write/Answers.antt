@@ -1,5 +1,4 @@
 -- `apply::write` meets its contract: phase after phase. Assumes nothing.
-use borrow.Author.Rules.{rules}
 use native.Mathlib.Omega.{arith}
 use Rattle.calls.proofs.apply.Applied.{written_is}
 use Rattle.calls.proofs.apply.write.Goals as goal

@@ -2,7 +2,6 @@
 use native.Mathlib.Omega.{arith}
 use Rattle.calls.proofs.notes.Told.{few_listed}
 use Rattle.calls.proofs.bodies.Differs.{differs_new, differs_same, differs_other}
-use borrow.Author.Rules.{rules}
 use Rattle.calls.proofs.bodies.differs_at.Goals as goal
 
 pub overflow_add-slot : goal.overflow_add-slot

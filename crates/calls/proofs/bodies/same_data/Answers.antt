@@ -4,7 +4,6 @@ use Rattle.update_bodies.proofs.Bodies.{floats_fit_lem}
 use Rattle.update_bodies.proofs.Same.{bytes_all}
 use Rattle.calls.proofs.notes.Told.{few_listed, few_named}
 use Rattle.calls.proofs.bodies.Differs.{run_within, other_data, same_data_lem}
-use borrow.Author.Rules.{rules}
 use Rattle.calls.proofs.bodies.same_data.Goals as goal
 
 pub overflow_add-i : goal.overflow_add-i

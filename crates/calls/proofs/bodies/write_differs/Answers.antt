@@ -1,12 +1,10 @@
 -- `bodies::write_differs` meets its contract. Assumes nothing.
 use mathlib.Core.Path.{refl}
-use Prim.Native.Nat.{◌-◌}
 use Rattle.calls.specs.Layout.{DIFFERS}
-use Rattle.calls.specs.Says.{differ_word, GONE}
+use Rattle.calls.specs.Says.{GONE}
 use Rattle.calls.proofs.notes.Told.{few_listed, told_fill, told_filled}
 use native.Mathlib.Omega.{arith}
-use borrow.Author.Rules.{rules}
-use Rattle.base.proofs.Loops.{Filling, filling_begins, filling_goes, filling_ends}
+use Rattle.base.proofs.Loops.{filling_begins, filling_goes, filling_ends}
 use Rattle.calls.proofs.bodies.write_differs.Goals as goal
 
 pub loop-i-init : goal.loop-i-init

@@ -1,5 +1,4 @@
 -- `explain::batch_why` meets its contract. Assumes nothing.
-use borrow.Author.Rules.{rules}
 use mathlib.Core.Path.{ap}
 use Rattle.state.specs.State.{State}
 use Rattle.calls.proofs.explain.Calls.{judged_early, judged_late}

@@ -1,5 +1,4 @@
 -- `explain::explain` meets its contract. Assumes nothing.
-use borrow.Author.Rules.{rules}
 use Rattle.calls.proofs.explain.Parts.{explained_is}
 use Rattle.calls.proofs.explain.explain.Goals as goal
 

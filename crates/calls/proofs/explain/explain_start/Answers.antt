@@ -1,5 +1,4 @@
 -- `explain::explain_start` meets its contract. Assumes nothing.
-use borrow.Author.Rules.{rules}
 use Rattle.calls.proofs.explain.Parts.{explained_start}
 use Rattle.calls.proofs.explain.explain_start.Goals as goal
 

@@ -1,5 +1,4 @@
 -- `explain::first_start_why` meets its contract. Assumes nothing.
-use borrow.Author.Rules.{rules}
 use native.Mathlib.Omega.{arith}
 use Rattle.calls.proofs.explain.Parts.{offence_formed, start_offence, start_unrooted, start_pane, start_again}
 use Rattle.calls.proofs.explain.first_start_why.Goals as goal

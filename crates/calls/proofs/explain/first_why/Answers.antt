@@ -1,5 +1,4 @@
 -- `explain::first_why` meets its contract. Assumes nothing.
-use borrow.Author.Rules.{rules}
 use native.Mathlib.Omega.{arith}
 use Rattle.calls.proofs.explain.Parts.{offence_formed, first_unsound, first_offence, first_rest}
 use Rattle.calls.proofs.explain.first_why.Goals as goal

@@ -1,5 +1,4 @@
 -- `explain::later_start_why` meets its contract. Assumes nothing.
-use borrow.Author.Rules.{rules}
 use native.Mathlib.Omega.{arith}
 use mathlib.Core.Path.{refl, ap, ◌∙◌}
 use Rattle.state.specs.State.{State}

@@ -1,5 +1,4 @@
 -- `explain::later_why` meets its contract. Assumes nothing.
-use borrow.Author.Rules.{rules}
 use native.Mathlib.Omega.{arith}
 use mathlib.Core.Path.{refl}
 use Rattle.calls.proofs.rows.Given.{told_update, asked_update}

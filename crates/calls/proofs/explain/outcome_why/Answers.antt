@@ -1,5 +1,4 @@
 -- `explain::outcome_why` meets its contract. Assumes nothing.
-use borrow.Author.Rules.{rules}
 use Rattle.calls.proofs.explain.Parts.{outcome_clash, outcome_focus, outcome_removed, outcome_unsound, outcome_many}
 use Rattle.calls.proofs.explain.outcome_why.Goals as goal
 

@@ -1,5 +1,4 @@
 -- `explain::start_why` meets its contract. Assumes nothing.
-use borrow.Author.Rules.{rules}
 use native.Mathlib.Omega.{arith}
 use mathlib.Core.Path.{ap, sym, ◌∙◌}
 use Rattle.calls.specs.declared.notes.Refusal.{Refusal}

@@ -8,7 +8,6 @@ use Rattle.calls.specs.declared.notes.Scope.{Scope}
 use Rattle.calls.specs.Fates.{Fated}
 use Rattle.calls.proofs.gone.Climb.{Climbing, climb_start, climb_left, climb_same, memo_known, memo_step}
 use native.Mathlib.Omega.{arith}
-use borrow.Author.Rules.{rules}
 use Rattle.calls.proofs.gone.climbed.Goals as goal
 
 pub loop-room-init : goal.loop-room-init

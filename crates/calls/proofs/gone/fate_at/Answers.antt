@@ -1,11 +1,6 @@
 -- `gone::fate_at` meets its contract. Assumes nothing.
-use Prim.Native.Nat.{◌+◌, ◌<◌}
-use lib.ListN.{get_or}
-use Rattle.state_array.specs.View.{slots_of}
-use Rattle.calls.specs.Layout.{ABOVE}
 use Rattle.calls.proofs.gone.Slots.{parent_within, fate_top, fate_mine, fate_below, fate_root}
 use native.Mathlib.Omega.{arith}
-use borrow.Author.Rules.{rules}
 use Rattle.calls.proofs.gone.fate_at.Goals as goal
 
 pub returns-then-l-eq0 : goal.returns-then-l-eq0

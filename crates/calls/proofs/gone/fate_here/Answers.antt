@@ -1,6 +1,5 @@
 -- `gone::fate_here` meets its contract: a law for each way out. Assumes nothing.
 use Rattle.calls.proofs.gone.Fates.{here_top, here_named, here_listed, here_root, here_below}
-use borrow.Author.Rules.{rules}
 use Rattle.calls.proofs.gone.fate_here.Goals as goal
 
 pub returns-then-p-scope : goal.returns-then-p-scope

@@ -1,7 +1,6 @@
 -- `gone::fate_under` meets its contract. Assumes nothing.
 use Rattle.calls.proofs.notes.Told.{few_listed}
 use Rattle.calls.proofs.gone.Slots.{under_claimed, under_unlisted, under_held, under_let_go}
-use borrow.Author.Rules.{rules}
 use Rattle.calls.proofs.gone.fate_under.Goals as goal
 
 pub claimed_from-requires : goal.claimed_from-requires

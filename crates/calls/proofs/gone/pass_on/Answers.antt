@@ -1,15 +1,12 @@
 -- `gone::pass_on` meets its contract. Assumes nothing.
-use mathlib.Core.Path.{◌≡◌, sym, ◌∙◌}
-use Prim.Native.Nat.{◌+◌, ◌-◌, ◌<◌}
+use mathlib.Core.Path.{sym, ◌∙◌}
+use Prim.Native.Nat.{◌+◌, ◌-◌}
 use lib.ListN.{get_or}
-use Rattle.state_array.specs.View.{slots_of}
 use Rattle.calls.specs.Layout.{ABOVE}
 use Rattle.calls.specs.declared.notes.Scope.{Scope}
-use Rattle.calls.specs.Says.{goes_word}
 use Rattle.calls.specs.Fates.{Fated}
 use Rattle.calls.proofs.gone.Climb.{Climbing, climb_start, climb_same, memo_step, memo_set}
 use native.Mathlib.Omega.{arith}
-use borrow.Author.Rules.{rules}
 use Rattle.calls.proofs.gone.pass_on.Goals as goal
 
 pub loop-room-init : goal.loop-room-init

@@ -1,15 +1,11 @@
 -- `gone::pass_on` meets its contract. Assumes nothing.
-use mathlib.Core.Path.{◌≡◌, sym, ◌∙◌}
-use Prim.Native.Nat.{◌+◌, ◌-◌, ◌<◌}
-use lib.ListN.{get_or}
+use mathlib.Core.Path.{◌≡◌}
+use Prim.Native.Nat.{◌<◌}
 use Rattle.state_array.specs.View.{slots_of}
-use Rattle.calls.specs.Layout.{ABOVE}
 use Rattle.calls.specs.declared.notes.Scope.{Scope}
 use Rattle.calls.specs.Says.{goes_word}
 use Rattle.calls.specs.Fates.{Fated}
-use Rattle.calls.proofs.gone.Climb.{Climbing, climb_start, climb_same, memo_step, memo_set}
-use native.Mathlib.Omega.{arith}
-use borrow.Author.Rules.{rules}
+use Rattle.calls.proofs.gone.Climb.{Climbing}
 use Rattle.calls.proofs.gone.pass_on.Given as goal
 
 abbrev pub invariant-loop-room : goal.invariant-loop-room

@@ -1,13 +1,9 @@
 -- `gone::write_above` meets its contract. Assumes nothing.
-use Prim.Native.Nat.{◌-◌}
-use Rattle.state_array.specs.View.{link_of, link_in}
-use Rattle.calls.specs.Layout.{ABOVE}
-use Rattle.calls.specs.Says.{slot_above, READ}
+use Rattle.calls.specs.Says.{READ}
 use Rattle.calls.proofs.notes.Told.{told_filled}
 use Rattle.calls.proofs.gone.Slots.{above_is}
 use native.Mathlib.Omega.{arith}
-use borrow.Author.Rules.{rules}
-use Rattle.base.proofs.Loops.{Filling, filling_begins, filling_goes, filling_ends}
+use Rattle.base.proofs.Loops.{filling_begins, filling_goes, filling_ends}
 use Rattle.calls.proofs.gone.write_above.Goals as goal
 
 pub loop-i-init : goal.loop-i-init

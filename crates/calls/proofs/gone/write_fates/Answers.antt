@@ -1,13 +1,11 @@
 -- `gone::write_fates` meets its contract. Assumes nothing.
-use Prim.Native.Nat.{◌-◌}
 use Rattle.calls.specs.Layout.{FATES}
 use Rattle.calls.proofs.notes.Columns.{holds_fill}
 use Rattle.calls.proofs.notes.Told.{told_fill}
-use Rattle.calls.specs.Fates.{fate_word, ABOVE_TOLD}
+use Rattle.calls.specs.Fates.{ABOVE_TOLD}
 use Rattle.calls.proofs.gone.Climb.{fated}
 use native.Mathlib.Omega.{arith}
-use borrow.Author.Rules.{rules}
-use Rattle.base.proofs.Loops.{Filling, filling_begins, filling_goes, filling_ends}
+use Rattle.base.proofs.Loops.{filling_begins, filling_goes, filling_ends}
 use Rattle.calls.proofs.gone.write_fates.Goals as goal
 
 pub loop-i-init : goal.loop-i-init

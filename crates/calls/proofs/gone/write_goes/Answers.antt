@@ -1,9 +1,6 @@
 -- `gone::write_goes` meets its contract. Assumes nothing.
-use Prim.Native.Nat.{◌-◌, ◌≤◌}
-use Rattle.calls.specs.Fates.{Fated}
 use Rattle.calls.proofs.gone.Climb.{memo_next, memo_done}
 use native.Mathlib.Omega.{arith}
-use borrow.Author.Rules.{rules}
 use Rattle.calls.proofs.gone.write_goes.Goals as goal
 
 pub loop-i-init : goal.loop-i-init

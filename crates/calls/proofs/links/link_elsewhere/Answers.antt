@@ -1,7 +1,6 @@
 -- `links::link_elsewhere` meets its contract: a law for each way out. Assumes nothing.
 use Rattle.calls.proofs.notes.Told.{few_listed}
 use Rattle.calls.proofs.links.Elsewhere.{elsewhere_own, elsewhere_kept, elsewhere_claimed}
-use borrow.Author.Rules.{rules}
 use native.Mathlib.Omega.{arith}
 use Rattle.calls.proofs.links.link_elsewhere.Goals as goal
 

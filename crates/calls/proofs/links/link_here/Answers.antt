@@ -1,7 +1,6 @@
 -- `links::link_here` meets its contract: a law for the root of a pane, for a node that is not named and for one that is. Assumes nothing.
 use Rattle.calls.proofs.notes.Told.{few_listed}
 use Rattle.calls.proofs.links.Here.{ends_rise, owner_owns, named_room, here_pane, here_cut, here_kept, here_cut_after, here_named}
-use borrow.Author.Rules.{rules}
 use native.Mathlib.Omega.{arith}
 use Rattle.calls.proofs.links.link_here.Goals as goal
 

@@ -1,7 +1,6 @@
 -- `links::link_of_new` meets its contract: its mark is told by a search of the named children. Assumes nothing.
 use Rattle.calls.proofs.notes.Told.{few_listed, few_named}
 use Rattle.calls.proofs.links.Here.{new_naming, new_row_lem}
-use borrow.Author.Rules.{rules}
 use native.Mathlib.Omega.{arith}
 use Rattle.calls.proofs.links.link_of_new.Goals as goal
 

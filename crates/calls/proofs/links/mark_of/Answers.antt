@@ -1,7 +1,6 @@
 -- `links::mark_of` meets its contract: two ways out. Assumes nothing.
 use native.Mathlib.Numerals.{add-one}
 use borrow.Author.Tests.{lt-ltb, le-ltb}
-use borrow.Author.Rules.{rules}
 use Rattle.calls.proofs.links.mark_of.Goals as goal
 
 pub returns-then-i-k : goal.returns-then-i-k

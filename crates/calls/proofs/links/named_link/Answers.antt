@@ -1,6 +1,5 @@
 -- `links::named_link` meets its contract: the parent is listed there, and its children start there. Assumes nothing.
 use Rattle.calls.proofs.links.Here.{under_first, under_later, start_later}
-use borrow.Author.Rules.{rules}
 use native.Mathlib.Omega.{arith}
 use Rattle.calls.proofs.links.named_link.Goals as goal
 

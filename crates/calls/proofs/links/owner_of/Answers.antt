@@ -1,9 +1,6 @@
 -- `links::owner_of` meets its contract: no node below `low` has children that end after the entry, and each from `high` on has.
 -- Assumes nothing.
-use mathlib.Core.Bool.{true, false}
-use mathlib.Core.Path.{◌≡◌}
-use Prim.Native.Nat.{ℕ, ◌+◌, ◌-◌, ◌/◌, ◌≤◌, ◌<◌}
-use lib.Dec.{ltb}
+use Prim.Native.Nat.{◌+◌, ◌-◌, ◌/◌}
 use lib.ListN.{get_or}
 use borrow.Author.Tests.{lt-ltb, le-ltb}
 use Rattle.calls.specs.Layout.{ENDS}

@@ -2,12 +2,10 @@
 -- Assumes nothing.
 use mathlib.Core.Bool.{true, false}
 use mathlib.Core.Path.{◌≡◌}
-use Prim.Native.Nat.{ℕ, ◌+◌, ◌-◌, ◌/◌, ◌≤◌, ◌<◌}
+use Prim.Native.Nat.{ℕ, ◌+◌, ◌-◌, ◌≤◌, ◌<◌}
 use lib.Dec.{ltb}
 use lib.ListN.{get_or}
-use borrow.Author.Tests.{lt-ltb, le-ltb}
 use Rattle.calls.specs.Layout.{ENDS}
-use native.Mathlib.Omega.{arith}
 use Rattle.calls.proofs.links.owner_of.Given as goal
 
 abbrev pub invariant-loop-low : goal.invariant-loop-low

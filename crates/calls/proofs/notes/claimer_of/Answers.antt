@@ -1,14 +1,6 @@
 -- `notes::claimer_of` meets its contract: no listed node passed claims the tree. Assumes nothing.
-use Prim.Native.Nat.{◌+◌, ◌-◌}
-use lib.Dec.{eqb}
-use lib.ListN.{get_or}
-use borrow.Author.Rules.{rules}
 use Rattle.base.specs.Tests.{◌&&◌}
-use Rattle.base.proofs.Scan.{Missed, scan}
-use Rattle.ids.specs.Ids.{same_tree}
-use Rattle.record.specs.Parse.{batch_of}
-use Rattle.record_reader.specs.Reader.{listed_at}
-use Rattle.calls.specs.Layout.{CLAIMS}
+use Rattle.base.proofs.Scan.{scan}
 use Rattle.calls.proofs.notes.Grafts.{claim_read}
 use Rattle.calls.proofs.notes.claimer_of.Goals as goal
 

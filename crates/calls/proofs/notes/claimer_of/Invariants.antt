@@ -2,14 +2,12 @@
 use Prim.Native.Nat.{◌+◌, ◌-◌}
 use lib.Dec.{eqb}
 use lib.ListN.{get_or}
-use borrow.Author.Rules.{rules}
 use Rattle.base.specs.Tests.{◌&&◌}
-use Rattle.base.proofs.Scan.{Missed, scan}
+use Rattle.base.proofs.Scan.{Missed}
 use Rattle.ids.specs.Ids.{same_tree}
 use Rattle.record.specs.Parse.{batch_of}
 use Rattle.record_reader.specs.Reader.{listed_at}
 use Rattle.calls.specs.Layout.{CLAIMS}
-use Rattle.calls.proofs.notes.Grafts.{claim_read}
 use Rattle.calls.proofs.notes.claimer_of.Given as goal
 
 abbrev pub invariant-loop-i : goal.invariant-loop-i

@@ -2,7 +2,6 @@
 use mathlib.Core.Path.{ap, ◌∙◌}
 use Rattle.base.specs.Bytes.{bit}
 use Rattle.calls.proofs.notes.Grafts.{graft_flag}
-use borrow.Author.Rules.{rules}
 use Rattle.calls.proofs.notes.grafts_new.Goals as goal
 
 pub returns : goal.returns

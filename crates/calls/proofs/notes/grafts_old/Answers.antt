@@ -4,7 +4,6 @@ use lib.Dec.{ltb}
 use Rattle.base.specs.Tests.{◌&&◌}
 use Rattle.base.specs.Bytes.{bit}
 use Rattle.calls.proofs.notes.Grafts.{graft_below_some}
-use borrow.Author.Rules.{rules}
 use Rattle.calls.proofs.notes.grafts_old.Goals as goal
 
 pub returns : goal.returns

@@ -1,11 +1,6 @@
 -- `notes::holder_of` meets its contract: no slot passed grafts the tree. Assumes nothing.
-use mathlib.Core.Option.{some}
-use Prim.Native.Nat.{◌-◌}
-use borrow.Author.Rules.{rules}
-use Rattle.base.specs.Tests.{◌&&◌, same_option}
-use Rattle.base.proofs.Scan.{Missed, scan}
-use Rattle.ids.specs.Ids.{same_tree}
-use Rattle.state_array.specs.View.{graft_in}
+use Rattle.base.specs.Tests.{◌&&◌}
+use Rattle.base.proofs.Scan.{scan}
 use Rattle.calls.proofs.notes.Grafts.{graft_test}
 use Rattle.calls.proofs.notes.holder_of.Goals as goal
 

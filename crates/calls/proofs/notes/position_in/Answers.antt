@@ -1,10 +1,6 @@
 -- `notes::position_in` meets its contract: no word passed is x. Assumes nothing.
-use Prim.Native.Nat.{◌+◌, ◌-◌}
-use lib.Dec.{eqb}
-use lib.ListN.{get_or}
-use borrow.Author.Rules.{rules}
 use borrow.Author.Tests.{eq-eqb, ne_eqb}
-use Rattle.base.proofs.Scan.{Missed, scan}
+use Rattle.base.proofs.Scan.{scan}
 use Rattle.calls.proofs.notes.position_in.Goals as goal
 
 pub loop-i-init : goal.loop-i-init

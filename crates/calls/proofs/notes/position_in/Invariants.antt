@@ -2,9 +2,7 @@
 use Prim.Native.Nat.{◌+◌, ◌-◌}
 use lib.Dec.{eqb}
 use lib.ListN.{get_or}
-use borrow.Author.Rules.{rules}
-use borrow.Author.Tests.{eq-eqb, ne_eqb}
-use Rattle.base.proofs.Scan.{Missed, scan}
+use Rattle.base.proofs.Scan.{Missed}
 use Rattle.calls.proofs.notes.position_in.Given as goal
 
 abbrev pub invariant-loop-i : goal.invariant-loop-i

@@ -5,7 +5,6 @@ use Rattle.base.specs.Tests.{◌&&◌}
 use Rattle.base.proofs.Tests.{call_false, call_true}
 use Rattle.ids.specs.Ids.{same_tree}
 use Rattle.calls.proofs.notes.Grafts.{same_graft_none, same_graft_some}
-use borrow.Author.Rules.{rules}
 use Rattle.calls.proofs.notes.same_graft.Goals as goal
 
 pub returns-then-not-grafts_new : goal.returns-then-not-grafts_new

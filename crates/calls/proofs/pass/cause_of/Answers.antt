@@ -1,5 +1,4 @@
 -- `pass::cause_of` meets its contract: the rows in their order. Assumes nothing.
-use borrow.Author.Rules.{rules}
 use Rattle.calls.proofs.pass.Rows.{due_room, placeless_first}
 use Rattle.calls.proofs.notes.Told.{few_listed}
 use Rattle.calls.proofs.pass.Causes.{row_met, row_placeless, row_nowhere, row_none}

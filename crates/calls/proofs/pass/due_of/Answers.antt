@@ -1,6 +1,5 @@
 -- `pass::due_of` meets its contract: a law for each way out. Assumes nothing.
 use native.Mathlib.Omega.{arith}
-use borrow.Author.Rules.{rules}
 use Rattle.calls.proofs.notes.Told.{few_listed, few_named}
 use Rattle.calls.proofs.pass.Read.{due_old, due_root, due_named, listed_old, listed_new, root_listed, named_place}
 use Rattle.calls.proofs.pass.due_of.Goals as goal

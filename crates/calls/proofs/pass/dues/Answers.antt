@@ -1,13 +1,10 @@
 -- `pass::dues` meets its contract: the places passed are filled. Assumes nothing.
-use Prim.Native.Nat.{ℕ, ◌-◌}
+use Prim.Native.Nat.{ℕ}
 use native.Mathlib.Nat.{zero-add}
 use native.Mathlib.Omega.{arith}
-use lib.ListN.{replicate, length-replicate}
-use borrow.Author.Rules.{rules}
-use Rattle.base.proofs.Loops.{Filling, filling_begins, filling_goes, filling_at}
-use Rattle.calls.specs.Setting.{asked, forest}
+use lib.ListN.{length-replicate}
+use Rattle.base.proofs.Loops.{filling_begins, filling_goes, filling_at}
 use Rattle.calls.proofs.notes.Told.{few_listed}
-use Rattle.calls.specs.Steps.{due_of}
 use Rattle.calls.proofs.pass.dues.Goals as goal
 
 pub loop-i-init : goal.loop-i-init

@@ -1,12 +1,8 @@
 -- `pass::dues` meets its contract: the places passed are filled. Assumes nothing.
-use Prim.Native.Nat.{ℕ, ◌-◌}
-use native.Mathlib.Nat.{zero-add}
-use native.Mathlib.Omega.{arith}
-use lib.ListN.{replicate, length-replicate}
-use borrow.Author.Rules.{rules}
-use Rattle.base.proofs.Loops.{Filling, filling_begins, filling_goes, filling_at}
+use Prim.Native.Nat.{◌-◌}
+use lib.ListN.{replicate}
+use Rattle.base.proofs.Loops.{Filling}
 use Rattle.calls.specs.Setting.{asked, forest}
-use Rattle.calls.proofs.notes.Told.{few_listed}
 use Rattle.calls.specs.Steps.{due_of}
 use Rattle.calls.proofs.pass.dues.Given as goal
 

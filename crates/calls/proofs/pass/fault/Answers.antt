@@ -1,9 +1,6 @@
 -- `pass::fault` meets its contract: what is left to meet is the answer. Assumes nothing.
-use Prim.Native.Nat.{◌+◌, ◌-◌}
 use native.Mathlib.Omega.{arith}
-use borrow.Author.Rules.{rules}
-use Rattle.calls.specs.Setting.{asked, forest}
-use Rattle.calls.proofs.pass.Going.{Going, begins, ends, stops_twice, stops, goes, going_within}
+use Rattle.calls.proofs.pass.Going.{begins, ends, stops_twice, stops, goes, going_within}
 use Rattle.calls.proofs.pass.fault.Goals as goal
 
 pub loop-i-init : goal.loop-i-init

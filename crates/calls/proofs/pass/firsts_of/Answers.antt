@@ -1,10 +1,7 @@
 -- `pass::firsts_of` meets its contract: those of the nodes passed stand there. Assumes nothing.
-use mathlib.Core.Path.{◌≡◌}
-use Prim.Native.Nat.{ℕ, ◌-◌, ◌≤◌}
+use Prim.Native.Nat.{ℕ}
 use native.Mathlib.Omega.{arith}
-use lib.ListN.{length, length-set, length-replicate}
-use borrow.Author.Rules.{rules}
-use Rattle.calls.specs.Steps.{Firsts}
+use lib.ListN.{length-set, length-replicate}
 use Rattle.calls.proofs.pass.Rows.{firsts_none, firsts_more, firsts_all}
 use Rattle.calls.proofs.pass.firsts_of.Goals as goal
 

@@ -1,11 +1,8 @@
 -- `pass::firsts_of` meets its contract: those of the nodes passed stand there. Assumes nothing.
 use mathlib.Core.Path.{◌≡◌}
-use Prim.Native.Nat.{ℕ, ◌-◌, ◌≤◌}
-use native.Mathlib.Omega.{arith}
-use lib.ListN.{length, length-set, length-replicate}
-use borrow.Author.Rules.{rules}
+use Prim.Native.Nat.{◌-◌, ◌≤◌}
+use lib.ListN.{length}
 use Rattle.calls.specs.Steps.{Firsts}
-use Rattle.calls.proofs.pass.Rows.{firsts_none, firsts_more, firsts_all}
 use Rattle.calls.proofs.pass.firsts_of.Given as goal
 
 abbrev pub invariant-loop-i : goal.invariant-loop-i

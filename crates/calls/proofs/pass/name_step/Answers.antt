@@ -1,6 +1,5 @@
 -- `pass::name_step` meets its contract: the step of an old child, or another's. Assumes nothing.
 use native.Mathlib.Omega.{arith}
-use borrow.Author.Rules.{rules}
 use Rattle.calls.proofs.pass.Steps.{entry_limit, moves_old}
 use Rattle.calls.proofs.pass.name_step.Goals as goal
 

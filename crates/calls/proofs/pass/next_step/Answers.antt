@@ -1,6 +1,5 @@
 -- `pass::next_step` meets its contract: a child's step, or the node's own turn. Assumes nothing.
 use native.Mathlib.Omega.{arith}
-use borrow.Author.Rules.{rules}
 use Rattle.calls.proofs.pass.Steps.{entry_limit, node_room, end_here, moves_turn, moves_wait}
 use Rattle.calls.proofs.pass.next_step.Goals as goal
 

@@ -1,13 +1,6 @@
 -- `pass::nowhere` meets its contract: none of the children passed is nowhere. Assumes nothing.
-use Prim.Native.Nat.{◌-◌}
-use lib.ListN.{get_or}
-use borrow.Author.Rules.{rules}
-use Rattle.base.proofs.Loops.{Passing, passing_begins, passing_called, passing_hit, passing_ends}
+use Rattle.base.proofs.Loops.{passing_begins, passing_called, passing_hit, passing_ends}
 use Rattle.base.proofs.Scan.{call_is}
-use Rattle.record.specs.Batch.{named_ids}
-use Rattle.record_reader.specs.Reader.{no_node}
-use Rattle.update.specs.Numbers.{nowhere}
-use Rattle.calls.specs.Setting.{asked, forest}
 use Rattle.calls.proofs.pass.nowhere.Goals as goal
 
 pub loop-j-init : goal.loop-j-init

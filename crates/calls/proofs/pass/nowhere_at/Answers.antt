@@ -1,6 +1,5 @@
 -- `pass::nowhere_at` meets its contract: a law for each way out. Assumes nothing.
 use native.Mathlib.Omega.{arith}
-use borrow.Author.Rules.{rules}
 use Rattle.calls.proofs.notes.Told.{few_listed, few_named}
 use Rattle.calls.proofs.pass.Rows.{nowhere_old, nowhere_first, nowhere_new}
 use Rattle.calls.proofs.pass.nowhere_at.Goals as goal

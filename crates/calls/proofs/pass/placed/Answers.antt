@@ -1,6 +1,5 @@
 -- `pass::placed` meets its contract: a law for each way out. Assumes nothing.
 use native.Mathlib.Omega.{arith}
-use borrow.Author.Rules.{rules}
 use Rattle.calls.proofs.notes.Told.{few_listed}
 use Rattle.calls.proofs.pass.Faults.{placed_past, placed_crowded, placed_claimless, placed_root, placed_claimed, placed_claim}
 use Rattle.calls.proofs.pass.placed.Goals as goal

@@ -1,10 +1,6 @@
 -- `pass::placeless` meets its contract: none of the listed nodes passed is due after all children. Assumes nothing.
-use Prim.Native.Nat.{◌-◌}
-use lib.Dec.{ltb}
-use lib.ListN.{get_or}
-use borrow.Author.Rules.{rules}
 use borrow.Author.Tests.{lt-ltb, le-ltb}
-use Rattle.base.proofs.Loops.{Passing, passing_begins, passing_goes, passing_hit, passing_ends}
+use Rattle.base.proofs.Loops.{passing_begins, passing_goes, passing_hit, passing_ends}
 use Rattle.calls.proofs.pass.placeless.Goals as goal
 
 pub loop-i-init : goal.loop-i-init

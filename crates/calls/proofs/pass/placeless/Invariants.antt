@@ -2,9 +2,7 @@
 use Prim.Native.Nat.{◌-◌}
 use lib.Dec.{ltb}
 use lib.ListN.{get_or}
-use borrow.Author.Rules.{rules}
-use borrow.Author.Tests.{lt-ltb, le-ltb}
-use Rattle.base.proofs.Loops.{Passing, passing_begins, passing_goes, passing_hit, passing_ends}
+use Rattle.base.proofs.Loops.{Passing}
 use Rattle.calls.proofs.pass.placeless.Given as goal
 
 abbrev pub invariant-loop-i : goal.invariant-loop-i

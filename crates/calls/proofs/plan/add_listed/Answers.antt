@@ -1,7 +1,6 @@
 -- `plan::add_listed` meets its contract. Assumes nothing.
 use Rattle.calls.proofs.notes.Told.{few_listed}
 use Rattle.calls.proofs.plan.Planned.{few_slots, plan_old, plan_new}
-use borrow.Author.Rules.{rules}
 use native.Mathlib.Omega.{arith}
 use Rattle.calls.proofs.plan.add_listed.Goals as goal
 

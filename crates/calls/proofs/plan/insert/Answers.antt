@@ -1,11 +1,9 @@
 -- `plan::insert` meets its contract: from `r` on the codes are moved up by one. Assumes nothing.
 use mathlib.Core.Path.{◌≡◌, refl}
-use Prim.Native.Nat.{◌≤◌, ◌-◌}
-use lib.ListN.{length, length-set}
-use Rattle.calls.specs.Layout.{WORDS}
-use Rattle.calls.proofs.plan.Codes.{Shifted, shift_none, shift_one, shift_end}
+use Prim.Native.Nat.{◌-◌}
+use lib.ListN.{length-set}
+use Rattle.calls.proofs.plan.Codes.{shift_none, shift_one, shift_end}
 use native.Mathlib.Omega.{arith}
-use borrow.Author.Rules.{rules}
 use Rattle.calls.proofs.plan.insert.Goals as goal
 
 pub loop-r-init : goal.loop-r-init

@@ -1,13 +1,7 @@
 -- `plan::place_of` meets its contract: codes below `low` come before the listed node, and those from `high` on do not. Assumes nothing.
-use Prim.Native.Nat.{◌-◌}
-use Rattle.ids.specs.Ids.{before}
-use Rattle.calls.specs.Setting.{asked, forest}
-use Rattle.calls.specs.Codes.{code_id}
 use Rattle.calls.proofs.notes.Told.{few_listed}
-use Rattle.calls.specs.Plan.{code_in}
-use Rattle.calls.proofs.plan.Codes.{Between, between_all, between_above, between_below, between_ends}
+use Rattle.calls.proofs.plan.Codes.{between_all, between_above, between_below, between_ends}
 use Rattle.calls.proofs.plan.Planned.{new_noted, planned_room, planned_noted}
-use borrow.Author.Rules.{rules}
 use native.Mathlib.Omega.{arith}
 use Rattle.calls.proofs.plan.place_of.Goals as goal
 

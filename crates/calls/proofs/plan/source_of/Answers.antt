@@ -1,7 +1,6 @@
 -- `plan::source_of` meets its contract, by its cases. Assumes nothing.
 use Rattle.calls.proofs.notes.Told.{few_listed, few_after}
 use Rattle.calls.proofs.plan.Sources.{source_high, source_first, turn_few, source_differs, source_same}
-use borrow.Author.Rules.{rules}
 use native.Mathlib.Omega.{arith}
 use Rattle.calls.proofs.plan.source_of.Goals as goal
 

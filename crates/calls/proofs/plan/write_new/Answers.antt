@@ -1,9 +1,5 @@
 -- `plan::write_new` meets its contract: the first `j` listed nodes are passed. Assumes nothing.
 use mathlib.Core.Path.{refl}
-use Prim.Native.Nat.{◌-◌, ◌≤◌}
-use Rattle.state_array.specs.View.{slots_of}
-use Rattle.calls.specs.Plan.{Planned}
-use borrow.Author.Rules.{rules}
 use native.Mathlib.Omega.{arith}
 use Rattle.calls.proofs.plan.Planned.{plan_end}
 use Rattle.calls.proofs.plan.write_new.Goals as goal

@@ -1,6 +1,6 @@
 -- `reading::find_each` meets its contract. Assumes nothing.
 use mathlib.Core.Path.{ap, ◌∙◌}
-use Prim.Native.Nat.{◌+◌, ◌-◌}
+use Prim.Native.Nat.{◌+◌}
 use lib.ListN.{get_or}
 use Rattle.base.proofs.Regions.{fill_kept}
 use Rattle.calls.specs.Setting.{forest}
@@ -9,7 +9,7 @@ use Rattle.calls.specs.Reading.{slot_word}
 use native.Mathlib.Omega.{arith}
 use borrow.Author.Rules.{rules}
 use Rattle.state_lookup.proofs.Order.{slot_of_place}
-use Rattle.base.proofs.Loops.{Filling, filling_begins, filling_goes, filling_ends}
+use Rattle.base.proofs.Loops.{filling_begins, filling_goes, filling_ends}
 use Rattle.calls.proofs.reading.find_each.Goals as goal
 
 pub loop-j-init : goal.loop-j-init

@@ -1,9 +1,7 @@
 -- `reading::mark` meets its contract. Assumes nothing.
 use mathlib.Core.Path.{◌≡◌}
-use Prim.Native.Nat.{◌-◌, ◌≤◌}
-use Rattle.calls.proofs.reading.Reading.{Marking, marking_begins, marking_past, marking_kept, marking_stored}
+use Rattle.calls.proofs.reading.Reading.{marking_begins, marking_past, marking_kept, marking_stored}
 use native.Mathlib.Omega.{arith}
-use borrow.Author.Rules.{rules}
 use Rattle.calls.proofs.reading.mark.Goals as goal
 
 pub loop-j-init : goal.loop-j-init

@@ -1,7 +1,7 @@
 -- `reading::write_claims` meets its contract. Assumes nothing.
 use mathlib.Core.Bool.{Bool, not}
 use mathlib.Core.Path.{ap, ap₂, ◌∙◌, refl}
-use Prim.Native.Nat.{◌+◌, ◌-◌}
+use Prim.Native.Nat.{◌+◌}
 use lib.ListN.{get_or}
 use Rattle.base.specs.Tests.{◌&&◌}
 use Rattle.calls.specs.Layout.{CLAIMS, LISTED_SLOTS}
@@ -11,8 +11,7 @@ use Rattle.calls.proofs.notes.Told.{few_listed, told_filled}
 use Rattle.calls.specs.Reading.{claim_of}
 use Rattle.calls.proofs.reading.Reading.{claim_is}
 use native.Mathlib.Omega.{arith}
-use borrow.Author.Rules.{rules}
-use Rattle.base.proofs.Loops.{Filling, filling_begins, filling_goes, filling_ends}
+use Rattle.base.proofs.Loops.{filling_begins, filling_goes, filling_ends}
 use Rattle.calls.proofs.reading.write_claims.Goals as goal
 
 pub loop-i-init : goal.loop-i-init

@@ -1,15 +1,10 @@
 -- `reading::write_listed` meets its contract. Assumes nothing.
 use mathlib.Core.Path.{ap, refl}
-use Prim.Native.Nat.{◌-◌}
 use Rattle.ids.specs.declared.NodeId.{NodeId}
-use Rattle.record.specs.Parse.{batch_of}
-use Rattle.record_reader.specs.Reader.{listed_at}
-use Rattle.calls.specs.Layout.{LISTED}
 use Rattle.calls.proofs.notes.Told.{few_listed, told_filled}
 use Rattle.calls.proofs.reading.Reading.{listed_is}
 use native.Mathlib.Omega.{arith}
-use borrow.Author.Rules.{rules}
-use Rattle.base.proofs.Loops.{Filling, filling_begins, filling_goes, filling_ends}
+use Rattle.base.proofs.Loops.{filling_begins, filling_goes, filling_ends}
 use Rattle.calls.proofs.reading.write_listed.Goals as goal
 
 pub loop-i-init : goal.loop-i-init

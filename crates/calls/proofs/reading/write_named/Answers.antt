@@ -1,15 +1,10 @@
 -- `reading::write_named` meets its contract. Assumes nothing.
 use mathlib.Core.Path.{ap, refl}
-use Prim.Native.Nat.{◌-◌}
-use lib.ListN.{get_or}
 use Rattle.ids.specs.declared.NodeId.{NodeId}
-use Rattle.record_reader.specs.Reader.{no_node, entries_of}
-use Rattle.calls.specs.Layout.{NAMED}
 use Rattle.calls.proofs.notes.Told.{few_named, told_filled}
 use Rattle.calls.proofs.reading.Reading.{named_is}
 use native.Mathlib.Omega.{arith}
-use borrow.Author.Rules.{rules}
-use Rattle.base.proofs.Loops.{Filling, filling_begins, filling_goes, filling_ends}
+use Rattle.base.proofs.Loops.{filling_begins, filling_goes, filling_ends}
 use Rattle.calls.proofs.reading.write_named.Goals as goal
 
 pub loop-i-init : goal.loop-i-init

@@ -3,7 +3,6 @@ use Rattle.calls.specs.Layout.{NAMINGS}
 use Rattle.calls.proofs.notes.Told.{few_named, told_fill}
 use Rattle.calls.proofs.reading.Reading.{namings_told, mark_room}
 use native.Mathlib.Omega.{arith}
-use borrow.Author.Rules.{rules}
 use Rattle.calls.proofs.reading.write_namings.Goals as goal
 
 pub mark-requires : goal.mark-requires

@@ -3,7 +3,6 @@ use Rattle.calls.specs.Layout.{TURNS}
 use Rattle.calls.proofs.notes.Told.{few_listed, told_fill}
 use Rattle.calls.proofs.reading.Reading.{turns_told, mark_room}
 use native.Mathlib.Omega.{arith}
-use borrow.Author.Rules.{rules}
 use Rattle.calls.proofs.reading.write_turns.Goals as goal
 
 pub mark-requires : goal.mark-requires

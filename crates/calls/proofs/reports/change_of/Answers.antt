@@ -1,6 +1,5 @@
 -- `reports::change_of` meets its contract: each mark is computed. Assumes nothing.
 use mathlib.Core.Bool as bool
-use borrow.Author.Rules.{rules}
 use Rattle.calls.proofs.reports.change_of.Goals as goal
 
 pub returns-then-updated-relinked : goal.returns-then-updated-relinked

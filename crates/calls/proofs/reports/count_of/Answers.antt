@@ -1,10 +1,7 @@
 -- `reports::count_of` meets its contract: the slots passed are counted. Assumes nothing.
 use mathlib.Core.Path.{◌≡◌, sym, ap, ◌∙◌}
-use Prim.Native.Nat.{◌-◌, ◌≤◌}
 use lib.ListN.{length}
-use Rattle.calls.specs.Slice.{slots_with}
 use Rattle.calls.proofs.reports.Slice.{slots_none, count_hit, count_miss}
-use borrow.Author.Rules.{rules}
 use native.Mathlib.Omega.{arith}
 use Rattle.calls.proofs.reports.count_of.Goals as goal
 use Rattle.calls.proofs.reports.count_of.Goals.{then-has_bit, else-has_bit}

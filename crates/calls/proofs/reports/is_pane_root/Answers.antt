@@ -6,7 +6,6 @@ use Rattle.ids.specs.Ids.{same_id}
 use Rattle.ids.specs.declared.FullNodeId.{FullNodeId}
 use Rattle.update.specs.Words.{is_root}
 use Rattle.update.specs.Outcome.{pane_root}
-use borrow.Author.Rules.{rules}
 use Rattle.calls.proofs.reports.is_pane_root.Goals as goal
 
 pub returns : goal.returns

@@ -2,7 +2,6 @@
 use Rattle.state_focus.specs.Focus.{found_of_lem}
 use Rattle.update.specs.Reports.{no_changes}
 use Rattle.calls.proofs.reports.Picked.{report_is, host_left}
-use borrow.Author.Rules.{rules}
 use Rattle.calls.proofs.reports.report_host.Goals as goal
 
 pub returns : goal.returns

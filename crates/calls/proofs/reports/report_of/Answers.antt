@@ -1,7 +1,6 @@
 -- `reports::report_of` meets its contract: by whether the answers are the same. Assumes nothing.
 use mathlib.Core.Path.{refl, sym, ◌∙◌}
 use Rattle.state_focus.specs.Focus.{found_of_lem}
-use borrow.Author.Rules.{rules}
 use Rattle.calls.proofs.reports.report_of.Goals as goal
 
 pub returns-then-same_found : goal.returns-then-same_found

@@ -2,7 +2,6 @@
 use Rattle.state_array.specs.View.{view}
 use Rattle.calls.specs.Slice.{changes_noted}
 use Rattle.calls.proofs.reports.Picked.{report_is}
-use borrow.Author.Rules.{rules}
 use Rattle.calls.proofs.reports.report_update.Goals as goal
 
 pub returns : goal.returns

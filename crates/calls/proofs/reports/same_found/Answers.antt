@@ -1,6 +1,5 @@
 -- `reports::same_found` meets its contract: by the two variants. Assumes nothing.
 use Rattle.state_focus.specs.Focus.{found_of_lem}
-use borrow.Author.Rules.{rules}
 use Rattle.calls.proofs.reports.same_found.Goals as goal
 
 pub returns-in_default-y : goal.returns-in_default-y

@@ -1,7 +1,6 @@
 -- `reports::unless_after` meets its contract: the marks pick the added and the updated nodes. Assumes nothing.
 use Rattle.state_focus.specs.Focus.{found_of_lem}
 use Rattle.calls.proofs.reports.Picked.{unless_marked, unless_unmarked, unless_none}
-use borrow.Author.Rules.{rules}
 use Rattle.calls.proofs.reports.unless_after.Goals as goal
 
 pub returns-in_default : goal.returns-in_default

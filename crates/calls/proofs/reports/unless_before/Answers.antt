@@ -1,7 +1,6 @@
 -- `reports::unless_before` meets its contract: the marks pick the updated and the removed nodes. Assumes nothing.
 use Rattle.state_focus.specs.Focus.{found_of_lem}
 use Rattle.calls.proofs.reports.Picked.{unless_marked, unless_unmarked, unless_none}
-use borrow.Author.Rules.{rules}
 use Rattle.calls.proofs.reports.unless_before.Goals as goal
 
 pub returns-in_default : goal.returns-in_default

@@ -1,10 +1,9 @@
 -- `reports::write_list` meets its contract: what is picked of the slots passed is written. Assumes nothing.
 use mathlib.Core.Path.{◌≡◌}
-use Prim.Native.Nat.{◌+◌, ◌-◌, ◌≤◌}
+use Prim.Native.Nat.{◌+◌, ◌≤◌}
 use lib.ListN.{length, length-set}
 use Rattle.state_array.specs.View.{slots_of}
-use Rattle.calls.proofs.reports.Slice.{ListBelow, list_empty, list_hit, list_room, list_miss}
-use borrow.Author.Rules.{rules}
+use Rattle.calls.proofs.reports.Slice.{list_empty, list_hit, list_room, list_miss}
 use native.Mathlib.Omega.{arith}
 use Rattle.calls.proofs.reports.write_list.Goals as goal
 use Rattle.calls.proofs.reports.write_list.Goals.{then-has_bit, else-has_bit}

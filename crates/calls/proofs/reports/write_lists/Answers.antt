@@ -1,13 +1,11 @@
 -- `reports::write_lists` meets its contract: the lists one after another, if there is room. Assumes nothing.
 use mathlib.Core.Path.{◌≡◌, refl}
 use Prim.Native.Nat.{ℕ, ◌+◌, ◌*◌, ◌≤◌}
-use lib.ListN.{length}
 use borrow.Author.Tests.{lt-leb, le-leb}
 use native.Mathlib.Omega.{arith}
 use Rattle.calls.specs.Layout.{FATES, CHANGED}
-use Rattle.calls.specs.Slice.{picked, changes_noted}
+use Rattle.calls.specs.Slice.{changes_noted}
 use Rattle.calls.proofs.reports.Slice.{picked_count, lists_short, lists_slice_after}
-use borrow.Author.Rules.{rules}
 use Rattle.calls.proofs.reports.write_lists.Goals as goal
 
 -- there is room for all that is picked, where there is for the counts

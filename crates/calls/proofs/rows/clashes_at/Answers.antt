@@ -1,6 +1,5 @@
 -- `rows::clashes_at` meets its contract: a node that differs has a slot, whose mark says whether it goes. Assumes nothing.
 use Rattle.calls.proofs.notes.Noted.{clash_alike, clash_differs}
-use borrow.Author.Rules.{rules}
 use native.Mathlib.Omega.{arith}
 use Rattle.calls.proofs.rows.clashes_at.Goals as goal
 

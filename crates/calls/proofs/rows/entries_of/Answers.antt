@@ -4,7 +4,6 @@ use Prim.Native.Nat.{◌+◌, ◌-◌}
 use lib.ListN.{length}
 use Rattle.record.specs.Parse.{batch_of}
 use Rattle.calls.proofs.rows.Given.{entries_none, entries_last}
-use borrow.Author.Rules.{rules}
 use native.Mathlib.Omega.{arith}
 use Rattle.calls.proofs.rows.entries_of.Goals as goal
 

@@ -2,7 +2,6 @@
 use mathlib.Core.Path.{sym, ap, ◌∙◌}
 use Rattle.base.specs.Tests.{is_some}
 use Rattle.state_lookup.specs.Lookup.{ends_of}
-use borrow.Author.Rules.{rules}
 use Rattle.calls.proofs.rows.exists.Goals as goal
 
 pub returns-in_default : goal.returns-in_default

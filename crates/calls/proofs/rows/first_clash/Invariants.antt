@@ -1,8 +1,6 @@
 -- `rows::first_clash` meets its contract: none of the nodes passed differs and goes. Assumes nothing.
 use Prim.Native.Nat.{◌-◌}
-use native.Mathlib.Omega.{arith}
-use borrow.Author.Rules.{rules}
-use Rattle.base.proofs.Scan.{Missed, scan}
+use Rattle.base.proofs.Scan.{Missed}
 use Rattle.calls.specs.Noted.{clash_noted}
 use Rattle.calls.proofs.rows.first_clash.Given as goal
 

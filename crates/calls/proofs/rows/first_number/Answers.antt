@@ -1,7 +1,6 @@
 -- `rows::first_number` meets its contract: a test for each row. Assumes nothing.
 use Rattle.base.proofs.Tests.{call_true}
 use Rattle.calls.specs.Rows.{first_number}
-use borrow.Author.Rules.{rules}
 use Rattle.base.proofs.Loops.{rows}
 use Rattle.calls.proofs.rows.first_number.Goals as goal
 

@@ -1,11 +1,6 @@
 -- `rows::first_of` meets its contract: no number passed is x. Assumes nothing.
-use Prim.Native.Nat.{◌-◌}
-use lib.Dec.{eqb}
-use lib.ListN.{get_or}
 use borrow.Author.Tests.{eq-eqb, ne_eqb}
-use borrow.Author.Rules.{rules}
-use native.Mathlib.Omega.{arith}
-use Rattle.base.proofs.Loops.{Passing, passing_begins, passing_goes, passing_hit, passing_ends}
+use Rattle.base.proofs.Loops.{passing_begins, passing_goes, passing_hit, passing_ends}
 use Rattle.calls.proofs.rows.first_of.Goals as goal
 
 pub loop-i-init : goal.loop-i-init

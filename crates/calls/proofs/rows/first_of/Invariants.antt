@@ -2,10 +2,7 @@
 use Prim.Native.Nat.{◌-◌}
 use lib.Dec.{eqb}
 use lib.ListN.{get_or}
-use borrow.Author.Tests.{eq-eqb, ne_eqb}
-use borrow.Author.Rules.{rules}
-use native.Mathlib.Omega.{arith}
-use Rattle.base.proofs.Loops.{Passing, passing_begins, passing_goes, passing_hit, passing_ends}
+use Rattle.base.proofs.Loops.{Passing}
 use Rattle.calls.proofs.rows.first_of.Given as goal
 
 abbrev pub invariant-loop-i : goal.invariant-loop-i

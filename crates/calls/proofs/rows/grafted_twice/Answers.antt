@@ -3,7 +3,6 @@ use mathlib.Core.Bool.{not}
 use mathlib.Core.Path.{sym, ap, ◌∙◌}
 use Rattle.state_array.specs.View.{view}
 use Rattle.state.proofs.Sound.{shape_parts}
-use borrow.Author.Rules.{rules}
 use Rattle.calls.proofs.rows.grafted_twice.Goals as goal
 
 pub returns-then-sound : goal.returns-then-sound

@@ -2,7 +2,6 @@
 use Rattle.base.specs.Tests.{◌&&◌}
 use Rattle.record.specs.Parse.{batch_of}
 use Rattle.calls.proofs.rows.Outcomes.{full_is}
-use borrow.Author.Rules.{rules}
 use Rattle.calls.proofs.rows.is_full.Goals as goal
 
 pub returns : goal.returns

@@ -2,7 +2,6 @@
 use Rattle.base.specs.Tests.{◌&&◌}
 use Rattle.update.specs.Words.{with_tree_data}
 use Rattle.calls.specs.Parts.{missing}
-use borrow.Author.Rules.{rules}
 use Rattle.calls.proofs.rows.is_missing.Goals as goal
 
 pub returns : goal.returns

@@ -6,7 +6,6 @@ use Rattle.record.specs.Parse.{batch_of}
 use Rattle.update.specs.Words.{with_tree_data}
 use Rattle.calls.specs.Parts.{ungrafted}
 use Rattle.calls.proofs.rows.Outcomes.{ungrafted_is}
-use borrow.Author.Rules.{rules}
 use Rattle.calls.proofs.rows.is_ungrafted.Goals as goal
 
 pub returns-then-not-has_tree_data : goal.returns-then-not-has_tree_data

@@ -1,6 +1,5 @@
 -- `rows::last_number` meets its contract: a law for each row. Assumes nothing.
 use Rattle.calls.proofs.rows.Outcomes.{last_are, last_many, last_clear}
-use borrow.Author.Rules.{rules}
 use Rattle.base.proofs.Loops.{rows}
 use Rattle.calls.proofs.rows.last_number.Goals as goal
 

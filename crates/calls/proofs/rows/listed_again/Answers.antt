@@ -1,9 +1,5 @@
 -- `rows::listed_again` meets its contract: the numbers passed are read out, and differ. Assumes nothing.
-use Prim.Native.Nat.{◌-◌}
-use Rattle.record.specs.Parse.{batch_of}
-use Rattle.calls.proofs.rows.Clashes.{Listing, listing_begins, listing_found, listing_goes, listing_ends}
-use borrow.Author.Rules.{rules}
-use native.Mathlib.Omega.{arith}
+use Rattle.calls.proofs.rows.Clashes.{listing_begins, listing_found, listing_goes, listing_ends}
 use Rattle.calls.proofs.rows.listed_again.Goals as goal
 
 pub loop-i-init : goal.loop-i-init

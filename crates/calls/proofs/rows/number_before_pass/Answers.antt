@@ -1,7 +1,6 @@
 -- `rows::number_before_pass` meets its contract: a test for each row. Assumes nothing.
 use Rattle.update.specs.Numbers.{rows_before_pass}
 use Rattle.calls.specs.Parts.{ungrafted, missing, full}
-use borrow.Author.Rules.{rules}
 use Rattle.base.proofs.Loops.{rows}
 use Rattle.calls.proofs.rows.number_before_pass.Goals as goal
 

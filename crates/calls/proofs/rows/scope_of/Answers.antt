@@ -9,7 +9,6 @@ use Rattle.record_reader.specs.declared.BatchHeader.{BatchHeader}
 use Rattle.update.specs.Words.{here, with_tree_data}
 use Rattle.calls.specs.Setting.{root_in}
 use Rattle.calls.proofs.rows.Outcomes.{number_is}
-use borrow.Author.Rules.{rules}
 use Rattle.calls.proofs.rows.scope_of.Goals as goal
 
 pub returns : goal.returns

@@ -1,7 +1,6 @@
 -- `rows::start_number` meets its contract: a test for each row. Assumes nothing.
 use Rattle.base.proofs.Tests.{call_true}
 use Rattle.calls.specs.Rows.{start_rows}
-use borrow.Author.Rules.{rules}
 use Rattle.base.proofs.Loops.{rows}
 use Rattle.calls.proofs.rows.Numbers.{start_past}
 use Rattle.calls.proofs.rows.start_number.Goals as goal

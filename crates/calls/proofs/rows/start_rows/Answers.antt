@@ -2,7 +2,6 @@
 use mathlib.Core.Path.{ap, ◌∙◌}
 use Prim.Native.Nat.{ℕ}
 use Rattle.calls.specs.Setting.{refusal}
-use borrow.Author.Rules.{rules}
 use Rattle.calls.proofs.rows.start_rows.Goals as goal
 
 pub returns : goal.returns

@@ -7,7 +7,6 @@ use Rattle.update.specs.Calls.{without_tree_data}
 use Rattle.calls.specs.Setting.{root_in}
 use Rattle.calls.proofs.rows.Given.{start_number_lem, start_root}
 use Rattle.calls.proofs.rows.Numbers.{start_begun}
-use borrow.Author.Rules.{rules}
 use Rattle.calls.proofs.rows.start_scope.Goals as goal
 
 pub returns : goal.returns

@@ -1,5 +1,4 @@
 -- `seeds::seed` meets its contract. Assumes nothing.
-use borrow.Author.Rules.{rules}
 use Rattle.calls.proofs.answers.Starts.{seed_shows}
 use Rattle.calls.proofs.seeds.seed.Goals as goal
 

@@ -3,7 +3,6 @@ use mathlib.Core.Bool.{true, false}
 use mathlib.Core.Path.{◌≡◌}
 use Rattle.state_array.specs.Stored.{tree_row}
 use Rattle.calls.specs.Trees.{own_entry}
-use borrow.Author.Rules.{rules}
 use Rattle.calls.proofs.trees.own_row.Goals as goal
 
 pub returns-then-scope : goal.returns-then-scope

@@ -2,7 +2,6 @@
 use Rattle.state_array.specs.Stored.{tree_row}
 use Rattle.calls.proofs.Outcome.Room.{trees_few}
 use Rattle.calls.proofs.trees.Entries.{other_unborn, own_row, other_gone, other_stays}
-use borrow.Author.Rules.{rules}
 use native.Mathlib.Omega.{arith}
 use Rattle.calls.proofs.trees.tree_after.Goals as goal
 

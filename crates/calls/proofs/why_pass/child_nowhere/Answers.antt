@@ -1,5 +1,4 @@
 -- `why_pass::child_nowhere` meets its contract. Assumes nothing.
-use borrow.Author.Rules.{rules}
 use native.Mathlib.Omega.{arith}
 use Rattle.calls.proofs.notes.Told.{few_named}
 use Rattle.calls.proofs.why_pass.Words.{why_nowhere}

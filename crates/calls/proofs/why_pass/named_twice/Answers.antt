@@ -1,6 +1,5 @@
 -- `why_pass::named_twice` meets its contract: the first entry that holds the child, and the second. Assumes nothing.
 use native.Mathlib.Omega.{arith}
-use borrow.Author.Rules.{rules}
 use Rattle.calls.proofs.notes.Told.{few_named}
 use Rattle.calls.proofs.why_pass.Words.{first_within, why_named}
 use Rattle.calls.proofs.why_pass.named_twice.Goals as goal

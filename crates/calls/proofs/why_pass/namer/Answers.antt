@@ -1,12 +1,7 @@
 -- `why_pass::namer` meets its contract: the entries of the nodes passed end before j. Assumes nothing.
-use Prim.Native.Nat.{◌+◌, ◌-◌}
 use native.Mathlib.Omega.{arith}
-use lib.Dec.{ltb}
-use lib.ListN.{get_or}
-use borrow.Author.Rules.{rules}
 use borrow.Author.Tests.{le-ltb}
-use Rattle.base.proofs.Loops.{Passing, passing_begins, passing_goes}
-use Rattle.calls.specs.Layout.{ENDS}
+use Rattle.base.proofs.Loops.{passing_begins, passing_goes}
 use Rattle.calls.proofs.notes.Told.{few_listed}
 use Rattle.calls.proofs.why_pass.Words.{namer_here, namer_past}
 use Rattle.calls.proofs.why_pass.namer.Goals as goal

@@ -1,6 +1,5 @@
 -- `why_pass::of_cause` meets its contract: by the variant. Assumes nothing.
 use native.Mathlib.Omega.{arith}
-use borrow.Author.Rules.{rules}
 use Rattle.reasons_why.specs.Why.{why_for}
 use Rattle.calls.specs.Causes.{cause_reason, Within}
 use Rattle.calls.proofs.notes.Told.{few_listed}

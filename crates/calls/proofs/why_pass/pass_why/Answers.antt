@@ -1,6 +1,5 @@
 -- `why_pass::pass_why` meets its contract. Assumes nothing.
 use mathlib.Core.Path.{ap, sym, ◌∙◌}
-use borrow.Author.Rules.{rules}
 use Rattle.reasons_why.specs.Why.{why_for}
 use Rattle.calls.proofs.why_pass.pass_why.Goals as goal
 

@@ -1,5 +1,4 @@
 -- `why_pass::without_place` meets its contract. Assumes nothing.
-use borrow.Author.Rules.{rules}
 use Rattle.reasons_why.specs.Why.{found, why_of}
 use Rattle.calls.proofs.why_pass.without_place.Goals as goal
 

@@ -1,5 +1,4 @@
 -- `why_rows::before_pass` meets its contract: a reason for each row. Assumes nothing.
-use borrow.Author.Rules.{rules}
 use Rattle.calls.proofs.why_rows.Rows.{before_again, before_ungrafted, before_missing, before_full, before_none}
 use Rattle.calls.proofs.why_rows.before_pass.Goals as goal
 

@@ -1,5 +1,4 @@
 -- `why_rows::listed_again` meets its contract. Assumes nothing.
-use borrow.Author.Rules.{rules}
 use Rattle.reasons_why.specs.Why.{found}
 use Rattle.calls.proofs.why_rows.Again.{again_none, again_some}
 use Rattle.calls.proofs.why_rows.listed_again.Goals as goal

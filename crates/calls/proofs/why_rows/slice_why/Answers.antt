@@ -1,5 +1,4 @@
 -- `why_rows::slice_why` meets its contract. Assumes nothing.
-use borrow.Author.Rules.{rules}
 use Rattle.reasons_why.specs.Why.{found}
 use Rattle.calls.proofs.why_rows.Rows.{slice_fits, slice_short}
 use Rattle.calls.proofs.why_rows.slice_why.Goals as goal

@@ -1,7 +1,6 @@
 -- `writing::host_flag` meets its contract. Assumes nothing.
 use borrow.Author.Tests.{eq-eqb, ne_eqb}
 use Rattle.state_array.specs.View.{view}
-use borrow.Author.Rules.{rules}
 use Rattle.calls.proofs.writing.host_flag.Goals as goal
 
 pub returns-then-host-eq0 : goal.returns-then-host-eq0

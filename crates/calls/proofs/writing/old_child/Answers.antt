@@ -1,5 +1,4 @@
 -- `writing::old_child` meets its contract: past the entries stands the node's own number. Assumes nothing.
-use borrow.Author.Rules.{rules}
 use Rattle.calls.proofs.writing.old_child.Goals as goal
 
 pub returns : goal.returns

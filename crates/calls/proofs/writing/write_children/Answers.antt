@@ -1,9 +1,9 @@
 -- `writing::write_children` meets its contract. The runs of the nodes before r are in their places. Assumes nothing.
 use mathlib.Core.List.{List}
 use Rattle.state_array.specs.Stored.{no_state}
-use Rattle.state_array.proofs.Filled.{RunsTo, runs_none, runs_more, run_room, runs_all}
+use Rattle.state_array.proofs.Filled.{runs_none, runs_more, run_room, runs_all}
 use mathlib.Core.Path.{◌≡◌}
-use Prim.Native.Nat.{◌-◌, ◌≤◌, ◌<◌, ℕ, ◌+◌}
+use Prim.Native.Nat.{◌<◌, ℕ, ◌+◌}
 use lib.ListN.{length, get_or}
 use Rattle.calls.specs.declared.notes.Scope.{Scope}
 use Rattle.calls.specs.Layout.{SOURCES}
@@ -12,7 +12,6 @@ use Rattle.calls.proofs.notes.Told.{batched}
 use Rattle.calls.specs.Written.{nodes_after, source_children}
 use Rattle.calls.proofs.writing.Plan.{count_told, node_among, nodes_room, entries_room, source_there}
 use Rattle.calls.proofs.writing.Kids.{source_children_lem}
-use borrow.Author.Rules.{rules}
 use native.Mathlib.Omega.{arith}
 use Rattle.calls.proofs.writing.write_children.Goals as goal
 

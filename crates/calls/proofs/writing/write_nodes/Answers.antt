@@ -1,18 +1,15 @@
 -- `writing::write_nodes` meets its contract. The nodes before r are in their places. Assumes nothing.
 use mathlib.Core.Path.{◌≡◌, ap, ◌∙◌}
-use Prim.Native.Nat.{◌-◌, ◌≤◌, ◌<◌}
+use Prim.Native.Nat.{◌<◌}
 use lib.ListN.{length}
-use Rattle.base.specs.Regions.{fills}
 use Rattle.base.proofs.Regions.{fills_none}
 use Rattle.state_array.specs.Stored.{link_row}
 use Rattle.update_bodies.proofs.Bodies.{floats_fit_lem}
 use Rattle.update_bodies.proofs.Same.{bytes_all}
 use Rattle.calls.specs.Links.{link_word}
-use Rattle.state_array.specs.Filled.{nodes_regions}
 use Rattle.state_array.proofs.Filled.{node_more}
 use Rattle.calls.specs.Written.{nodes_after}
 use Rattle.calls.proofs.writing.Plan.{count_told, nodes_room, told_compared, code_there, code_few, id_there, link_there, body_there}
-use borrow.Author.Rules.{rules}
 use native.Mathlib.Omega.{arith}
 use Rattle.calls.proofs.writing.write_nodes.Goals as goal
 

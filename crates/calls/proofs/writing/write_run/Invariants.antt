@@ -1,13 +1,9 @@
 -- `writing::write_run` meets its contract. The children before j are in their places. Assumes nothing.
-use mathlib.Core.Path.{ap, ◌∙◌}
-use Prim.Native.Nat.{◌+◌, ◌-◌}
+use Prim.Native.Nat.{◌-◌}
 use Rattle.state_array.specs.Layout.{child_place}
 use Rattle.state_array.specs.Filled.{kid_word}
 use Rattle.calls.specs.Written.{source_children}
-use borrow.Author.Rules.{rules}
-use native.Mathlib.Omega.{arith}
-use Rattle.base.proofs.Loops.{Filling, filling_begins, filling_ends}
-use Rattle.calls.proofs.writing.Kids.{run_goes}
+use Rattle.base.proofs.Loops.{Filling}
 use Rattle.calls.proofs.writing.write_run.Given as goal
 
 abbrev pub invariant-loop-j : goal.invariant-loop-j

@@ -1,7 +1,5 @@
 -- `why_outcome::climb::climbed` meets its contract: what is lost from here is what is lost from slot i. Assumes nothing.
-use native.Mathlib.Omega.{arith}
-use borrow.Author.Rules.{rules}
-use Rattle.calls.proofs.why_outcome.Climbs.{told_fewer, Climbing, climbing_starts, climbing_ends, climbing_goes, climbing_over}
+use Rattle.calls.proofs.why_outcome.Climbs.{Climbing}
 use Rattle.calls.proofs.why_outcome.climb.climbed.Given as goal
 
 abbrev pub invariant-loop-room : goal.invariant-loop-room

@@ -1,8 +1,7 @@
 -- `why_outcome::grafts::holder_from` meets its contract: no node passed grafts the tree. Assumes nothing.
-use Prim.Native.Nat.{◌-◌}
 use borrow.Author.Rules.{rules}
 use Rattle.base.specs.Tests.{◌&&◌}
-use Rattle.calls.proofs.why_outcome.Regrafts.{Seeking, seeking_starts, seeking_hits, seeking_goes, seeking_ends}
+use Rattle.calls.proofs.why_outcome.Regrafts.{seeking_starts, seeking_hits, seeking_goes, seeking_ends}
 use Rattle.calls.proofs.why_outcome.grafts.holder_from.Goals as goal
 
 pub loop-j-init : goal.loop-j-init
