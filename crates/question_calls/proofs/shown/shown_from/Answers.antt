@@ -33,22 +33,20 @@ loop-filter-init c = (c.slots-n.ensures, refl)
 pub returns-then-n-i : goal.returns-then-n-i
 returns-then-n-i c =
     let l = c.loop-filter in
-    let past = rw l.invariant.0 at c.if-n-i.true in
-    (sym l.invariant.1 ∙ listed_end _ _ _ l.here past, λ there. absurd (omega arith))
+    let past = rw l.invariant.0 at c.if-n-i.true in record { lists = sym l.invariant.1 ∙ listed_end _ _ _ l.here past; included = λ there. absurd (omega arith) }
 
 pub returns-then-is_include : goal.returns-then-is_include
 returns-then-is_include c =
     let l = c.loop-filter in
-    let sound = c.requires.0 in
+    let sound = c.requires.sound in
     let there = rw l.invariant.0 at c.if-n-i.false in
     let says = c.filter_knowing-result.ensures sound there in
-    let included = sym c.is_include.ensures ∙ c.if-is_include.true in
-    (sym l.invariant.1 ∙ listed_here _ _ _ l.here sound there _ says included, λ _. sym says ∙ include_is _ included)
+    let included = sym c.is_include.ensures ∙ c.if-is_include.true in record { lists = sym l.invariant.1 ∙ listed_here _ _ _ l.here sound there _ says included; included = λ _. sym says ∙ include_is _ included }
 
 pub loop-filter-smaller : goal.loop-filter-smaller
 loop-filter-smaller c =
     let l = c.loop-filter in
-    let sound = c.requires.0 in
+    let sound = c.requires.sound in
     let there = rw l.invariant.0 at c.if-n-i.false in
     listed_less (filter_of _ _) _ _ l.here sound there _ (c.filter_knowing-result.ensures sound there) _ (on c)
     (sym c.is_include.ensures ∙ c.if-is_include.false)
@@ -56,7 +54,7 @@ loop-filter-smaller c =
 pub loop-filter-preserved : goal.loop-filter-preserved
 loop-filter-preserved c =
     let l = c.loop-filter in
-    let sound = c.requires.0 in
+    let sound = c.requires.sound in
     let there = rw l.invariant.0 at c.if-n-i.false in (
       l.invariant.0,
       listed_on _ _ _ l.here sound there _ (c.filter_knowing-result.ensures sound there) _ (on c)
