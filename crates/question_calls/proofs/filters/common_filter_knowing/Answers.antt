@@ -21,4 +21,4 @@ common_filter_told-requires c =
     }
 
 pub returns : goal.returns
-returns = (λ c sound there. c.common-filter-told.ensures)
+returns c = λ sound there. c.common_filter_told.ensures

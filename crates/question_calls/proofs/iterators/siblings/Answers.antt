@@ -30,7 +30,7 @@ returns-then-out-n c =
 pub put_siblings-requires : goal.put_siblings-requires
 put_siblings-requires c =
     let at = c.asked-asked.ensures.stands c.if-number-ne0.false in
-    (at.is_sound, (at.within, omega (arith, c.siblings_run-run.ensures.count_is, c.if-out-n.false)))
+    record { sound = at.is_sound; i_bound = at.within; i_in_bounds = omega (arith, c.siblings_run-run.ensures.count_is, c.if-out-n.false) }
 
 pub returns : goal.returns
 returns c =

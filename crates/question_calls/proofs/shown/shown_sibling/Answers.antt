@@ -21,7 +21,7 @@ pub returns-then-n-parent : goal.returns-then-n-parent
 returns-then-n-parent c =
     let n = c.slots-n.ensures in
     let near = c.nearest-near.ensures in record { of_slot = λ sound there.
-          siblings_orphan _ _ sound (filter_of _ _) _ _ (c.climb-up.ensures sound there) _ near.0 _ (rw n at c.if-n-parent.true) (omega (arith, n)); knows = near.1 }
+          siblings_orphan _ _ sound (filter_of _ _) _ _ (c.climb-up.ensures sound there) _ near.included_value _ (rw n at c.if-n-parent.true) (omega (arith, n)); knows = near.knows }
 
 pub filtered_child-first-requires : goal.filtered_child-first-requires
 filtered_child-first-requires c =
@@ -32,13 +32,13 @@ returns-then-n-first c =
     let n = c.slots-n.ensures in
     let near = c.nearest-near.ensures in
     let up = rw n at c.if-n-parent.false in record { of_slot = λ sound there.
-          siblings_childless _ _ sound (filter_of _ _) _ _ (c.climb-up.ensures sound there) _ near.0 _ up _ (c.filtered_child-first.ensures.of_slot sound up)
-          (rw n at c.if-n-first.true) (omega (arith, n)); knows = near.1 }
+          siblings_childless _ _ sound (filter_of _ _) _ _ (c.climb-up.ensures sound there) _ near.included_value _ up _ (c.filtered_child-first.ensures.of_slot sound up)
+          (rw n at c.if-n-first.true) (omega (arith, n)); knows = near.knows }
 
 pub returns : goal.returns
 returns c =
     let n = c.slots-n.ensures in
     let near = c.nearest-near.ensures in
     let up = rw n at c.if-n-parent.false in record { of_slot = λ sound there.
-          siblings_listed _ _ sound (filter_of _ _) _ _ (c.climb-up.ensures sound there) _ near.0 _ up _ (c.filtered_child-first.ensures.of_slot sound up)
-          (rw n at c.if-n-first.false) (ap (flat_map _) (sym (c.after-next.ensures sound there)) ∙ c.shown_from-place.ensures.lists); knows = near.1 }
+          siblings_listed _ _ sound (filter_of _ _) _ _ (c.climb-up.ensures sound there) _ near.included_value _ up _ (c.filtered_child-first.ensures.of_slot sound up)
+          (rw n at c.if-n-first.false) (ap (flat_map _) (sym (c.after-next.ensures sound there)) ∙ c.shown_from-place.ensures.lists); knows = near.knows }

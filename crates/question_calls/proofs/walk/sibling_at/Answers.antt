@@ -12,7 +12,7 @@ plain_at-requires c = record { sound = c.requires.sound; i_bound = c.requires.i_
 pub returns-then-filter-eq0 : goal.returns-then-filter-eq0
 returns-then-filter-eq0 c =
     let pre = c.requires in
-    finds_plain _ _ _ _ _ _ _ c.side_of-on.ensures c.if-filter-eq0.true (c.plain_at.ensures pre.0 pre.1.0)
+    finds_plain _ _ _ _ _ _ _ c.side_of-on.ensures c.if-filter-eq0.true (c.plain_at.ensures pre.sound pre.i_bound)
 
 pub filter_of-requires : goal.filter_of-requires
 filter_of-requires c = (omega arith, c.requires.ours.a_filter)
@@ -23,4 +23,4 @@ shown_at-requires c = c.requires.sound
 pub returns : goal.returns
 returns c =
     let pre = c.requires in
-    finds_filtered _ _ _ _ _ _ _ c.side_of-on.ensures _ c.filter_of.ensures (c.shown_at.ensures pre.0 pre.1.0)
+    finds_filtered _ _ _ _ _ _ _ c.side_of-on.ensures _ c.filter_of.ensures (c.shown_at.ensures pre.sound pre.i_bound)
