@@ -100,8 +100,8 @@ module _ (k : ℕ) (rs : List Row) where
   pub row_holds : (t : Bool) {r : Bool} → r ≡ t → r ≡ true → k ≡ first (row k t ∷ rs)
   row_holds t c e = sym (first_holds k t rs (sym c ∙ e))
 
-  pub row_fails : (t : Bool) {r : Bool} → r ≡ t → not r ≡ true → k ≡ first (row k (not t) ∷ rs)
-  row_fails t c e = sym (first_holds k (not t) rs (ap not (sym c) ∙ e))
+  pub row_fails : (t : Bool) {r : Bool} → r ≡ t → r ≡ false → k ≡ first (row k (not t) ∷ rs)
+  row_fails t c e = sym (first_holds k (not t) rs (ap not (sym c ∙ e)))
 
   -- a number found elsewhere
   pub found_here : {r : ℕ} → r ≡ k → (r ≡ 0 → ⊥) → r ≡ first (found k ∷ rs)
@@ -112,8 +112,8 @@ module _ (k : ℕ) (rs : List Row) where
     pub row_passes : (t : Bool) {r : Bool} → r ≡ t → r ≡ false → j ≡ first (row k t ∷ rs)
     row_passes t c e = later ∙ sym (first_passes k t rs (sym c ∙ e))
 
-    pub row_passes_not : (t : Bool) {r : Bool} → r ≡ t → not r ≡ false → j ≡ first (row k (not t) ∷ rs)
-    row_passes_not t c e = later ∙ sym (first_passes k (not t) rs (ap not (sym c) ∙ e))
+    pub row_passes_not : (t : Bool) {r : Bool} → r ≡ t → r ≡ true → j ≡ first (row k (not t) ∷ rs)
+    row_passes_not t c e = later ∙ sym (first_passes k (not t) rs (ap not (sym c ∙ e)))
 
     pub found_nothing : {r : ℕ} → r ≡ k → r ≡ 0 → j ≡ first (found k ∷ rs)
     found_nothing c e = later ∙ sym (found_passes k rs (sym c ∙ e))

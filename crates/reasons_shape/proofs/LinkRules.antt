@@ -151,7 +151,7 @@ module _ {s : List ℕ} {x y : FullNodeId} {left : ℕ} (g : Climbing s x left y
     module _ {u : FullNodeId} (q : p ≡ node.At u) {r : Bool}
         (test : r ≡ present (view s).forest.nodes u && is_nil (met_links (view s).forest (reached_in s) u)) where
       -- one whose parent is met or absent
-      pub climbing_held : not r ≡ true
+      pub climbing_held : r ≡ false
           → ClimbSays (topmost_within (slots_of s) (view s).forest (reached_in s) x) (record { node = node.At y; by = node.At u })
       unfolding topmost_within found dropped_node dropped_by found_of_lem
       climbing_held h =
@@ -159,7 +159,7 @@ module _ {s : List ℕ} {x y : FullNodeId} {left : ℕ} (g : Climbing s x left y
           rw (← rw (z, sym above ∙ ap found_of_lem q, topmost_within, call_false test h) at g.rest) (record { node = refl; by = refl })
 
       -- one whose parent is neither
-      pub climbing_on : not r ≡ false → Climbing s x (left - 1) u
+      pub climbing_on : r ≡ true → Climbing s x (left - 1) u
       unfolding topmost_within found_of_lem
       climbing_on h =
           let z : left ≡ suc (left - 1) = omega arith in
@@ -220,11 +220,11 @@ module _ {s : List ℕ} {i n : ℕ} (g : Agreeing s i) (slots : n ≡ slots_of s
     unfolding disagrees node_in
     disagrees_is = rw (met_is, test, is)
 
-    pub agreeing_more : not r ≡ false → Agreeing s (i + 1)
+    pub agreeing_more : r ≡ true → Agreeing s (i + 1)
     unfolding wrong_link_from
     agreeing_more h = record { rest = rest_more g.rest (nodes_at s i (rw slots at l)) (rw (disagrees_is ∙ h)) }
 
-    pub agreeing_fails : {k : ℕ} {w : Why} → not r ≡ true → {y by also : FoundNode} → y ≡ node.At (id_in s i) → found_of_lem by ≡ parent_of (link_of own)
+    pub agreeing_fails : {k : ℕ} {w : Why} → r ≡ false → {y by also : FoundNode} → y ≡ node.At (id_in s i) → found_of_lem by ≡ parent_of (link_of own)
         → found_of_lem also ≡ parent_of (link_of met.first) → w ≡ node_why k 7 i y by also
         → w ≡ why_broken k (wrong_link_from 0 (view s).forest (reached_in s) (view s).forest.nodes)
     unfolding why_broken wrong_link_from node_in found

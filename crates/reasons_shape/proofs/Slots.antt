@@ -160,11 +160,11 @@ module _ {s : List ℕ} (i : ℕ) {j n : ℕ} {x : FullNodeId} (g : Ahead s x (i
   ahead_end h = rw (← own) (rw (nodes_past s j (rw slots at h)) at g.same)
 
   module _ (l : j < n) {y : FullNodeId} (is : y ≡ id_in s j) {r : Bool} (test : r ≡ before x y) where
-    pub ahead_fails : not r ≡ true → false ≡ all (λ m. before (id_in s i) m.id) (drop (i + 1) (view s).forest.nodes)
+    pub ahead_fails : r ≡ false → false ≡ all (λ m. before (id_in s i) m.id) (drop (i + 1) (view s).forest.nodes)
     unfolding node_in ◌&&◌
     ahead_fails h = rw (← own) (rw (nodes_at s j (rw slots at l), rw is at (call_false test h)) at g.same)
 
-    pub ahead_more : not r ≡ false → Ahead s x (i + 1) (j + 1)
+    pub ahead_more : r ≡ true → Ahead s x (i + 1) (j + 1)
     unfolding node_in ◌&&◌
     ahead_more h = record { same = rw (nodes_at s j (rw slots at l), rw is at (call_true test h)) at g.same }
 
@@ -181,11 +181,11 @@ module _ {s : List ℕ} {i n : ℕ} (g : Ascending s i) (slots : n ≡ slots_of 
   ascending_end {k} h e = e ∙ ap (why_broken k) (rw (nodes_past s i (rw slots at h)) at g.rest.same)
 
   module _ (l : i < n) {r : Bool} (test : r ≡ all (λ m. before (id_in s i) m.id) (drop (i + 1) (view s).forest.nodes)) where
-    pub ascending_more : not r ≡ false → Ascending s (i + 1)
+    pub ascending_more : r ≡ true → Ascending s (i + 1)
     unfolding disorder_from node_in
     ascending_more h = record { rest = rest_more g.rest (nodes_at s i (rw slots at l)) (rw (call_true test h)) }
 
-    pub ascending_fails : {k : ℕ} {w : Why} → not r ≡ true → {y : FoundNode} → y ≡ node.At (id_in s i) → w ≡ node_why k 13 i y node.Nothing node.Nothing
+    pub ascending_fails : {k : ℕ} {w : Why} → r ≡ false → {y : FoundNode} → y ≡ node.At (id_in s i) → w ≡ node_why k 13 i y node.Nothing node.Nothing
         → w ≡ why_broken k (disorder_from 0 (view s).forest.nodes)
     unfolding why_broken disorder_from node_in found
     ascending_fails {k} h is e = e ∙ rw is (ap (why_broken k) (rw (nodes_at s i (rw slots at l), call_false test h) at g.rest.same))

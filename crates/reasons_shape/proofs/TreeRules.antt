@@ -95,16 +95,16 @@ module _ {s : List ℕ} {i n : ℕ} (g : Regrafting s i) (slots : n ≡ slots_of
 
   module _ (l : i < n) {d : ShapeRow} (is : d ≡ shape_in s i) {b : Bool} (flag : b ≡ bit 8 d.flags) where
     -- no graft
-    pub regrafting_plain : not b ≡ true → Regrafting s (i + 1)
+    pub regrafting_plain : b ≡ false → Regrafting s (i + 1)
     unfolding graft_twice_from
     regrafting_plain h =
         let plain : graft? (node_in s i).body ≡ none = graft_at_lem s i ∙ graft_none s i (rw is at (call_false flag h)) in
         record { rest = rest_more g.rest (nodes_at s i (rw slots at l)) (rw (plain, graft_twice_from)) }
 
-    grafts : not b ≡ false → graft? (node_in s i).body ≡ some d.graft
+    grafts : b ≡ true → graft? (node_in s i).body ≡ some d.graft
     grafts h = graft_at_lem s i ∙ graft_some s i (rw is at (call_true flag h)) ∙ rw is
 
-    module _ (h : not b ≡ false) (o : FoundNode) (later : found_of_lem o ≡ holder (drop (i + 1) (view s).forest.nodes) d.graft) where
+    module _ (h : b ≡ true) (o : FoundNode) (later : found_of_lem o ≡ holder (drop (i + 1) (view s).forest.nodes) d.graft) where
       -- a graft alone
       pub regrafting_alone : o ≡ node.Nothing → Regrafting s (i + 1)
       unfolding graft_twice_from found_of_lem
@@ -200,11 +200,11 @@ module _ {s : List ℕ} {k m : ℕ} (g : Rooting s k) (trees : m ≡ trees_of s)
   rooting_end {number} h e = e ∙ ap (why_broken number) (rw (table_past s k (rw trees at h)) at g.rest.same)
 
   module _ (l : k < m) {r : Bool} (test : r ≡ rooted_in s k) where
-    pub rooting_more : not r ≡ false → Rooting s (k + 1)
+    pub rooting_more : r ≡ true → Rooting s (k + 1)
     unfolding unrooted_from
     rooting_more h = record { rest = rest_more g.rest (table_at s k (rw trees at l)) (rw (rooted_row s k ∙ call_true test h)) }
 
-    pub rooting_fails : (number : ℕ) {w : Why} → not r ≡ true → w ≡ tree_why s number 12 k → w ≡ why_broken number (unrooted_from (view s).forest.nodes 0 (view s).forest.trees)
+    pub rooting_fails : (number : ℕ) {w : Why} → r ≡ false → w ≡ tree_why s number 12 k → w ≡ why_broken number (unrooted_from (view s).forest.nodes 0 (view s).forest.trees)
     unfolding why_broken unrooted_from tree_why entry_in
     rooting_fails number h e =
         e ∙ ap (why_broken number) (rw (table_at s k (rw trees at l), rooted_row s k ∙ call_false test h) at g.rest.same)

@@ -1,3 +1,1 @@
-mod Thin
-mod Read
 pub mod View

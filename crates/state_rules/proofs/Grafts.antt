@@ -108,7 +108,7 @@ marking_end {s} h b l = rw (grafts_differ_lem s) (scan_end h.passed b l)
 -- one node more, with its row and whether it is a graft
 module _ {s seen : List ℕ} {n i : ℕ} (h : Marking s n seen i) (more : i < n) {d : ShapeRow} (is : d ≡ shape_in s i) {g : Bool} (test : g ≡ bit 8 d.flags) where
   -- no graft: it needs no mark
-  pub marking_none : not g ≡ true → Marking s n seen (i + 1)
+  pub marking_none : g ≡ false → Marking s n seen (i + 1)
   marking_none e =
       let plain = rw is at (call_false test e) in
       record {
@@ -118,14 +118,14 @@ module _ {s seen : List ℕ} {n i : ℕ} (h : Marking s n seen i) (more : i < n)
       }
 
   -- a graft, and whether it is new
-  module _ (grafts : not g ≡ false) {z : Bool} (new : z ≡ none_grafts s d.graft i) where
+  module _ (grafts : g ≡ true) {z : Bool} (new : z ≡ none_grafts s d.graft i) where
     fresh : new_in s i ≡ z
     fresh = new_some s i (rw is at (call_true test grafts)) ∙ rw (← is) (sym new)
 
-    pub marking_fails : n ≡ slots_of s → not z ≡ true → false ≡ grafts_differ (view s).forest.nodes
+    pub marking_fails : n ≡ slots_of s → z ≡ false → false ≡ grafts_differ (view s).forest.nodes
     marking_fails b e = rw (grafts_differ_lem s) (scan_fails h.passed b more (fresh ∙ not_true e))
 
-    pub marking_more : not z ≡ false → Marking s n (set seen (mark_of d.graft) 1) (i + 1)
+    pub marking_more : z ≡ true → Marking s n (set seen (mark_of d.graft) 1) (i + 1)
     marking_more e = record {
       passed = scan_more h.passed more (fresh ∙ not_false e);
       long = length-set seen mark 1 ∙ h.long;

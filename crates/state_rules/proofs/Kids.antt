@@ -71,19 +71,19 @@ module _ (s : List ℕ) (p j : ℕ) {d : ShapeRow} (is : d ≡ shape_in s p) {g 
   unfolding below node_in body_in graft? graft_in
   steps = refl
 
-  steps_graft : not g ≡ false → below_in s p ≡ on_graft x (subtree_of (view s).forest d.graft)
+  steps_graft : g ≡ true → below_in s p ≡ on_graft x (subtree_of (view s).forest d.graft)
   steps_graft e = steps ∙ rw (graft_some s p (rw is at (call_true test e)), step, is)
 
-  steps_children : not g ≡ true → below_in s p ≡ children_met x 0 (children_in s x.node d)
+  steps_children : g ≡ false → below_in s p ≡ children_met x 0 (children_in s x.node d)
   steps_children e = steps ∙ rw (graft_none s p (rw is at (call_false test e)), step, is)
 
   -- a graft has one place
-  pub kid_past : not g ≡ false → 0 < j → KidSays (below_in s p) j x kid.Nothing
+  pub kid_past : g ≡ true → 0 < j → KidSays (below_in s p) j x kid.Nothing
   unfolding KidSays
   kid_past e h = rw (steps_graft e) (graft_past x (subtree_of (view s).forest d.graft) j h)
 
   -- a graft whose tree does not exist, and one whose tree's root is met
-  module _ (e : not g ≡ false) {r : FoundTree} (found : ends_of r ≡ subtree_of (view s).forest d.graft) where
+  module _ (e : g ≡ true) {r : FoundTree} (found : ends_of r ≡ subtree_of (view s).forest d.graft) where
     pub kid_unborn : r ≡ tree.Nothing → KidSays (below_in s p) j x kid.Nothing
     unfolding KidSays ends_of
     kid_unborn n = rw (steps_graft e ∙ ap (on_graft x) (sym found ∙ ap ends_of n)) (drop_of_length-le [] {i = j} (omega arith))
@@ -93,12 +93,12 @@ module _ (s : List ℕ) (p j : ℕ) {d : ShapeRow} (is : d ≡ shape_in s p) {g 
     kid_root h n = let z : j ≡ 0 = omega arith in rw (z, steps_graft e ∙ ap (on_graft x) (sym found ∙ ap ends_of n))
 
   -- past the last child
-  pub kid_end : not g ≡ true → d.child_count ≤ j → KidSays (below_in s p) j x kid.Nothing
+  pub kid_end : g ≡ false → d.child_count ≤ j → KidSays (below_in s p) j x kid.Nothing
   unfolding KidSays children_in
   kid_end e h = rw (steps_children e) (children_past x 0 d.child_count (λ i. record { 0 = child s x.node.0 (d.first_child + i) }) j h)
 
   -- the child entry, or the node itself
-  pub kid_child : not g ≡ true → j < d.child_count → {own : FullNodeId} {met : NodeId} → own ≡ x
+  pub kid_child : g ≡ false → j < d.child_count → {own : FullNodeId} {met : NodeId} → own ≡ x
       → met ≡ record { 0 = child s own.node.0 (d.first_child + j) } → KidSays (below_in s p) j x (kid.At (record { tree = own.tree; node = met }))
   unfolding KidSays children_in
   kid_child e h q r =

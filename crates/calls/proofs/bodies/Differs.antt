@@ -162,12 +162,12 @@ module _ {state bytes : List ℕ} {c : Scope} {notes : List ℕ} (told : Told GO
     images = ap₂ same_body_lem old_is.is new_is.is
 
     -- where the images are not the same, it differs
-    pub other_data : {v : Bool} → v ≡ same_body_lem old new → not v ≡ true → false ≡ same_data (node_in state slot).body (listed_at (batch_of bytes) i).body
+    pub other_data : {v : Bool} → v ≡ same_body_lem old new → v ≡ false → false ≡ same_data (node_in state slot).body (listed_at (batch_of bytes) i).body
     other_data e q =
         sym (data_differs (node_in state slot).body (listed_at (batch_of bytes) i).body old_is.fits new_is.fits (sym images ∙ call_false e q))
 
     -- where they are, the children decide, as the code finds where they stand
-    pub same_data_lem : {v w : Bool} {own : FullNodeId} {d : ShapeRow} {entries : List ℕ} {from to : ℕ} → v ≡ same_body_lem old new → not v ≡ false
+    pub same_data_lem : {v w : Bool} {own : FullNodeId} {d : ShapeRow} {entries : List ℕ} {from to : ℕ} → v ≡ same_body_lem old new → v ≡ true
         → own ≡ id_in state slot → d ≡ shape_in state slot → from ≡ min d.first_child ENTRIES → to ≡ field_at 2 bytes i 32
         → entries ≡ child_entries state → w ≡ same_run entries from notes (NAMED + to) own.node.0 d.child_count
         → w ≡ same_data (node_in state slot).body (listed_at (batch_of bytes) i).body

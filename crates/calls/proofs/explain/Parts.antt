@@ -88,11 +88,11 @@ module _ (bytes : List ℕ) {o : layout.Offence} (is : o ≡ plain_offence (reco
   -- ## Rows 1, 2 and 5 to 8
 
   module _ (s : Forest) {t : Bool} (sound-is : t ≡ sound s) where
-    pub first_offence : {r : Why} → not t ≡ false → (o.rule ≡ 0 → ⊥) → r ≡ offence_why o → r ≡ why_for (first_reason (first_reasons s bytes))
+    pub first_offence : {r : Why} → t ≡ true → (o.rule ≡ 0 → ⊥) → r ≡ offence_why o → r ≡ why_for (first_reason (first_reasons s bytes))
     unfolding first_reasons
     first_offence l some? e = rw (sym sound-is ∙ not_false l) (offence_found (reasons_before_pass s (batch_of bytes)) some? e)
 
-    pub first_rest : {r : Why} → not t ≡ false → o.rule ≡ 0 → r ≡ why_for (first_reason (reasons_before_pass s (batch_of bytes))) → r ≡ why_for (first_reason (first_reasons s bytes))
+    pub first_rest : {r : Why} → t ≡ true → o.rule ≡ 0 → r ≡ why_for (first_reason (reasons_before_pass s (batch_of bytes))) → r ≡ why_for (first_reason (first_reasons s bytes))
     unfolding first_reasons
     first_rest l z e = rw (sym sound-is ∙ not_false l, offence_none z) e
 
@@ -109,16 +109,16 @@ module _ (bytes : List ℕ) {o : layout.Offence} (is : o ≡ plain_offence (reco
       some? e
 
   module _ (z : o.rule ≡ 0) {d : Bool} (rooted : d ≡ is_some (batch_of bytes).root) where
-    pub start_unrooted : {r : Why} → not d ≡ true → r ≡ of_tree 3 ROOT → r ≡ why_for (first_reason (start_reasons bytes))
+    pub start_unrooted : {r : Why} → d ≡ false → r ≡ of_tree 3 ROOT → r ≡ why_for (first_reason (start_reasons bytes))
     unfolding start_reasons why_for why_of
     start_unrooted l e = rw (offence_none z, ap not (sym rooted) ∙ l) e
 
-    module _ (l : not d ≡ false) {t : TreeId} (tree : t ≡ (batch_of bytes).tree) {q : Bool} (root : q ≡ same_tree t ROOT) where
-      pub start_pane : {r : Why} → not q ≡ true → r ≡ of_tree 4 t → r ≡ why_for (first_reason (start_reasons bytes))
+    module _ (l : d ≡ true) {t : TreeId} (tree : t ≡ (batch_of bytes).tree) {q : Bool} (root : q ≡ same_tree t ROOT) where
+      pub start_pane : {r : Why} → q ≡ false → r ≡ of_tree 4 t → r ≡ why_for (first_reason (start_reasons bytes))
       unfolding start_reasons why_for why_of
       start_pane k e = rw (offence_none z, ap not (sym rooted) ∙ l, ← tree, ap not (sym root) ∙ k) e
 
-      pub start_again : {r : Why} → not q ≡ false → AgainIs bytes (record { 0 = 0 }) r → r ≡ why_for (first_reason (start_reasons bytes))
+      pub start_again : {r : Why} → q ≡ true → AgainIs bytes (record { 0 = 0 }) r → r ≡ why_for (first_reason (start_reasons bytes))
       unfolding start_reasons without_tree_data
       start_again {r} k e =
           let is_root_lem : same_tree (batch_of bytes).tree ROOT ≡ true = rw (← tree) (sym root ∙ not_false k) in
@@ -126,7 +126,7 @@ module _ (bytes : List ℕ) {o : layout.Offence} (is : o ≡ plain_offence (reco
           let again = e.says (seed (batch_of bytes)) (without_tree_data (batch_of bytes)) refl number in
           rw (offence_none z, ap not (sym rooted) ∙ l, is_root_lem) (again ∙ ap why_for (sym (alone _)))
 
-pub first_unsound : (bytes : List ℕ) (s : Forest) {t : Bool} {r : Why} → t ≡ sound s → not t ≡ true → r ≡ why_broken 1 (broken_state s) → r ≡ why_for (first_reason (first_reasons s bytes))
+pub first_unsound : (bytes : List ℕ) (s : Forest) {t : Bool} {r : Why} → t ≡ sound s → t ≡ false → r ≡ why_broken 1 (broken_state s) → r ≡ why_for (first_reason (first_reasons s bytes))
 unfolding first_reasons why_for why_of
 first_unsound bytes s is l e = rw (sym is ∙ not_true l) e
 
@@ -254,12 +254,12 @@ module _ (s : Forest) (b : Batch) (o : Forest) {cl : Why} (clash : cl ≡ why_fo
             → ExplainsFor (first_reason (last_reasons s b o)) r way
         past_removed h = past_focus (explains_passed (removed_reason s b) (after_removed o) (proper (removed_reason s b) 18 (omega arith) (removed_number s b)) removed none-18 h)
 
-        pub outcome_unsound : not t ≡ true → r ≡ why_broken 19 (broken_shape o) → ExplainsFor (first_reason (last_reasons s b o)) r way
+        pub outcome_unsound : t ≡ false → r ≡ why_broken 19 (broken_shape o) → ExplainsFor (first_reason (last_reasons s b o)) r way
         outcome_unsound l e = past_removed (shape_explains (not_true l) e)
           where
             shape_explains : t ≡ false → r ≡ why_broken 19 (broken_shape o)
                 → ExplainsFor (first_reason (after_removed o)) r way
             shape_explains k h = unsound_explains o (sym shape ∙ k) h no_way_yet
 
-        pub outcome_many : not t ≡ false → r ≡ why_for (many o) → ExplainsFor (first_reason (last_reasons s b o)) r way
+        pub outcome_many : t ≡ true → r ≡ why_for (many o) → ExplainsFor (first_reason (last_reasons s b o)) r way
         outcome_many l e = past_removed (many_explains o (sym shape ∙ not_false l) e no_way_yet)

@@ -95,11 +95,11 @@ module _ (d : NodeData) (state : List ℕ) (i : ℕ) where
 
 module _ (b : Batch) (notes : List ℕ) (k : ℕ) (state : List ℕ) (i : ℕ) {g : Bool} (test : g ≡ is_some (graft_below state i)) where
   -- a slot that grafts nothing
-  pub claimed_none : not g ≡ true → ClaimedFromIs b notes k (graft_below state i) k
+  pub claimed_none : g ≡ false → ClaimedFromIs b notes k (graft_below state i) k
   claimed_none e = record { ungrafted = λ _. refl; of_graft = λ t q. absurd (clash (call_false test e) (ap is_some q)) }
 
   -- one that grafts a tree
-  pub claimed_some : not g ≡ false → {d : ShapeRow} → d ≡ shape_in state i → {r : ℕ} → ClaimerIs b notes k d.graft r → ClaimedFromIs b notes k (graft_below state i) r
+  pub claimed_some : g ≡ true → {d : ShapeRow} → d ≡ shape_in state i → {r : ℕ} → ClaimerIs b notes k d.graft r → ClaimedFromIs b notes k (graft_below state i) r
   claimed_some e {d} is h = record {
     ungrafted = λ q. absurd (clash (ap is_some q) (call_true test e));
     of_graft = λ t q. let same : d.graft ≡ t = cc (graft_below_given state i (call_true test e)) in rw same at h;

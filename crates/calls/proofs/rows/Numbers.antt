@@ -99,7 +99,7 @@ module _ (b : Batch) where
       (not (known s d)))
 
 -- past rows 2 and 3, as the code asks them
-pub start_past : (bytes : List ℕ) {w d r : Bool} {t : TreeId} {j : ℕ} → w ≡ well_formed bytes → not w ≡ false → d ≡ is_some (batch_of bytes).root → not d ≡ false
+pub start_past : (bytes : List ℕ) {w d r : Bool} {t : TreeId} {j : ℕ} → w ≡ well_formed bytes → w ≡ true → d ≡ is_some (batch_of bytes).root → d ≡ true
     → t ≡ (batch_of bytes).tree → r ≡ same_tree t ROOT → j ≡ first (row 4 (not r) ∷ row 5 (not (distinct same_node (listed_ids (batch_of bytes).nodes))) ∷ []) → j ≡ start_rows bytes
 unfolding start_rows first
 start_past bytes f v g q e h k = k ∙ sym (rw (call_true f v, call_true g q, h, e))

@@ -92,7 +92,7 @@ last_are o clash = ap (λ (n : ℕ). if not (grafts_differ o.nodes) then 12 else
 
 -- past row 19, as the code asks them
 module _ (state : List ℕ) {clash w z : Bool} {k n : ℕ} (twice : w ≡ not (grafts_differ (forest state).nodes)) (once : w ≡ false)
-    (focus : k ≡ focus_number (forest state)) (focused : k ≡ 0) (clear : clash ≡ false) (shape : z ≡ sound_shape (forest state)) (good : not z ≡ false)
+    (focus : k ≡ focus_number (forest state)) (focused : k ≡ 0) (clear : clash ≡ false) (shape : z ≡ sound_shape (forest state)) (good : z ≡ true)
     (count : n ≡ slots_of state) where
   past_shape : last_number (forest state) clash ≡ first (row 20 (ltb 256 n) ∷ [])
   unfolding first

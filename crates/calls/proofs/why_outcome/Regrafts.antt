@@ -135,11 +135,11 @@ module _ (s : List ℕ) where
     regrafter_is : regrafter ns i ≡ (elim (if g then some d.graft else none) as (λ _. Option FullNodeId) [ none ↦ none | some t ↦ holder (drop (i + 1) ns) t ])
     regrafter_is = regrafter_at i h ∙ rw (graft_is i is test)
 
-    pub other_none : not g ≡ true → node.Nothing ≡ found (regrafter ns i)
+    pub other_none : g ≡ false → node.Nothing ≡ found (regrafter ns i)
     unfolding found
     other_none e = let plain : g ≡ false = not_true e in sym (rw (regrafter_is, plain))
 
-    pub other_some : {r : FoundNode} → not g ≡ false → r ≡ found (holder (drop (i + 1) ns) d.graft) → r ≡ found (regrafter ns i)
+    pub other_some : {r : FoundNode} → g ≡ true → r ≡ found (holder (drop (i + 1) ns) d.graft) → r ≡ found (regrafter ns i)
     other_some e q = let grafts : g ≡ true = not_false e in q ∙ sym (rw (regrafter_is, grafts))
 
   -- ## The first tree that two nodes graft

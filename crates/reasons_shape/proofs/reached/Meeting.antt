@@ -92,11 +92,11 @@ module _ {s : List ℕ} {x : FullNodeId} {p j : ℕ} {r₀ r : Links} (g : Addin
     adding_none q = gathered_end (rw (rw q at says) at g.all)
 
     module _ {y : FullNodeId} (q : k ≡ kid.At y) {t : Bool} (test : t ≡ same_id x y) where
-      pub adding_other : not t ≡ true → Adding s x p r₀ (j + 1) r
+      pub adding_other : t ≡ false → Adding s x p r₀ (j + 1) r
       unfolding KidSays met_under
       adding_other h = let differs : same_id x y ≡ false = call_false test h in record { all = rw (rw q at says, differs) at g.all }
 
-      pub adding_more : not t ≡ false → {own : FullNodeId} → own ≡ id_in s p → {z : Links}
+      pub adding_more : t ≡ true → {own : FullNodeId} → own ≡ id_in s p → {z : Links}
           → ((ls : List (Option ParentAndIndex)) → Tells ls r → Tells (ls ++ link_of (record { parent = own; index = j; linked = 1 }) ∷ []) z)
           → Adding s x p r₀ (j + 1) z
       unfolding KidSays met_under link_of

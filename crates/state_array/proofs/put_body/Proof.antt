@@ -1,8 +1,0 @@
--- `state_array::put_body` meets its contract. Assumes nothing.
-use borrow.Author.Tests.{lt-ltb, le-ltb}
-use borrow.Author.Rules.{rules}
-use Rattle.state_array.proofs.put_body.Statement.{statement}
-use Rattle.state_array.proofs.put_body.Tie as tie
-
-pub put_body_spec : {M : Type 1} → statement M
-put_body_spec = tie.close (tie.spec (λ c κs. search rules) (λ c. search (rules, lt-ltb)) (λ c. search (rules, le-ltb)))

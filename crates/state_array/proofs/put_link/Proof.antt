@@ -1,8 +1,0 @@
--- `state_array::put_link` meets its contract: four words. Assumes nothing.
-use borrow.Author.Tests.{lt-ltb, le-ltb}
-use borrow.Author.Rules.{rules}
-use Rattle.state_array.proofs.put_link.Statement.{statement}
-use Rattle.state_array.proofs.put_link.Tie as tie
-
-pub put_link_spec : {M : Type 1} → statement M
-put_link_spec = tie.close (tie.spec (λ c. search rules) (λ c. search rules) (λ c κs. search rules) (λ c. search (rules, lt-ltb)) (λ c. search (rules, le-ltb)))
