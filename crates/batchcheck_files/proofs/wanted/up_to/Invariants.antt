@@ -2,4 +2,4 @@
 use Rattle.batchcheck_files.proofs.wanted.up_to.Given as goal
 
 abbrev pub decreases-loop-turns : goal.decreases-loop-turns
-decreases-loop-turns l = l.turns
+decreases-loop-turns o l = l.turns
