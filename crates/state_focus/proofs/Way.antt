@@ -57,13 +57,13 @@ module _ (s : List ℕ) (x : FullNodeId) (left : ℕ) {goal : Option FullNodeId}
     grafts = rw (find_there s x i found (rw slots at h), graft_at, ← is, ← test)
 
     pub way_plain : g ≡ false → some x ≡ goal
-    way_plain e = let z : g ≡ false = not_true e in ends_here (grafts ∙ rw z)
+    way_plain e = let z : g ≡ false = e in ends_here (grafts ∙ rw z)
 
     -- a graft, and its tree
     module _ (e : g ≡ true) (r : FoundTree) (ends : ends_of r ≡ subtree_of (view s).forest d.graft) where
       entered : (elim (ends_of r) as (λ _. Option FullNodeId) [ none ↦ none | some u ↦ through_grafts left f u.focus ]) ≡ goal
       unfolding through_grafts
-      entered = let z : g ≡ true = not_false e in rw (add-one left, grafts, z, through_grafts, ← ends) at inv
+      entered = let z : g ≡ true = e in rw (add-one left, grafts, z, through_grafts, ← ends) at inv
 
       -- one that does not exist, one that does without room for it, and one with room
       pub way_lost : r ≡ tree.Nothing → none ≡ goal

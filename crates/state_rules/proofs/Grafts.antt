@@ -123,11 +123,11 @@ module _ {s seen : List ℕ} {n i : ℕ} (h : Marking s n seen i) (more : i < n)
     fresh = new_some s i (rw is at (call_true test grafts)) ∙ rw (← is) (sym new)
 
     pub marking_fails : n ≡ slots_of s → z ≡ false → false ≡ grafts_differ (view s).forest.nodes
-    marking_fails b e = rw (grafts_differ_lem s) (scan_fails h.passed b more (fresh ∙ not_true e))
+    marking_fails b e = rw (grafts_differ_lem s) (scan_fails h.passed b more (fresh ∙ e))
 
     pub marking_more : z ≡ true → Marking s n (set seen (mark_of d.graft) 1) (i + 1)
     marking_more e = record {
-      passed = scan_more h.passed more (fresh ∙ not_false e);
+      passed = scan_more h.passed more (fresh ∙ e);
       long = length-set seen mark 1 ∙ h.long;
       marked = λ k l b. by_last k i l (λ q. rw (q, ← is) here)
           (λ m. by_test (eqb (mark_of (shape_in s k).graft) mark) (λ q. rw (eqb-true _ mark q) here)

@@ -57,7 +57,7 @@ module _ (s : List ℕ) where
   unfolding counted_all
   shape_ordered up = rw (← many) (by_passes f (start_in s).id (root_is s) up)
 
-  pub shape_unordered : {o : Bool} → o ≡ ascending f.nodes → not o ≡ true → false ≡ sound_shape f
+  pub shape_unordered : {o : Bool} → o ≡ ascending f.nodes → o ≡ false → false ≡ sound_shape f
   shape_unordered q e = sym (refuted (λ h. clash (call_false q e) (shape_parts f h).ordered))
 
   -- ## From the root

@@ -90,11 +90,11 @@ module _ (bytes : List ℕ) {o : layout.Offence} (is : o ≡ plain_offence (reco
   module _ (s : Forest) {t : Bool} (sound-is : t ≡ sound s) where
     pub first_offence : {r : Why} → t ≡ true → (o.rule ≡ 0 → ⊥) → r ≡ offence_why o → r ≡ why_for (first_reason (first_reasons s bytes))
     unfolding first_reasons
-    first_offence l some? e = rw (sym sound-is ∙ not_false l) (offence_found (reasons_before_pass s (batch_of bytes)) some? e)
+    first_offence l some? e = rw (sym sound-is ∙ l) (offence_found (reasons_before_pass s (batch_of bytes)) some? e)
 
     pub first_rest : {r : Why} → t ≡ true → o.rule ≡ 0 → r ≡ why_for (first_reason (reasons_before_pass s (batch_of bytes))) → r ≡ why_for (first_reason (first_reasons s bytes))
     unfolding first_reasons
-    first_rest l z e = rw (sym sound-is ∙ not_false l, offence_none z) e
+    first_rest l z e = rw (sym sound-is ∙ l, offence_none z) e
 
   -- ## Rows 2 to 5 of a start
 
@@ -121,14 +121,14 @@ module _ (bytes : List ℕ) {o : layout.Offence} (is : o ≡ plain_offence (reco
       pub start_again : {r : Why} → q ≡ true → AgainIs bytes (record { 0 = 0 }) r → r ≡ why_for (first_reason (start_reasons bytes))
       unfolding start_reasons without_tree_data
       start_again {r} k e =
-          let is_root_lem : same_tree (batch_of bytes).tree ROOT ≡ true = rw (← tree) (sym root ∙ not_false k) in
+          let is_root_lem : same_tree (batch_of bytes).tree ROOT ≡ true = rw (← tree) (sym root ∙ k) in
           let number : record { 0 = 0 } ≡ tree_number (seed (batch_of bytes)) (without_tree_data (batch_of bytes)) = seed_number (batch_of bytes) is_root_lem in
           let again = e.says (seed (batch_of bytes)) (without_tree_data (batch_of bytes)) refl number in
           rw (offence_none z, ap not (sym rooted) ∙ l, is_root_lem) (again ∙ ap why_for (sym (alone _)))
 
 pub first_unsound : (bytes : List ℕ) (s : Forest) {t : Bool} {r : Why} → t ≡ sound s → t ≡ false → r ≡ why_broken 1 (broken_state s) → r ≡ why_for (first_reason (first_reasons s bytes))
 unfolding first_reasons why_for why_of
-first_unsound bytes s is l e = rw (sym is ∙ not_true l) e
+first_unsound bytes s is l e = rw (sym is ∙ l) e
 
 -- ## Rows 15 to 20, the last ones
 
@@ -255,11 +255,11 @@ module _ (s : Forest) (b : Batch) (o : Forest) {cl : Why} (clash : cl ≡ why_fo
         past_removed h = past_focus (explains_passed (removed_reason s b) (after_removed o) (proper (removed_reason s b) 18 (omega arith) (removed_number s b)) removed none-18 h)
 
         pub outcome_unsound : t ≡ false → r ≡ why_broken 19 (broken_shape o) → ExplainsFor (first_reason (last_reasons s b o)) r way
-        outcome_unsound l e = past_removed (shape_explains (not_true l) e)
+        outcome_unsound l e = past_removed (shape_explains l e)
           where
             shape_explains : t ≡ false → r ≡ why_broken 19 (broken_shape o)
                 → ExplainsFor (first_reason (after_removed o)) r way
             shape_explains k h = unsound_explains o (sym shape ∙ k) h no_way_yet
 
         pub outcome_many : t ≡ true → r ≡ why_for (many o) → ExplainsFor (first_reason (last_reasons s b o)) r way
-        outcome_many l e = past_removed (many_explains o (sym shape ∙ not_false l) e no_way_yet)
+        outcome_many l e = past_removed (many_explains o (sym shape ∙ l) e no_way_yet)

@@ -137,10 +137,10 @@ module _ (s : List ℕ) where
 
     pub other_none : g ≡ false → node.Nothing ≡ found (regrafter ns i)
     unfolding found
-    other_none e = let plain : g ≡ false = not_true e in sym (rw (regrafter_is, plain))
+    other_none e = let plain : g ≡ false = e in sym (rw (regrafter_is, plain))
 
     pub other_some : {r : FoundNode} → g ≡ true → r ≡ found (holder (drop (i + 1) ns) d.graft) → r ≡ found (regrafter ns i)
-    other_some e q = let grafts : g ≡ true = not_false e in q ∙ sym (rw (regrafter_is, grafts))
+    other_some e q = let grafts : g ≡ true = e in q ∙ sym (rw (regrafter_is, grafts))
 
   -- ## The first tree that two nodes graft
 

@@ -1,0 +1,12 @@
+-- `state_sound::all_rooted` meets its contract: each tree passed is rooted. Assumes nothing.
+use Prim.Native.Nat.{◌-◌}
+use Rattle.base.proofs.Scan.{Passed, scan}
+use Rattle.state_rules.specs.Parts.{rooted_in, all_rooted}
+use borrow.Author.Rules.{rules}
+use Rattle.state_sound.proofs.all_rooted.Given as goal
+
+abbrev pub invariant-loop-k : goal.invariant-loop-k
+invariant-loop-k l = Passed (rooted_in l.state) l.m l.k
+
+abbrev pub decreases-loop-k : goal.decreases-loop-k
+decreases-loop-k l = l.m - l.k

@@ -1,0 +1,10 @@
+-- `state_sound::trees_are_sound` meets its contract: one part for each rule. Assumes nothing.
+use Rattle.base.specs.Tests.{◌&&◌}
+use Rattle.state_sound.specs.Parts.{sound_grafts}
+use Rattle.state_rules.proofs.Trees.{rooted_is}
+use borrow.Author.Rules.{rules}
+use Rattle.state_sound.proofs.trees_are_sound.Goals as goal
+
+pub returns : goal.returns
+unfolding sound_grafts ◌&&◌
+returns c = cc (rooted_is c.args.state.now)
