@@ -20,7 +20,7 @@ use Rattle.replies.specs.Replies.{reply_to, is_set, Answers}
 use Rattle.book.specs.Book as book
 use Rattle.book.specs.Book.{answer_to}
 use Rattle.book.specs.Demand.{state_after, book_after, Agrees}
-use Rattle.book.specs.Contracts.{Call, batch, host, meant, Allows, Chain, ids_in, added_in, removed_in, CountedInSlice, Demand3OfCode}
+use Rattle.book.specs.Promises.{Call, batch, host, meant, Allows, Chain, ids_in, added_in, removed_in, CountedInSlice, Demand3OfCode}
 use Rattle.book.proofs.Calls.{accepted_update, counted_update}
 use Rattle.book.proofs.Theorem.{demand3}
 

@@ -1,3 +1,3 @@
 pub mod Book
 pub mod Demand
-pub mod Contracts
+pub mod Promises

@@ -24,6 +24,7 @@ use Rattle.questions.specs.Links.{child_ids, ancestors_within, ancestors, hidden
 module _ {A : Type 0} where
   -- an element of a list has a place
   place_of : (xs : List A) (x d : A) → Memᴰ x xs → (i : ℕ) × (i < length xs) × (get_or xs i d ≡ x)
+  place_of [] x d x3 = elim x3 [ ]
   place_of (y ∷ xs) x d (Memᴰ.head q) = (0, omega arith, sym q)
   place_of (y ∷ xs) x d (Memᴰ.tail i) = let z = place_of xs x d i in (suc z.0, omega (arith, z.1), z.2)
 

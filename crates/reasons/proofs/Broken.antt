@@ -36,6 +36,7 @@ use Rattle.reasons.proofs.Places.{member_at, at_member, From, from_start, from_h
 -- no node passes
 pub spot_none : (k : ℕ) (p : NodeState → Bool) (ns : List NodeState) → spot_from k p ns ≡ none → (n : NodeState) → Memᴰ n ns → p n ≡ false
 unfolding spot_from
+spot_none k p [] e n x'' = elim x'' [ ]
 spot_none k p (m ∷ ns) e n (Memᴰ.head q) = ap p q ∙ (none_if (p m) _ _ e).0
 spot_none k p (m ∷ ns) e n (Memᴰ.tail i) = spot_none (suc k) p ns (none_if (p m) _ _ e).1 n i
 
@@ -105,6 +106,7 @@ module _ (s : Forest) where
   pub ids_absent : (ns : List NodeState) (n : NodeState) (x : FullNodeId) → Memᴰ n ns → Memᴰ x (ids_below s n) → present s.nodes x ≡ false
       → Memᴰ x (absent_ids s ns)
   unfolding absent_ids
+  ids_absent [] n x x5 i e = elim x5 [ ]
   ids_absent (k ∷ ns) n x (Memᴰ.head q) i e =
       Memᴰ.append_left (absent_ids s ns) (member_keep (λ x. not (present s.nodes x)) (ids_below s k) x (rw q at i) (rw e))
   ids_absent (k ∷ ns) n x (Memᴰ.tail j) i e = Memᴰ.append_right (keep (λ x. not (present s.nodes x)) (ids_below s k)) (ids_absent ns n x j i e)

@@ -81,6 +81,7 @@ module _ {ns : List NodeState} {P : FullNodeId → ParentAndIndex → Type 0} wh
   -- up to one of them
   up_to : {k j : ℕ} {x y w : FullNodeId} (u : Up ns P k x y) → At w (visited u) j → (m : ℕ) × Up ns P m x w
   unfolding visited
+  up_to {w = w} there (at_tail {i = i} a) = elim a [ ]
   up_to {x} there (at_head q) = (0, subst (λ (z : FullNodeId). Up ns P 0 x z) (sym q) there)
   up_to {x} (step l q p u) (at_head r) = (0, subst (λ (z : FullNodeId). Up ns P 0 x z) (sym r) there)
   up_to (step l q p u) (at_tail a) = let z = up_to u a in (suc z.0, step l q p z.1)
@@ -89,6 +90,8 @@ module _ {ns : List NodeState} {P : FullNodeId → ParentAndIndex → Type 0} wh
   between : {k i j : ℕ} {x y z w : FullNodeId} (u : Up ns P k x y) → At z (visited u) i → At w (visited u) j → i < j → (m : ℕ) × Up ns P (suc m) z w
   unfolding visited
   between there (at_head q) (at_head r) l = absurd (omega arith)
+  between there (at_head q) (at_tail a) l = elim a [ ]
+  between there (at_tail a) _ l = elim a [ ]
   between {w} (step n q p u) (at_head r) (at_tail a) l =
       let v = up_to u a in (v.0, subst (λ (z : FullNodeId). Up ns P (suc v.0) z w) (sym r) (step n q p v.1))
   between (step n q p u) (at_head r) (at_head t) l = absurd (omega arith)

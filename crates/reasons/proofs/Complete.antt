@@ -192,6 +192,7 @@ module _ (s : Forest) (k : Unbroken s) where
   -- and so exactly once
   met_count : (x : FullNodeId) (ms : List Met) (m : Met) → Memᴰ m ms → m.id ≡ x → 1 ≤ meets x ms
   unfolding meets
+  met_count x [] m x3 e = elim x3 [ ]
   met_count x (n ∷ ms) m (Memᴰ.head q) e =
       let same : same_id x n.id ≡ true = rw (← e, q) (same_id_refl n.id) in rw same (omega arith)
   met_count x (n ∷ ms) m (Memᴰ.tail i) e = let h = met_count x ms m i e in by_test (same_id x n.id) (λ t. rw t (omega arith)) (λ t. rw t h)

@@ -91,6 +91,7 @@ links_below_lem s xs x (n ∷ ns) l i =
 pub below_links : (s : Forest) (xs : List FullNodeId) (ns : List NodeState) (n : NodeState) (m : Met) → Memᴰ n ns → has same_id xs n.id ≡ true
     → Memᴰ m (below s n) → Memᴰ m.link (links_from s xs m.id ns)
 unfolding links_from links_below
+below_links s xs [] n m x3 e i = elim x3 [ ]
 below_links s xs (k ∷ ns) n m (mathlib.Core.List.Memᴰ.head q) e i =
     let first : Memᴰ m.link (if has same_id xs k.id then links_below s m.id k else []) =
     rw (ap (λ (z : NodeState). has same_id xs z.id) (sym q) ∙ e)

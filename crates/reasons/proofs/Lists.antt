@@ -39,6 +39,7 @@ nil_of {xs = x ∷ xs} e = absurd (false≢true e)
 
 -- and what passes is kept
 pub member_keep : {A : Type 0} (p : A → Bool) (xs : List A) (x : A) → Memᴰ x xs → p x ≡ true → Memᴰ x (keep p xs)
+member_keep {A = A} p [] x x4 e = elim x4 [ ]
 member_keep p (y ∷ ys) x (Memᴰ.head q) e = rw (ap p (sym q) ∙ e) (Memᴰ.head q)
 member_keep p (y ∷ ys) x (Memᴰ.tail i) e = let h = member_keep p ys x i e in by_test (p y) (λ t. rw t (Memᴰ.tail h)) (λ t. rw t h)
 
@@ -48,6 +49,7 @@ member_has xs x i = any_of (same_id x) xs x i (same_id_refl x)
 
 -- a member's number is no more than the sum
 pub sum_member : {A : Type 0} (f : A → ℕ) (xs : List A) (x : A) → Memᴰ x xs → f x ≤ sum_over f xs
+sum_member {A = A} f [] x x3 = elim x3 [ ]
 sum_member f (y ∷ ys) x (Memᴰ.head q) = omega (arith, ap f q)
 sum_member f (y ∷ ys) x (Memᴰ.tail i) = omega (arith, sum_member f ys x i)
 
@@ -85,6 +87,7 @@ module _ {A B : Type 0} (f : A → B) where
       ⊎_elim (λ q. (x, Memᴰ.head refl, sym q)) (λ j. let z = map_member xs y j in (z.0, Memᴰ.tail z.1, z.2)) (Memᴰ.cases_cons i)
 
   pub member_map : (xs : List A) (x : A) → Memᴰ x xs → Memᴰ (f x) (map f xs)
+  member_map [] x x3 = elim x3 [ ]
   member_map (y ∷ ys) x (Memᴰ.head q) = Memᴰ.head (ap f q)
   member_map (y ∷ ys) x (Memᴰ.tail i) = Memᴰ.tail (member_map ys x i)
 

@@ -60,9 +60,10 @@ module _ {A : Type 0} where
 
   -- what stands before what stands there
   at_earlier : {x : A} {xs : List A} {i : ℕ} (j : ℕ) → At x xs i → j ≤ i → (y : A) × At y xs j
+  at_earlier {xs = []} zero i l = elim i [ ]
   at_earlier {xs = y ∷ ys} zero i l = (y, at_head refl)
   at_earlier (suc j) (at_head q) l = absurd (omega arith)
-  at_earlier (suc j) (at_tail i) l = let z = at_earlier j i (omega arith) in (z.0, at_tail z.1)
+  at_earlier {x} {xs = y ∷ ys} (suc j) (at_tail i) l = let z = at_earlier {xs = ys} j i (omega arith) in (z.0, at_tail z.1)
 
   -- what stands in the first list, or in the second, stands in both
   at_left : {x : A} {xs : List A} {i : ℕ} (ys : List A) → At x xs i → At x (xs ++ ys) i
@@ -87,9 +88,10 @@ unless_found : (t : Bool) (b : Broken) (k : ℕ) → place b ≡ 0 → t ≡ fal
 unless_found true b k p e = absurd (false≢true (sym e))
 unless_found false b k p e = (b, refl, omega arith)
 
-spot_lowest : (k : ℕ) (p : NodeState → Bool) {ns : List NodeState} {n : NodeState} {i : ℕ} → At n ns i → p n ≡ true
+spot_lowest : {n : NodeState} (k : ℕ) (p : NodeState → Bool) {ns : List NodeState} {i : ℕ} → At n ns i → p n ≡ true
     → (x : Spot) × (spot_from k p ns ≡ some x) × (x.slot ≤ k + i)
 unfolding spot_from
+spot_lowest {n = n} k p {ns = []} x6 e = elim x6 [ ]
 spot_lowest k p {ns = m ∷ ns} (at_head q) e = let t : p m ≡ true = ap p (sym q) ∙ e in (record { slot = k; id = m.id }, rw t, omega arith)
 spot_lowest k p {ns = m ∷ ns} (at_tail i) e =
     by_test (p m) (λ t. (record { slot = k; id = m.id }, rw t, omega arith))
@@ -100,31 +102,33 @@ spot_finds : (p : NodeState → Bool) (f : Spot → Broken) {ns : List NodeState
     → Finds (at f (spot p ns)) i
 spot_finds p f where-is i e = let z = spot_lowest 0 p i e in (f z.0, rw z.1, omega (arith, where-is z.0, z.2))
 
-unrooted_finds : (k : ℕ) (ns : List NodeState) {es : List TreeEntry} {e : TreeEntry} {i : ℕ} → At e es i → grafted ns (k + i) e ≡ false
+unrooted_finds : {e : TreeEntry} (k : ℕ) (ns : List NodeState) {es : List TreeEntry} {i : ℕ} → At e es i → grafted ns (k + i) e ≡ false
     → Finds (unrooted_from ns k es) (k + i)
 unfolding unrooted_from place
-unrooted_finds k ns {es = d ∷ es} {e} (at_head q) f =
+unrooted_finds {e = e} k ns {es = []} {i = y} x6 f = elim x6 [ ]
+unrooted_finds {e} k ns {es = d ∷ es} (at_head q) f =
     let t : grafted ns k d ≡ false = ap (grafted ns k) (sym q) ∙ (rw add-zero at f) in (tree_unrooted k d.id, rw t, omega arith)
-unrooted_finds k ns {es = d ∷ es} {e} {i = suc i} (at_tail a) f =
+unrooted_finds {e} k ns {es = d ∷ es} {i = suc i} (at_tail a) f =
     let q : k + suc i ≡ suc k + i = omega arith in
     by_test (grafted ns k d) (λ t. let z = unrooted_finds (suc k) ns a (rw q at f) in (z.0, rw t z.1, omega (arith, z.2)))
     (λ t. (tree_unrooted k d.id, rw t, omega arith))
 
 -- an entry whose id has an earlier number
-twice_has : (k : ℕ) (ids : List TreeId) {es : List TreeEntry} {e : TreeEntry} {i : ℕ} → At e es i → has same_tree ids e.id ≡ true
+twice_has : {e : TreeEntry} (k : ℕ) (ids : List TreeId) {es : List TreeEntry} {i : ℕ} → At e es i → has same_tree ids e.id ≡ true
     → Finds (tree_twice_from k ids es) (k + i)
 unfolding tree_twice_from place
+twice_has {e = e} k ids {es = []} x6 h = elim x6 [ ]
 twice_has k ids {es = d ∷ es} (at_head q) h =
     let t : has same_tree ids d.id ≡ true = ap (λ (z : TreeEntry). has same_tree ids z.id) (sym q) ∙ h in (tree_twice k d.id, rw t, omega arith)
-twice_has k ids {es = d ∷ es} {e} (at_tail a) h =
+twice_has {e} k ids {es = d ∷ es} (at_tail a) h =
     by_test (has same_tree ids d.id) (λ t. (tree_twice k d.id, rw t, omega arith))
     (λ t. let z = twice_has (suc k) (d.id ∷ ids) a (or_right (same_tree e.id d.id) h) in (z.0, rw t z.1, omega (arith, z.2)))
 
-twice_finds : (k : ℕ) (ids : List TreeId) {es : List TreeEntry} {e f : TreeEntry} {i j : ℕ} → At f es j → At e es i → j < i → f.id ≡ e.id
+twice_finds : {e f : TreeEntry} (k : ℕ) (ids : List TreeId) {es : List TreeEntry} {i j : ℕ} → At f es j → At e es i → j < i → f.id ≡ e.id
     → Finds (tree_twice_from k ids es) (k + i)
 unfolding tree_twice_from place
 twice_finds k ids (at_head p) (at_head q) l s = absurd (omega arith)
-twice_finds k ids {es = d ∷ es} {e} (at_head p) (at_tail a) l s =
+twice_finds {e} k ids {es = d ∷ es} (at_head p) (at_tail a) l s =
     let same : d.id ≡ e.id = ap (λ (z : TreeEntry). z.id) (sym p) ∙ s in
     let t : same_tree e.id d.id ≡ true = rw same (same_tree_refl e.id) in
     by_test (has same_tree ids d.id) (λ u. (tree_twice k d.id, rw u, omega arith))
@@ -134,11 +138,11 @@ twice_finds k ids {es = d ∷ es} (at_tail a) (at_tail c) l s =
     by_test (has same_tree ids d.id) (λ u. (tree_twice k d.id, rw u, omega arith))
     (λ u. let z = twice_finds (suc k) (d.id ∷ ids) a c (omega arith) s in (z.0, rw u z.1, omega (arith, z.2)))
 
-disorder_finds : (k : ℕ) {ns : List NodeState} {n m : NodeState} {i j : ℕ} → At n ns i → At m ns j → i < j → before n.id m.id ≡ false
+disorder_finds : {n m : NodeState} (k : ℕ) {ns : List NodeState} {i j : ℕ} → At n ns i → At m ns j → i < j → before n.id m.id ≡ false
     → Finds (disorder_from k ns) (k + i)
 unfolding disorder_from place
 disorder_finds k (at_head p) (at_head q) l e = absurd (omega arith)
-disorder_finds k {ns = h ∷ ns} {m} (at_head p) (at_tail a) l e =
+disorder_finds {m} k {ns = h ∷ ns} (at_head p) (at_tail a) l e =
     let t : all (λ z. before h.id z.id) ns ≡ false =
     refuted (λ y. clash (ap (λ (z : NodeState). before z.id m.id) (sym p) ∙ e) (all_member (λ z. before h.id z.id) ns m y (at_member a))) in
     (out_of_order (record { slot = k; id = h.id }), rw t, omega arith)
@@ -148,12 +152,12 @@ disorder_finds k {ns = h ∷ ns} (at_tail a) (at_tail c) l e =
     (λ t. (out_of_order (record { slot = k; id = h.id }), rw t, omega arith))
 
 -- two nodes graft one tree
-regraft_lowest : (k : ℕ) {ns : List NodeState} {n m : NodeState} {i j : ℕ} (t : TreeId) → At n ns i → At m ns j → i < j → graft? n.body ≡ some t
+regraft_lowest : {n m : NodeState} (k : ℕ) {ns : List NodeState} {i j : ℕ} (t : TreeId) → At n ns i → At m ns j → i < j → graft? n.body ≡ some t
     → graft? m.body ≡ some t
     → (g : Regraft) × (graft_twice_from k ns ≡ some g) × (g.node.slot ≤ k + i)
 unfolding graft_twice_from
 regraft_lowest k t (at_head p) (at_head q) l e f = absurd (omega arith)
-regraft_lowest k {ns = h ∷ ns} {m} t (at_head p) (at_tail a) l e f =
+regraft_lowest {m} k {ns = h ∷ ns} t (at_head p) (at_tail a) l e f =
     let q : graft? h.body ≡ some t = ap (λ (z : NodeState). graft? z.body) (sym p) ∙ e in
     let held : is_some (holder ns t) ≡ true = holder_some ns t ∙ has_given same_tree same_tree_refl (λ z. graft? z.body) ns m t (at_member a) f in
     by_option (holder ns t) (λ r. absurd (false≢true (sym (ap is_some r) ∙ held)))
@@ -169,9 +173,10 @@ module _ (s : Forest) where
   abbrev wrong : ℕ → NodeState → Broken
   wrong k n = wrong_link (record { slot = k; id = n.id }) (parent_of n.parent_and_index) (parent_of (met_link s (reached s) n))
 
-  wrong_finds : (k : ℕ) {ns : List NodeState} {n : NodeState} {i : ℕ} → At n ns i → disagrees s (reached s) n ≡ true
+  wrong_finds : {n : NodeState} (k : ℕ) {ns : List NodeState} {i : ℕ} → At n ns i → disagrees s (reached s) n ≡ true
       → Finds (wrong_link_from k s (reached s) ns) (k + i)
   unfolding wrong_link_from place
+  wrong_finds {n = n} k {ns = []} x6 e = elim x6 [ ]
   wrong_finds k {ns = m ∷ ns} (at_head q) e =
       let t : disagrees s (reached s) m ≡ true = ap (disagrees s (reached s)) (sym q) ∙ e in (wrong k m, rw t, omega arith)
   wrong_finds k {ns = m ∷ ns} (at_tail a) e =
@@ -333,8 +338,9 @@ module _ (s : Forest) where
   Ranked k [] = Unit {0}
   Ranked k (o ∷ os) = IfSome (Ranks k) o × Ranked (suc k) os
 
-  ranked_at : (k : ℕ) {os : List (Option Broken)} {b : Broken} {i : ℕ} → Ranked k os → At (some b) os i → rank b ≡ k + i
-  ranked_at k {os = o ∷ os} {b} h (at_head q) = said (Ranks k) o h.0 b (sym q) ∙ sym (add-zero k)
+  ranked_at : {b : Broken} (k : ℕ) {os : List (Option Broken)} {i : ℕ} → Ranked k os → At (some b) os i → rank b ≡ k + i
+  ranked_at {b = b} k {os = []} h x6 = elim x6 [ ]
+  ranked_at {b} k {os = o ∷ os} h (at_head q) = said (Ranks k) o h.0 b (sym q) ∙ sym (add-zero k)
   ranked_at k {os = o ∷ os} h (at_tail i) = omega (arith, ranked_at (suc k) h.1 i)
 
   all_ranked : Ranked 0 state

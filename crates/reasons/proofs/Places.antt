@@ -55,9 +55,9 @@ module _ {A : Type 0} where
   from_tail {k} h = record { place = λ y j i. let q : k + suc j ≡ suc k + j = omega arith in rw q at (h.place y (suc j) (at_tail i)) }
 
 -- of two nodes in order the one in the earlier slot comes before the other
-pub ascending_places : {ns : List NodeState} {n m : NodeState} {i j : ℕ} → ascending ns ≡ true → At n ns i → At m ns j → i < j → before n.id m.id ≡ true
+pub ascending_places : {n m : NodeState} {ns : List NodeState} {i j : ℕ} → ascending ns ≡ true → At n ns i → At m ns j → i < j → before n.id m.id ≡ true
 unfolding ascending
 ascending_places e (at_head p) (at_head q) l = absurd (omega arith)
-ascending_places {ns = k ∷ ns} {m} e (at_head p) (at_tail j) l = rw p (all_member (λ z. before k.id z.id) ns m (both e).0 (at_member j))
+ascending_places {m} {ns = k ∷ ns} e (at_head p) (at_tail j) l = rw p (all_member (λ z. before k.id z.id) ns m (both e).0 (at_member j))
 ascending_places e (at_tail i) (at_head q) l = absurd (omega arith)
 ascending_places e (at_tail i) (at_tail j) l = ascending_places (both e).1 i j (omega arith)

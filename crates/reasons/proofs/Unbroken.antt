@@ -61,6 +61,7 @@ module _ (s : Forest) where
   wrong_none : (k : ℕ) (ns : List NodeState) → wrong_link_from k s (reached s) ns ≡ none → (n : NodeState) → Memᴰ n ns
       → same_option same_link n.parent_and_index (met_link s (reached s) n) ≡ true
   unfolding wrong_link_from disagrees
+  wrong_none k [] e n x'' = elim x'' [ ]
   wrong_none k (m ∷ ns) e n (Memᴰ.head q) = rw q (not_false (none_if (disagrees s (reached s) m) _ _ e).0)
   wrong_none k (m ∷ ns) e n (Memᴰ.tail i) = wrong_none (suc k) ns (none_if (disagrees s (reached s) m) _ _ e).1 n i
 

@@ -64,10 +64,10 @@ places_differ d (at_tail i) (at_head q) l x y = omega arith
 places_differ d (at_tail i) (at_tail j) l x y = places_differ (both d).1 i j (omega arith) x y
 
 -- a tree of a table whose first number is k is grafted
-grafted_at : (ns : List NodeState) (k : ℕ) {e : TreeEntry} {es : List TreeEntry} {j : ℕ} → all_grafted ns k es ≡ true → At e es j → grafted ns (k + j) e ≡ true
+grafted_at : {e : TreeEntry} (ns : List NodeState) (k : ℕ) {es : List TreeEntry} {j : ℕ} → all_grafted ns k es ≡ true → At e es j → grafted ns (k + j) e ≡ true
 unfolding all_grafted
 grafted_at ns k h (at_head p) = rw (add-zero, p) (both h).0
-grafted_at ns k {e} {j = suc j} h (at_tail i) = let q : k + suc j ≡ suc k + j = omega arith in rw q (grafted_at ns (suc k) (both h).1 i)
+grafted_at {e} ns k {j = suc j} h (at_tail i) = let q : k + suc j ≡ suc k + j = omega arith in rw q (grafted_at ns (suc k) (both h).1 i)
 
 -- ## The rules
 

@@ -83,6 +83,7 @@ module _ (s : Forest) (b : Batch) where
   claims_apart : (seen : List NodeId) (placed : List Listed) (es : List Event) → pass_reason s b seen placed es ≡ none
       → (l : Listed) → Memᴰ (places l) es → (t : TreeId) → claim s b l ≡ some t → has same_tree (given (claim s b) placed) t ≡ false
   unfolding pass_reason
+  claims_apart seen placed [] e l x3 t q = elim x3 [ ]
   claims_apart seen placed (names c ∷ es) e l (Memᴰ.head p) t q = let z : ◌≡◌ {A = ℕ} 0 1 = cc in absurd (omega arith)
   claims_apart seen placed (names c ∷ es) e l (Memᴰ.tail i) t q = claims_apart (c ∷ seen) placed es (none_if (has same_node seen c) _ _ e).1 l i t q
   claims_apart seen placed (places k ∷ es) e l (Memᴰ.head p) t q =
@@ -96,6 +97,7 @@ module _ (s : Forest) (b : Batch) where
   claims_one : (seen : List NodeId) (placed : List Listed) (es : List Event) → pass_reason s b seen placed es ≡ none → (t : TreeId)
       → (k l : Listed) → Memᴰ (places k) es → Memᴰ (places l) es → claim s b k ≡ some t → claim s b l ≡ some t → k ≡ l
   unfolding pass_reason
+  claims_one seen placed [] e t k l i j p q = elim i [ ]
   claims_one seen placed (names c ∷ es) e t k l i j p q =
       claims_one (c ∷ seen) placed es (none_if (has same_node seen c) _ _ e).1 t k l (later k i) (later l j) p q
     where

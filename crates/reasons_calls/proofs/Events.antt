@@ -4,7 +4,7 @@ use mathlib.Core.Bool.{Bool, true, false, ◌||◌, false≢true}
 use mathlib.Core.List.{List, [], ◌∷◌, ◌++◌, append-nil, append_assoc, Memᴰ}
 use mathlib.Core.Logic.{⊎_elim}
 use mathlib.Core.Option.{some, none-ne-some, some-injective}
-use mathlib.Core.Path.{◌≡◌, refl, sym, ap, ◌∙◌}
+use mathlib.Core.Path.{◌≡◌, refl, sym, ap, subst, ◌∙◌}
 use Prim.Native.Nat.{ℕ}
 use native.Mathlib.Omega.{arith}
 use lib.Seq.{append_snoc}
@@ -222,7 +222,7 @@ module _ (s : Forest) (b : Batch) where
   apart_next earlier l ls apart d n e =
       by_test (has same_node (listed_ids earlier) n) (λ t. (or_false (same_node n l.id) (apart n t)).1)
       (λ t. let f = rw (listed_snoc earlier l, any_append (same_node n) (listed_ids earlier) (l.id ∷ []), t) at e in
-      by_test (same_node n l.id) (λ q. rw (same_node→≡ n l.id q) (not_true (both d).0)) (λ q. absurd (false≢true (rw q at f))))
+      by_test (same_node n l.id) (λ q. subst (λ (m : NodeId). has same_node (listed_ids ls) m ≡ false) (sym (same_node→≡ n l.id q)) (not_true (both d).0)) (λ q. absurd (false≢true (rw q at f))))
 
   -- the turns that are left; no node is listed twice
   once_events : (earlier ls : List Listed) (seen placed : List NodeId) → Earlier earlier seen placed

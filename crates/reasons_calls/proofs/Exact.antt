@@ -1,6 +1,6 @@
 -- Number 19: a rule is found broken in an outcome where its shape is not sound, and only there. Assumes nothing.
 use mathlib.Core.Bool.{true}
-use mathlib.Core.List.{List, ◌∷◌, Memᴰ}
+use mathlib.Core.List.{List, [], ◌∷◌, Memᴰ}
 use mathlib.Core.Path.{◌≡◌, ap}
 use Prim.Native.Nat.{◌≤◌}
 use native.Mathlib.Omega.{arith}
@@ -23,6 +23,7 @@ use Rattle.reasons.proofs.Complete.{few_children, shape_exact}
 -- a listed node names no more children than all do
 children_named : (ls : List Listed) (l : Listed) → Memᴰ l ls → length l.body.children ≤ length (named_ids ls)
 unfolding named_ids
+children_named [] l x' = elim x' [ ]
 children_named (k ∷ ls) l (Memᴰ.head q) = omega (arith, length-append k.body.children (named_ids ls), ap (λ (z : Listed). length z.body.children) q)
 children_named (k ∷ ls) l (Memᴰ.tail i) = omega (arith, length-append k.body.children (named_ids ls), children_named ls l i)
 

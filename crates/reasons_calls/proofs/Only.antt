@@ -28,11 +28,11 @@ use Rattle.reasons.proofs.Only.{Stops, up_one, dropped_one}
 
 -- ## 2
 
-offence_one : {os : List (Option Offence)} {o p : Offence} → FirstOffence o os → FirstOffence p os → o ≡ p
+offence_one : {o p : Offence} {os : List (Option Offence)} → FirstOffence o os → FirstOffence p os → o ≡ p
 offence_one this this = refl
 offence_one (later h) (later k) = offence_one h k
 
-offence_kept : {os : List (Option Offence)} {o : Offence} → FirstOffence o os → Kept os → ⊥
+offence_kept : {o : Offence} {os : List (Option Offence)} → FirstOffence o os → Kept os → ⊥
 offence_kept {o} this k = none-ne-some o (sym k)
 offence_kept (later h) k = offence_kept h k
 

@@ -95,6 +95,7 @@ module _ (s : Forest) (b : Batch) where
   -- so no node that is placed claims ROOT
   fault_root : (seen : List NodeId) (claimed : List TreeId) (es : List Event) (l : Listed) → fault s b seen claimed es ≡ 0 → Memᴰ (places l) es
       → claim s b l ≡ some ROOT → ⊥
+  fault_root seen claimed [] l e x3 r = elim x3 [ ]
   fault_root seen claimed (names c ∷ es) l e (Memᴰ.head q) r = let z : ◌≡◌ {A = ℕ} 0 1 = cc in omega arith
   fault_root seen claimed (names c ∷ es) l e (Memᴰ.tail i) r = fault_root (c ∷ seen) claimed es l (names_zero seen claimed c es e) i r
   fault_root seen claimed (places k ∷ es) l e (Memᴰ.head q) r =
@@ -196,6 +197,7 @@ module _ (s : Forest) (b : Batch) where
   pub events_place : (earlier ls : List Listed) (l : Listed) → Memᴰ l ls → distinct same_node (listed_ids ls) ≡ true → listing earlier l.id ≡ none
       → (placed_at_turn s b l.id || has same_node (named_ids (earlier ++ ls)) l.id) ≡ true → Memᴰ (places l) (events s b earlier ls)
   unfolding listed_ids listing
+  events_place earlier [] l x4 d e f = elim x4 [ ]
   events_place earlier (k ∷ ls) l (Memᴰ.head q) d e f = rw q (events_turn earlier k ls (rw q at e) (rw q at f))
   events_place earlier (k ∷ ls) l (Memᴰ.tail i) d e f =
       events_later earlier k ls (places l)
