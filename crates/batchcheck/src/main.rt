@@ -127,7 +127,7 @@ fn run_text(rt: &HostRuntime, out: &mut Out, i: usize, o: Options, several: bool
         put(out, name);
         put(out, b"\n");
     }
-    if name == b"-" {
+    if name == b"-".as_slice() {
         return run_open(rt, out, &mut rt.stdin(), &[], o);
     }
     match opened(rt, out, name) {
