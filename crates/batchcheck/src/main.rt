@@ -158,13 +158,7 @@ fn tell_reason(out: &mut Out, error: ErrorKind) {
 }
 
 // An open text, with the numbers that its calls should answer if the options name a file of them.
-fn run_open<R: Read>(
-    rt: &HostRuntime,
-    out: &mut Out,
-    file: &mut R,
-    name: &[u8],
-    o: Options,
-) -> u8 {
+fn run_open<R: Read>(rt: &HostRuntime, out: &mut Out, file: &mut R, name: &[u8], o: Options) -> u8 {
     let show = Show {
         quiet: o.quiet,
         tree: o.tree,

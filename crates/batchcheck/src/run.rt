@@ -39,7 +39,14 @@ pub(crate) fn run<R: Read, N: Read>(
         input = lines::next(input, file, &mut chunk, &mut text);
         if input.ended {
             let last = script::at_end(out, call, input.number);
-            wanted = wanted::up_to(out, wanted, past(last.number), numbers, &mut list, &mut entry);
+            wanted = wanted::up_to(
+                out,
+                wanted,
+                past(last.number),
+                numbers,
+                &mut list,
+                &mut entry,
+            );
             return worse(status, finish(out, last, input, wanted, show.expect));
         }
         let line = lines::line(&text, input);

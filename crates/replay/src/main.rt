@@ -12,7 +12,7 @@ use std::io::Read;
 use std::rt::Stdout;
 
 // What has been seen of the list.
-#[derive(Drop)]
+#[derive(Clone, Copy)]
 struct Tally {
     calls: u64,
     questions: u64,
