@@ -1,5 +1,5 @@
-//! Finds the proved library `libcartgravel.a`: in the folder that `CARTGRAVEL_LIB` names or, where it names none, by
-//! `rt lib` in the folder `crates/cartgravel` of the repository that holds this crate.
+//! Finds the proved library `libcartgravel.a`: in the folder that `CARTGRAVEL_LIB` names or, where it names none,
+//! by `rt lib` in the folder `crates/cartgravel` of the repository that holds this crate.
 use std::path::{Path, PathBuf};
 use std::{env, fs, process::exit, process::Command};
 
@@ -25,13 +25,13 @@ fn given(folder: PathBuf) -> PathBuf {
     folder
 }
 
-/// Proves the library and writes the archive; what is proved already is not proved again. A copy stays beside what cargo builds, since `rt ci` removes the
-/// archive that `rt lib` writes.
+/// Proves the library and writes the archive, for any x86-64 processor; what is proved already is not proved again.
+/// A copy stays beside what cargo builds, since `rt ci` removes the archive that `rt lib` writes.
 fn built() -> PathBuf {
     let crates = Path::new(env!("CARGO_MANIFEST_DIR")).join("../../crates");
     watch(&crates);
     let library = crates.join("cartgravel");
-    match Command::new("rt").arg("lib").current_dir(&library).output() {
+    match Command::new("rt").args(["lib", "--cpu", "x86-64"]).current_dir(&library).output() {
         Ok(out) if out.status.success() => {
             let folder = PathBuf::from(env::var_os("OUT_DIR").unwrap());
             fs::copy(library.join("out").join(ARCHIVE), folder.join(ARCHIVE)).unwrap();
@@ -48,7 +48,7 @@ fn built() -> PathBuf {
     }
 }
 
-/// Has cargo run this again where a source, a definition or a proof changes, and not where `rt` writes its own files beside them.
+/// Has cargo run this again where a source, a definition or a proof changes, and not where `rt` writes its own files.
 fn watch(crates: &Path) {
     println!("cargo:rerun-if-changed={}", crates.join("../crates.txt").display());
     for folder in fs::read_dir(crates).unwrap().flatten() {
