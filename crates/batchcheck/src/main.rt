@@ -7,43 +7,59 @@ mod run;
 mod status;
 
 use batchcheck_decode::decode;
-use batchcheck_files::records;
+use batchcheck_files::{descriptors, records};
 use batchcheck_options::Options;
-use libc::STDIN_FILENO;
 use perform::Show;
 use program_text::print::{Out, put};
 use program_text::{cursor, decimal, print};
 use run::run;
 use status::{REFUSED, RIGHT, UNREAD, worse};
+use std::fs::File;
+use std::io;
+use std::io::{ErrorKind, Read, Write};
 
 // The largest number that a descriptor has.
 const MOST_DESCRIPTOR: u64 = 1023;
 
 // Reads the arguments and runs what they name.
-fn main() {
-    let mut out = print::blank();
-    let o = batchcheck_options::all();
-    let status = run_all(&mut out, o);
+fn main(rt: HostRuntime) {
+    let mut out = print::blank(rt.stdout());
+    let o = batchcheck_options::all(&rt);
+    let status = run_all(&rt, &mut out, o);
     print::flush(&mut out);
-    tell_status(o.status, status);
+    tell_status(&rt, o.status, status);
 }
 
 // Writes the status to the descriptor that an argument names, if one does.
-fn tell_status(i: usize, status: u8) {
+fn tell_status(rt: &HostRuntime, i: usize, status: u8) {
     if i < 1 {
         return;
     }
-    let mut text = io::buffer();
-    let n = os::arg(i, &mut text);
+    let mut text = [0u8; 4096];
+    let n = batchcheck_options::argument(rt, i, &mut text);
     let word = &text[..n];
     let c = decimal::whole(word, cursor::first(word), MOST_DESCRIPTOR, 1);
     if c.fault == 0 {
-        io::print_decimal((c.number % 1024) as i32, status as u64);
+        write_status(rt, c.number, status);
+    }
+}
+
+// Writes a status of one digit to a descriptor, if it is open for writing.
+fn write_status(rt: &HostRuntime, descriptor: u64, status: u8) {
+    let digit = [b'0' + status % 10];
+    match descriptor {
+        1 => {
+            let _ = rt.stdout().write_all(&digit);
+        }
+        2 => {
+            let _ = rt.stderr().write_all(&digit);
+        }
+        _ => descriptors::write(rt, descriptor, &digit),
     }
 }
 
 // Runs what the arguments name, or standard input.
-fn run_all(out: &mut Out, o: Options) -> u8 {
+fn run_all(rt: &HostRuntime, out: &mut Out, o: Options) -> u8 {
     if !o.good {
         put(
             out,
@@ -52,42 +68,42 @@ fn run_all(out: &mut Out, o: Options) -> u8 {
         return UNREAD;
     }
     if o.tasks < 1 {
-        return run_open(out, STDIN_FILENO, &[], o);
+        return run_open(rt, out, &mut rt.stdin(), &[], o);
     }
-    run_tasks(out, o)
+    run_tasks(rt, out, o)
 }
 
 // Everything that the arguments name, each text from the blank state.
-fn run_tasks(out: &mut Out, all: Options) -> u8 {
-    let count = os::arg_count();
+fn run_tasks(rt: &HostRuntime, out: &mut Out, all: Options) -> u8 {
+    let count = batchcheck_options::count(rt);
     let mut o = batchcheck_options::again(all);
     let mut status = RIGHT;
     let mut i: usize = 1;
     while i < count {
-        o = batchcheck_options::with_argument(o, i);
-        status = worse(status, run_task(out, i, o, 1 < all.tasks));
+        o = batchcheck_options::with_argument(rt, o, i);
+        status = worse(status, run_task(rt, out, i, o, 1 < all.tasks));
         i += 1;
     }
     status
 }
 
 // What an argument names, if anything.
-fn run_task(out: &mut Out, i: usize, o: Options, several: bool) -> u8 {
+fn run_task(rt: &HostRuntime, out: &mut Out, i: usize, o: Options, several: bool) -> u8 {
     let task = o.task;
     match task {
-        batchcheck_options::TEXT => run_text(out, i, o, several),
-        batchcheck_options::RECORD => run_record(out, i),
+        batchcheck_options::TEXT => run_text(rt, out, i, o, several),
+        batchcheck_options::RECORD => run_record(rt, out, i),
         _ => RIGHT,
     }
 }
 
 // The record of a file as a text.
-fn run_record(out: &mut Out, i: usize) -> u8 {
-    let mut text = io::buffer();
-    let n = os::arg(i, &mut text);
+fn run_record(rt: &HostRuntime, out: &mut Out, i: usize) -> u8 {
+    let mut text = [0u8; 4096];
+    let n = batchcheck_options::argument(rt, i, &mut text);
     let name = &text[..n];
     let mut bytes = [0u8; 12489];
-    let l = records::read(name, &mut bytes);
+    let l = records::read(rt, name, &mut bytes);
     put(out, b"# ");
     put(out, name);
     if !l.good {
@@ -102,41 +118,39 @@ fn run_record(out: &mut Out, i: usize) -> u8 {
 }
 
 // The text that an argument names.
-fn run_text(out: &mut Out, i: usize, o: Options, several: bool) -> u8 {
-    let mut text = io::buffer();
-    let n = os::arg(i, &mut text);
+fn run_text(rt: &HostRuntime, out: &mut Out, i: usize, o: Options, several: bool) -> u8 {
+    let mut text = [0u8; 4096];
+    let n = batchcheck_options::argument(rt, i, &mut text);
     let name = &text[..n];
     if several {
         put(out, b"== ");
         put(out, name);
         put(out, b"\n");
     }
-    if check::same(name, &[b'-']) {
-        return run_open(out, STDIN_FILENO, &[], o);
+    if name == b"-".as_slice() {
+        return run_open(rt, out, &mut rt.stdin(), &[], o);
     }
-    let fd = opened(out, name);
-    if fd < 0 {
-        return UNREAD;
+    match opened(rt, out, name) {
+        Some(mut file) => run_open(rt, out, &mut file, name, o),
+        None => UNREAD,
     }
-    let status = run_open(out, fd, name, o);
-    libc::close(fd);
-    status
 }
 
-// A file for reading, or a negative number and why there is none.
-fn opened(out: &mut Out, name: &[u8]) -> i32 {
-    let fd = os::open_read(name);
-    if fd < 0 {
-        let error = os::errno();
-        put(out, name);
-        tell_reason(out, error);
+// A file for reading, or nothing, and why there is none.
+fn opened(rt: &HostRuntime, out: &mut Out, name: &[u8]) -> Option<File> {
+    match records::open(rt, name) {
+        Ok(file) => Some(file),
+        Err(error) => {
+            put(out, name);
+            tell_reason(out, error.kind());
+            None
+        }
     }
-    fd
 }
 
 // Says why a file cannot be opened.
-fn tell_reason(out: &mut Out, error: i32) {
-    if error == libc::ENOENT {
+fn tell_reason(out: &mut Out, error: ErrorKind) {
+    if let ErrorKind::NotFound = error {
         put(out, b": there is no such file\n");
         return;
     }
@@ -144,7 +158,7 @@ fn tell_reason(out: &mut Out, error: i32) {
 }
 
 // An open text, with the numbers that its calls should answer if the options name a file of them.
-fn run_open(out: &mut Out, fd: i32, name: &[u8], o: Options) -> u8 {
+fn run_open<R: Read>(rt: &HostRuntime, out: &mut Out, file: &mut R, name: &[u8], o: Options) -> u8 {
     let show = Show {
         quiet: o.quiet,
         tree: o.tree,
@@ -153,15 +167,12 @@ fn run_open(out: &mut Out, fd: i32, name: &[u8], o: Options) -> u8 {
         record: o.record,
     };
     if o.expect < 1 {
-        return run(out, fd, -1, name, show);
+        return run(rt, out, file, &mut io::empty(), name, show);
     }
-    let mut text = io::buffer();
-    let n = os::arg(o.expect, &mut text);
-    let numbers = opened(out, &text[..n]);
-    if numbers < 0 {
-        return UNREAD;
+    let mut text = [0u8; 4096];
+    let n = batchcheck_options::argument(rt, o.expect, &mut text);
+    match opened(rt, out, &text[..n]) {
+        Some(mut numbers) => run(rt, out, file, &mut numbers, name, show),
+        None => UNREAD,
     }
-    let status = run(out, fd, numbers, name, show);
-    libc::close(numbers);
-    status
 }

@@ -28,6 +28,7 @@ pub(crate) struct Show {
 
 // Runs a call that is due on a state, with its record; a question is answered from its line. The status of the call.
 pub(crate) fn perform<'a>(
+    rt: &HostRuntime,
     out: &mut Out,
     state: &mut State,
     p: Call,
@@ -46,7 +47,7 @@ pub(crate) fn perform<'a>(
         return UNREAD;
     }
     let batch = records::bytes_of(bytes, p.length);
-    let kept = keep(out, show.record, p, batch);
+    let kept = keep(rt, out, show.record, p, batch);
     let seen = batchcheck_say::unanswered(p.kind, p.number, p.line, p.expected, state, batch);
     let number = if show.quiet {
         answer_line(out, seen, state, batch, host_flag(p.focused), p.room, roles)
@@ -78,6 +79,7 @@ fn show_state<'a>(out: &mut Out, state: &'a State, show: Show, roles: &'a [u8; 4
 // A call with its record put into `bytes`, which are zeros: what its draft has, or a file that its line names. `name` is the text's own. It is bad where the file
 // cannot be read.
 pub(crate) fn loaded<'a>(
+    rt: &HostRuntime,
     call: Call,
     draft: &'a Draft,
     line: &'a [u8],
@@ -90,7 +92,7 @@ pub(crate) fn loaded<'a>(
     }
     if call.raw {
         let place = call.name;
-        let l = records::read_beside(name, cursor::word(line, place), bytes);
+        let l = records::read_beside(rt, name, cursor::word(line, place), bytes);
         p.length = l.length;
         p.bad = !l.good;
         return p;
@@ -100,14 +102,14 @@ pub(crate) fn loaded<'a>(
 }
 
 // Writes the record of a start or a batch to the file that an argument names, if one does.
-fn keep(out: &mut Out, i: usize, p: Call, batch: &[u8]) -> u8 {
+fn keep(rt: &HostRuntime, out: &mut Out, i: usize, p: Call, batch: &[u8]) -> u8 {
     if (i < 1) | (p.kind == script::HOST) {
         return RIGHT;
     }
-    let mut text = io::buffer();
-    let n = os::arg(i, &mut text);
+    let mut text = [0u8; 4096];
+    let n = batchcheck_options::argument(rt, i, &mut text);
     let name = &text[..n];
-    if records::write(name, p.number, batch) {
+    if records::write(rt, name, p.number, batch) {
         return RIGHT;
     }
     put(out, name);

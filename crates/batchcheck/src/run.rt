@@ -10,16 +10,25 @@ use batchcheck_record::draft;
 use program_text::lines::Input;
 use program_text::print::{Out, put};
 use program_text::{lines, print, roles};
+use std::io::Read;
 
-// Every call of an open text, whose name is known unless it is standard input; `numbers` is the open file of the numbers that they should answer.
-pub(crate) fn run(out: &mut Out, fd: i32, numbers: i32, name: &[u8], show: Show) -> u8 {
-    let mut chunk = io::large_buffer();
+// Every call of an open text, whose name is known unless it is standard input; `numbers` is the open file of the numbers that they should answer,
+// and nothing is read from it where none is expected.
+pub(crate) fn run<R: Read, N: Read>(
+    rt: &HostRuntime,
+    out: &mut Out,
+    file: &mut R,
+    numbers: &mut N,
+    name: &[u8],
+    show: Show,
+) -> u8 {
+    let mut chunk = [0u8; 65536];
     let mut text = [0u8; 8192];
-    let mut list = io::large_buffer();
+    let mut list = [0u8; 65536];
     let mut entry = [0u8; 8192];
     let mut roles = roles::known();
-    let mut input = lines::of(fd);
-    let mut wanted = wanted::of(numbers);
+    let mut input = lines::of();
+    let mut wanted = wanted::of(show.expect);
     let mut call = script::blank();
     let mut draft = draft::blank();
     let mut state = state_array::blank();
@@ -27,20 +36,27 @@ pub(crate) fn run(out: &mut Out, fd: i32, numbers: i32, name: &[u8], show: Show)
     let mut turns = u64::MAX;
     loop {
         flush_at_read(out, input);
-        input = lines::next(input, &mut chunk, &mut text);
+        input = lines::next(input, file, &mut chunk, &mut text);
         if input.ended {
             let last = script::at_end(out, call, input.number);
-            wanted = wanted::up_to(out, wanted, past(last.number), &mut list, &mut entry);
+            wanted = wanted::up_to(
+                out,
+                wanted,
+                past(last.number),
+                numbers,
+                &mut list,
+                &mut entry,
+            );
             return worse(status, finish(out, last, input, wanted, show.expect));
         }
         let line = lines::line(&text, input);
         call = with_line(out, call, &mut draft, line, input, &mut roles);
         if call.stage == script::DUE {
-            wanted = wanted::up_to(out, wanted, call.number, &mut list, &mut entry);
+            wanted = wanted::up_to(out, wanted, call.number, numbers, &mut list, &mut entry);
             let mut bytes = [0u8; 12489];
-            let due = perform::loaded(call, &draft, line, name, &mut bytes);
+            let due = perform::loaded(rt, call, &draft, line, name, &mut bytes);
             let told = with_number(due, wanted, show.expect);
-            let answered = perform::perform(out, &mut state, told, &bytes, line, show, &roles);
+            let answered = perform::perform(rt, out, &mut state, told, &bytes, line, show, &roles);
             status = worse(status, answered);
             call = script::finished(call);
         }

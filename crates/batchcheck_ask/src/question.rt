@@ -74,7 +74,7 @@ fn which_question(line: &[u8], c: Cursor) -> u64 {
         c,
         b"read label hidden transform box \
         children filtered-children siblings filtered-siblings \
-        parent walk filtered-parent first_child_lem last-child deepest-first-child deepest-last-child \
+        parent walk filtered-parent first-child last-child deepest-first-child deepest-last-child \
         filter",
     )
 }

@@ -2,6 +2,7 @@
 // ending, no more.
 #![tactic(auto)]
 
+pub mod descriptors;
 pub mod paths;
 pub mod records;
 pub mod wanted;

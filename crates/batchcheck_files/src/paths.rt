@@ -1,5 +1,6 @@
 // Paths of files, made of parts. One that is too long is empty, so that it names no file.
 use program_text::lines::part;
+use program_text::print::decimal_digits;
 
 // How long a path may be.
 const ROOM: usize = 4096;
@@ -26,9 +27,9 @@ pub fn numbered(path: &mut [u8; 4096], name: &[u8], number: u64) -> usize {
         return length_of(with(path, none(), name, 0, name.len()));
     }
     let mut digits = [0u8; 20];
-    let k = io::decimal(number, &mut digits);
+    let first = decimal_digits(number, &mut digits);
     let p = with(path, none(), name, 0, at);
-    let q = with(path, p, &digits[..k], 0, k);
+    let q = with(path, p, &digits, first, digits.len());
     length_of(with(
         path,
         q,

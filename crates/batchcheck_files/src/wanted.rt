@@ -2,6 +2,7 @@
 use program_text::lines::Input;
 use program_text::print::{Out, put};
 use program_text::{cursor, decimal, faults, lines};
+use std::io::Read;
 
 // The largest number of document 01's table that a call answers.
 const MOST_ANSWER: u64 = 21;
@@ -18,22 +19,23 @@ pub struct Wanted {
     pub failed: bool,
 }
 
-// Before the first number of an open file.
-pub fn of(fd: i32) -> Wanted {
+// Before the first number of a file, if there is one.
+pub fn of(is_there: bool) -> Wanted {
     Wanted {
-        input: lines::of(fd),
+        input: lines::of(),
         count: 0,
         number: 0,
         faulty: false,
-        failed: fd < 0,
+        failed: !is_there,
     }
 }
 
 // With the number of call n read, if the file has so many.
-pub fn up_to(
+pub fn up_to<R: Read>(
     out: &mut Out,
     before: Wanted,
     n: u64,
+    file: &mut R,
     chunk: &mut [u8; 65536],
     text: &mut [u8; 8192],
 ) -> Wanted {
@@ -44,7 +46,7 @@ pub fn up_to(
         if is_read(w, n) {
             return w;
         }
-        w = with_line(out, w, chunk, text);
+        w = with_line(out, w, file, chunk, text);
         turns -= 1;
     }
     w
@@ -57,14 +59,15 @@ fn is_read(w: Wanted, n: u64) -> bool {
 }
 
 // With a line read.
-fn with_line(
+fn with_line<R: Read>(
     out: &mut Out,
     before: Wanted,
+    file: &mut R,
     chunk: &mut [u8; 65536],
     text: &mut [u8; 8192],
 ) -> Wanted {
     let mut w = before;
-    let i = lines::next(before.input, chunk, text);
+    let i = lines::next(before.input, file, chunk, text);
     w.input = i;
     w.failed = i.failed;
     let line = lines::line(text, i);

@@ -1,7 +1,11 @@
 // The arguments of `batchcheck`. Proved safe and ending, no more.
 #![tactic(auto)]
 
+ghost use Rattle.std.specs.Prelude.{◌≤◌};
+
 use program_text::cursor;
+use std::env::FillError;
+use std::rt::Env;
 
 // What the arguments say so far. An option holds for the files after it, and one after the last file for all.
 #[derive(Clone, Copy)]
@@ -66,13 +70,34 @@ fn none() -> Options {
     }
 }
 
+// How many arguments there are, the program's name among them.
+pub fn count(rt: &impl Env) -> usize {
+    let mut text = [0u8; 1];
+    for i in 0..usize::MAX {
+        if let Err(FillError::NotPresent) = rt.arg(i, &mut text) {
+            return i;
+        }
+    }
+    usize::MAX
+}
+
+// Puts an argument at the start of a text; how long it is, 0 where there is none or it is longer than the text.
+pub fn argument(rt: &impl Env, i: usize, text: &mut [u8; 4096]) -> usize
+    ensures { result ≤ 4096 }
+{
+    match rt.arg(i, text) {
+        Ok(n) => n,
+        Err(_) => 0,
+    }
+}
+
 // What all arguments say: how many are run, and the options that hold from the first on.
-pub fn all() -> Options {
-    let count = os::arg_count();
+pub fn all(rt: &impl Env) -> Options {
+    let count = count(rt);
     let mut o = none();
     let mut i: usize = 1;
     while i < count {
-        o = after_task(with_argument(o, i));
+        o = after_task(with_argument(rt, o, i));
         i += 1;
     }
     o.good = o.good & (o.waits == OPTIONS);
@@ -101,9 +126,9 @@ pub fn again(options: Options) -> Options {
 }
 
 // With an argument more.
-pub fn with_argument(options: Options, i: usize) -> Options {
-    let mut text = io::buffer();
-    let n = os::arg(i, &mut text);
+pub fn with_argument(rt: &impl Env, options: Options, i: usize) -> Options {
+    let mut text = [0u8; 4096];
+    let n = argument(rt, i, &mut text);
     let word = &text[..n];
     let mut o = options;
     o.task = NOTHING;

@@ -2,30 +2,31 @@
 // line. Nothing of this program is proved but that it is safe and ends; `stdout` has what the definition says.
 #![tactic(auto)]
 
-use libc::STDIN_FILENO;
 use program_text::cursor::Cursor;
 use program_text::unbuffered::put;
 use program_text::{cursor, decimal, faults, lines};
 use state_array::State;
+use std::rt::Stdout;
 
 // Every line.
-fn main() {
-    let mut chunk = io::large_buffer();
+fn main(rt: HostRuntime) {
+    let mut file = rt.stdin();
+    let mut chunk = [0u8; 65536];
     let mut text = [0u8; 8192];
-    let mut input = lines::of(STDIN_FILENO);
+    let mut input = lines::of();
     let mut turns = u64::MAX;
     while 0 < turns {
-        input = lines::next(input, &mut chunk, &mut text);
+        input = lines::next(input, &mut file, &mut chunk, &mut text);
         if input.ended {
             return;
         }
-        judge(lines::line(&text, input));
+        judge(rt.stdout(), lines::line(&text, input));
         turns -= 1;
     }
 }
 
 // What `sound` says of a line's state, with its name.
-fn judge(line: &[u8]) {
+fn judge(stdout: Stdout, line: &[u8]) {
     let name = cursor::first(line);
     if cursor::is_done(name) {
         return;
@@ -37,17 +38,17 @@ fn judge(line: &[u8]) {
         cursor::which(line, c, b"blank S waiting grafted"),
     );
     change(&mut state, line, cursor::next(line, c));
-    put(cursor::quoted(line, name));
-    say(state_sound::sound(&state));
+    put(stdout, cursor::quoted(line, name));
+    say(stdout, state_sound::sound(&state));
 }
 
 // A verdict.
-fn say(sound: bool) {
+fn say(stdout: Stdout, sound: bool) {
     if sound {
-        put(b": 1\n");
+        put(stdout, b": 1\n");
         return;
     }
-    put(b": 0\n");
+    put(stdout, b": 0\n");
 }
 
 // One of the good states, over blank words: 1 is S, root 1 with the children 2 and 3, the focus on 2, host focused; in 2 its node 3 grafts the

@@ -74,7 +74,7 @@ pub fn is(line: &[u8], c: Cursor, name: &[u8]) -> bool {
     if c.fault != 0 {
         return false;
     }
-    check::same(word(line, c), name)
+    word(line, c) == name
 }
 
 // Which of some names the word is, the first at 0, how many there are where it is none of them.

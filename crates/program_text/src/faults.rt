@@ -159,7 +159,7 @@ fn expected_of_question(out: &mut Out, fault: u8) {
     print::put_line(
         out,
         b"a node number, 0 to 18446744073709551615, or (TREE, NODE), two numbers\n\
-        read, label, hidden, transform, box, parent, children, siblings, filter, filtered-parent, filtered-children, first_child_lem, \
+        read, label, hidden, transform, box, parent, children, siblings, filter, filtered-parent, filtered-children, first-child, \
         last-child, deepest-first-child, deepest-last-child, filtered-siblings or walk\n\
         following or preceding\n\
         common, root-exception or without-parent-checks\n\

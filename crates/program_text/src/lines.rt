@@ -1,9 +1,12 @@
 // The lines of a file, read through a fixed buffer, so that neither the file's length nor a line's has a limit.
 
+ghost use Rattle.std.specs.Prelude.{◌≤◌, length};
+
+use std::io::Read;
+
 // Where the reading of a file stands.
 #[derive(Clone, Copy)]
 pub struct Input {
-    fd: i32,
     // What is left of the bytes read last: from one place to before another.
     from: usize,
     end: usize,
@@ -17,9 +20,8 @@ pub struct Input {
 }
 
 // Before the first line of an open file.
-pub fn of(fd: i32) -> Input {
+pub fn of() -> Input {
     Input {
-        fd,
         from: 0,
         end: 0,
         number: 0,
@@ -30,8 +32,13 @@ pub fn of(fd: i32) -> Input {
     }
 }
 
-// Reads the next line, without its newline.
-pub fn next(input: Input, chunk: &mut [u8; 65536], line: &mut [u8; 8192]) -> Input {
+// Reads the next line of an open file, without its newline.
+pub fn next<R: Read>(
+    input: Input,
+    file: &mut R,
+    chunk: &mut [u8; 65536],
+    line: &mut [u8; 8192],
+) -> Input {
     let mut i = input;
     i.length = 0;
     i.cut = false;
@@ -39,7 +46,7 @@ pub fn next(input: Input, chunk: &mut [u8; 65536], line: &mut [u8; 8192]) -> Inp
     // Nothing says that a file ends, so the turns are counted down from a number that no run uses up.
     let mut turns = u64::MAX;
     while 0 < turns {
-        i = filled(i, chunk);
+        i = filled(i, file, chunk);
         if i.end <= i.from {
             return at_end(i);
         }
@@ -55,15 +62,22 @@ pub fn next(input: Input, chunk: &mut [u8; 65536], line: &mut [u8; 8192]) -> Inp
 }
 
 // With bytes to read, if there are more.
-fn filled(input: Input, chunk: &mut [u8; 65536]) -> Input {
+fn filled<R: Read>(input: Input, file: &mut R, chunk: &mut [u8; 65536]) -> Input {
     if input.from < input.end {
         return input;
     }
-    let got = libc::read(input.fd, chunk);
     let mut i = input;
     i.from = 0;
-    i.end = io::count(got, chunk);
-    i.failed = got < 0;
+    match file.read(chunk) {
+        Ok(n) => {
+            i.end = n;
+            i.failed = false;
+        }
+        Err(_) => {
+            i.end = 0;
+            i.failed = true;
+        }
+    }
     i
 }
 
@@ -102,6 +116,24 @@ pub fn line(text: &[u8; 8192], input: Input) -> &[u8] {
 // Whether the next line is read from the file, and not from the bytes read last.
 pub fn is_used_up(input: Input) -> bool {
     input.end <= input.from
+}
+
+// Reads until a buffer is full, the file ends or a read fails; how many bytes stand in it then.
+pub fn read_full<R: Read>(file: &mut R, buffer: &mut [u8]) -> usize
+    ensures { result ≤ length buffer.new }
+{
+    let mut done: usize = 0;
+    // Each read but the last moves a byte at least.
+    for _ in 0..buffer.len() {
+        match file.read(&mut buffer[done..]) {
+            Ok(n) if 0 < n => done += n,
+            _ => return done,
+        }
+        if buffer.len() <= done {
+            return done;
+        }
+    }
+    done
 }
 
 // The first n bytes, or all.

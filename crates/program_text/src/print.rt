@@ -2,12 +2,16 @@
 // once that is full, or at `flush`.
 ghost use Rattle.std.specs.Prelude.{◌<◌, ◌≤◌};
 
-use crate::{lines, utf8};
+use crate::{lines, unbuffered, utf8};
 use ids::{FullNodeId, NodeId, TreeId, TreeIndex};
-use libc::STDOUT_FILENO;
+use std::rt::Stdout;
 
-// What is kept: where its text ends, in two bytes; the number that a tree is yet to get, a byte; that tree's id; then the text.
-pub type Out = [u8; 4128];
+// Standard output, and what is kept: where its text ends, in two bytes; the number that a tree is yet to get, a byte; that tree's id; then the text.
+#[derive(Drop)]
+pub struct Out {
+    kept: [u8; 4128],
+    stdout: Stdout,
+}
 
 const ROOM: usize = 4128;
 
@@ -20,8 +24,11 @@ const LOW: usize = 16;
 const TEXT: usize = 32;
 
 // Nothing kept.
-pub fn blank() -> Out {
-    [0u8; 4128]
+pub fn blank(stdout: Stdout) -> Out {
+    Out {
+        kept: [0u8; 4128],
+        stdout,
+    }
 }
 
 // Words as they are.
@@ -30,7 +37,7 @@ pub fn put(out: &mut Out, text: &[u8]) {
     let mut i: usize = 0;
     while i < text.len() {
         let place = next_place(out, at);
-        out[place] = text[i];
+        out.kept[place] = text[i];
         at = place + 1;
         i += 1;
     }
@@ -56,14 +63,14 @@ pub fn flush(out: &mut Out) {
 
 // Writes the text up to a place.
 fn write_text(out: &Out, end: usize) {
-    io::write_all(STDOUT_FILENO, lines::between(out, TEXT, end));
+    unbuffered::put(out.stdout, lines::between(&out.kept, TEXT, end));
 }
 
 // Where the text ends.
 fn text_end(out: &Out) -> usize
     ensures { result ≤ 4128 }
 {
-    let end = wide(out[0]) + 256 * wide(out[1]);
+    let end = wide(out.kept[0]) + 256 * wide(out.kept[1]);
     if ROOM < end {
         return TEXT;
     }
@@ -75,8 +82,8 @@ fn text_end(out: &Out) -> usize
 
 // Notes where the text ends.
 fn set_end(out: &mut Out, end: usize) {
-    out[0] = (end % 256) as u8;
-    out[1] = (end / 256 % 256) as u8;
+    out.kept[0] = (end % 256) as u8;
+    out.kept[1] = (end / 256 % 256) as u8;
 }
 
 // A byte as a number.
@@ -89,7 +96,7 @@ fn wide(byte: u8) -> usize
 // From here on nodes of the tree with a number are told by its id: a batch would have made it, and never did. With 0 every tree is told by its
 // number.
 pub fn name_unborn(out: &mut Out, number: usize, t: TreeId) {
-    out[UNBORN] = (number % 256) as u8;
+    out.kept[UNBORN] = (number % 256) as u8;
     put_word(out, HIGH, t.high);
     put_word(out, LOW, t.low);
 }
@@ -101,7 +108,7 @@ fn put_word(out: &mut Out, at: usize, word: u64)
     let mut rest = word;
     let mut i: usize = 0;
     while i < 8 {
-        out[at + i] = (rest % 256) as u8;
+        out.kept[at + i] = (rest % 256) as u8;
         rest /= 256;
         i += 1;
     }
@@ -110,15 +117,58 @@ fn put_word(out: &mut Out, at: usize, word: u64)
 // A number in decimal.
 pub fn number(out: &mut Out, n: u64) {
     let mut text = [0u8; 20];
-    let k = io::decimal(n, &mut text);
-    put(out, &text[..k]);
+    let from = decimal_digits(n, &mut text);
+    put(out, &text[from..]);
 }
 
 // A number in at least so many hexadecimal digits.
 pub fn hex(out: &mut Out, n: u64, width: usize) {
     let mut text = [0u8; 16];
-    let k = io::hex(n, width, &mut text);
-    put(out, &text[..k]);
+    let from = hex_digits(n, width, &mut text);
+    put(out, &text[from..]);
+}
+
+// Puts the decimal digits of a number at the end of a text; where they start.
+pub fn decimal_digits(n: u64, text: &mut [u8; 20]) -> usize
+    ensures { result ≤ 20 }
+{
+    let mut rest = n;
+    let mut at: usize = 20;
+    while 0 < at {
+        at -= 1;
+        text[at] = digit((rest % 10) as u8);
+        rest /= 10;
+        if rest < 1 {
+            return at;
+        }
+    }
+    at
+}
+
+// Puts at least so many hexadecimal digits of a number at the end of a text, one at least and 16 at most; where they start.
+fn hex_digits(n: u64, width: usize, text: &mut [u8; 16]) -> usize
+    ensures { result ≤ 16 }
+{
+    let mut rest = n;
+    let mut at: usize = 16;
+    while 0 < at {
+        at -= 1;
+        text[at] = digit((rest % 16) as u8);
+        rest /= 16;
+        if (rest < 1) & (width <= 16 - at) {
+            return at;
+        }
+    }
+    at
+}
+
+// A digit of at most 15 as a letter.
+fn digit(n: u8) -> u8 {
+    match n {
+        0..=9 => b'0' + n,
+        10..=15 => b'a' + (n - 10),
+        _ => b'?',
+    }
 }
 
 // A byte of a text that is plain or not, as \xHH where it is not printed as it is.
@@ -188,9 +238,9 @@ pub fn id(out: &mut Out, x: FullNodeId) {
 // A tree's number, or the name of one that never got it.
 fn tree_number(out: &mut Out, tree: TreeIndex) {
     let n = tree.0 as u64;
-    if (n == wide(out[UNBORN]) as u64) & (n != 0) {
-        let high = record_wire::u64_at(out, HIGH);
-        let low = record_wire::u64_at(out, LOW);
+    if (n == wide(out.kept[UNBORN]) as u64) & (n != 0) {
+        let high = record_wire::u64_at(&out.kept, HIGH);
+        let low = record_wire::u64_at(&out.kept, LOW);
         tree_name(out, TreeId { high, low });
         return;
     }

@@ -6,29 +6,30 @@
 
 ghost use Rattle.std.specs.Prelude.{◌<◌, ◌≤◌};
 
-use libc::STDIN_FILENO;
 use program_text::cursor::Cursor;
 use program_text::unbuffered::put;
 use program_text::{cursor, decimal, faults, lines};
+use std::rt::Stdout;
 
 // Every line.
-fn main() {
-    let mut chunk = io::large_buffer();
+fn main(rt: HostRuntime) {
+    let mut file = rt.stdin();
+    let mut chunk = [0u8; 65536];
     let mut text = [0u8; 8192];
-    let mut input = lines::of(STDIN_FILENO);
+    let mut input = lines::of();
     let mut turns = u64::MAX;
     while 0 < turns {
-        input = lines::next(input, &mut chunk, &mut text);
+        input = lines::next(input, &mut file, &mut chunk, &mut text);
         if input.ended {
             return;
         }
-        judge(lines::line(&text, input));
+        judge(rt.stdout(), lines::line(&text, input));
         turns -= 1;
     }
 }
 
 // What `layout` says of a line's record, with its name.
-fn judge(line: &[u8]) {
+fn judge(stdout: Stdout, line: &[u8]) {
     let name = cursor::first(line);
     let nodes = number(line, cursor::next(line, name));
     let entries = number(line, nodes);
@@ -42,8 +43,8 @@ fn judge(line: &[u8]) {
         label.number as usize,
     );
     change(&mut bytes, line, size);
-    put(cursor::quoted(line, name));
-    say(passes(&bytes, size.number as usize));
+    put(stdout, cursor::quoted(line, name));
+    say(stdout, passes(&bytes, size.number as usize));
 }
 
 // What `layout` says of the first n bytes.
@@ -78,12 +79,12 @@ fn with_byte(bytes: &mut [u8; 12800], line: &[u8], c: Cursor) -> Cursor {
 }
 
 // A verdict.
-fn say(good: bool) {
+fn say(stdout: Stdout, good: bool) {
     if good {
-        put(b": passes\n");
+        put(stdout, b": passes\n");
         return;
     }
-    put(b": 2\n");
+    put(stdout, b": 2\n");
 }
 
 // A record for ROOT with tree data, tree root 1 and focus 2. Node i has the number i + 1 and role 4.

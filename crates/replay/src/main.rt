@@ -4,13 +4,15 @@
 // differ. Nothing of it is proved but that it is safe and ends.
 #![tactic(auto)]
 
-use libc::STDIN_FILENO;
+use program_text::lines;
 use program_text::unbuffered::{of_number, put, put_line};
 use replay_frame::parts::part_if;
 use state_array::State;
+use std::io::Read;
+use std::rt::Stdout;
 
 // What has been seen of the list.
-#[derive(Drop)]
+#[derive(Clone, Copy)]
 struct Tally {
     calls: u64,
     questions: u64,
@@ -25,17 +27,22 @@ const QUESTIONS: u64 = 256;
 const PARTS: u64 = 7;
 
 // The list, one after the other, and what was seen of it.
-fn main() {
+fn main(rt: HostRuntime) {
+    let stdout = rt.stdout();
+    let mut list = rt.stdin();
     let mut total = [0u8; 4];
-    if io::read_full(STDIN_FILENO, &mut total) < 4 {
-        tell_end(0);
+    if lines::read_full(&mut list, &mut total) < 4 {
+        tell_end(stdout, 0);
         return;
     }
-    tell_tally(run(record_wire::u32_at(&total, 0) as u64));
+    tell_tally(
+        stdout,
+        run(stdout, &mut list, record_wire::u32_at(&total, 0) as u64),
+    );
 }
 
 // Every call and question, each on the state that the last one left.
-fn run(total: u64) -> Tally {
+fn run<R: Read>(stdout: Stdout, list: &mut R, total: u64) -> Tally {
     let mut t = Tally {
         calls: 0,
         questions: 0,
@@ -46,43 +53,43 @@ fn run(total: u64) -> Tally {
     let mut i: u64 = 0;
     while i < total {
         let mut space = [0u8; 98304];
-        let n = replay_frame::read(&mut space);
+        let n = replay_frame::read(list, &mut space);
         if !replay_frame::is_whole(&space, n) {
-            tell_end(i);
+            tell_end(stdout, i);
             return t;
         }
         i += 1;
-        t = with_frame(t, i, &space, &mut state);
+        t = with_frame(stdout, t, i, &space, &mut state);
     }
     t
 }
 
 // With a frame, the i-th of the list.
-fn with_frame(t: Tally, i: u64, f: &[u8; 98304], state: &mut State) -> Tally {
+fn with_frame(stdout: Stdout, t: Tally, i: u64, f: &[u8; 98304], state: &mut State) -> Tally {
     replay_frame::put_state(f, state);
     if replay_frame::is_question(f) {
-        return with_question(t, i, f, state);
+        return with_question(stdout, t, i, f, state);
     }
-    with_call(t, i, f, state)
+    with_call(stdout, t, i, f, state)
 }
 
 // With a call.
-fn with_call(t: Tally, i: u64, f: &[u8], state: &mut State) -> Tally {
+fn with_call(stdout: Stdout, t: Tally, i: u64, f: &[u8], state: &mut State) -> Tally {
     let c = replay_calls::compared(f, state);
-    tell_parts(b"call # differs:", i, c.parts);
+    tell_parts(stdout, b"call # differs:", i, c.parts);
     let mut u = counted(t, c.number % QUESTIONS, c.parts);
     u.calls = std::num::wrapping_add_u64(t.calls, 1);
     u
 }
 
 // With a question.
-fn with_question(t: Tally, i: u64, f: &[u8], state: &State) -> Tally {
+fn with_question(stdout: Stdout, t: Tally, i: u64, f: &[u8], state: &State) -> Tally {
     let which = replay_frame::which(f);
     let parts = replay_questions::compared(f, state);
     if parts != 0 {
-        replay_questions::tell(which);
+        replay_questions::tell(stdout, which);
     }
-    tell_parts(b": question # differs:", i, parts);
+    tell_parts(stdout, b": question # differs:", i, parts);
     let mut u = counted(t, QUESTIONS + which % QUESTIONS, parts);
     u.questions = std::num::wrapping_add_u64(t.questions, 1);
     u
@@ -102,30 +109,31 @@ fn counted(t: Tally, place: u64, parts: u64) -> Tally {
 // ## Telling
 
 // The list ends, or has no frame, after n of it.
-fn tell_end(n: u64) {
-    of_number(b"the list is cut short or damaged after #\n", n);
+fn tell_end(stdout: Stdout, n: u64) {
+    of_number(stdout, b"the list is cut short or damaged after #\n", n);
 }
 
 // The parts that differ of the i-th of the list, each a bit, unless none does.
-fn tell_parts(text: &[u8], i: u64, parts: u64) {
+fn tell_parts(stdout: Stdout, text: &[u8], i: u64, parts: u64) {
     if parts == 0 {
         return;
     }
-    of_number(text, i);
+    of_number(stdout, text, i);
     let mut left = parts;
     let mut k: u64 = 0;
     while k < PARTS {
-        tell_part(left % 2, k);
+        tell_part(stdout, left % 2, k);
         left /= 2;
         k += 1;
     }
-    put(b"\n");
+    put(stdout, b"\n");
 }
 
 // The name of a part, where its bit is set.
-fn tell_part(bit: u64, part: u64) {
+fn tell_part(stdout: Stdout, bit: u64, part: u64) {
     if bit == 1 {
         put_line(
+            stdout,
             b" number\n state\n lengths\n focus\n extra ids\n slice\n value\n",
             part,
         );
@@ -133,31 +141,31 @@ fn tell_part(bit: u64, part: u64) {
 }
 
 // How many calls had each number, how many questions there were of each kind, how many of both, and how many differ.
-fn tell_tally(t: Tally) {
-    tell_counts(&t.counts);
-    of_number(b"# calls, ", t.calls);
-    of_number(b"# questions, ", t.questions);
-    of_number(b"# differ\n", t.differ);
+fn tell_tally(stdout: Stdout, t: Tally) {
+    tell_counts(stdout, &t.counts);
+    of_number(stdout, b"# calls, ", t.calls);
+    of_number(stdout, b"# questions, ", t.questions);
+    of_number(stdout, b"# differ\n", t.differ);
 }
 
 // The counts that are not 0.
-fn tell_counts(counts: &[u64]) {
+fn tell_counts(stdout: Stdout, counts: &[u64]) {
     let mut k: usize = 0;
     while k < counts.len() {
-        tell_count(k as u64, counts[k]);
+        tell_count(stdout, k as u64, counts[k]);
         k += 1;
     }
 }
 
 // A count, unless it is 0.
-fn tell_count(k: u64, n: u64) {
+fn tell_count(stdout: Stdout, k: u64, n: u64) {
     if n == 0 {
         return;
     }
     if k < QUESTIONS {
-        of_number(b"number #", k);
+        of_number(stdout, b"number #", k);
     } else {
-        replay_questions::tell(k - QUESTIONS);
+        replay_questions::tell(stdout, k - QUESTIONS);
     }
-    of_number(b": #\n", n);
+    of_number(stdout, b": #\n", n);
 }

@@ -29,8 +29,9 @@ pub mod parts;
 ghost use Rattle.std.specs.Prelude.{◌<◌, ◌≤◌};
 
 use ids::{FullNodeId, NodeId, TreeIndex};
-use libc::STDIN_FILENO;
+use program_text::lines::read_full;
 use state_array::State;
+use std::io::Read;
 
 // Where a frame's state starts, if it has one, and else its record.
 const HEAD: usize = 84;
@@ -39,14 +40,14 @@ const HEAD: usize = 84;
 const QUESTION: usize = 3;
 
 // Reads the next frame of the list over zeros; how many bytes it has, 0 where the list ends before it does.
-pub fn read(frame: &mut [u8; 98304]) -> usize {
+pub fn read<R: Read>(list: &mut R, frame: &mut [u8; 98304]) -> usize {
     let mut length = [0u8; 2];
-    if io::read_full(STDIN_FILENO, &mut length) < 2 {
+    if read_full(list, &mut length) < 2 {
         return 0;
     }
     let n = record_wire::u16_at(&length, 0) as usize;
-    let mut coded = io::large_buffer();
-    if io::read_full(STDIN_FILENO, &mut coded[0..n]) < n {
+    let mut coded = [0u8; 65536];
+    if read_full(list, &mut coded[0..n]) < n {
         return 0;
     }
     decode(&coded, n, frame)

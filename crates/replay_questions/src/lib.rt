@@ -10,6 +10,7 @@ use program_text::unbuffered::put_line;
 use replay_frame::parts::part_if;
 use replay_frame::{lent, parts};
 use state_array::State;
+use std::rt::Stdout;
 
 // Asks the question of a frame about a state and compares its answer; the parts that differ, each a bit.
 pub fn compared(f: &[u8], state: &State) -> u64 {
@@ -38,15 +39,17 @@ fn differing(a: Answer, f: &[u8]) -> u64 {
 }
 
 // Prints a question's name, its side and its filter.
-pub fn tell(which: u64) {
+pub fn tell(stdout: Stdout, which: u64) {
     put_line(
+        stdout,
         b"parent\nfiltered parent\nfirst filtered child\nlast filtered child\ndeepest first filtered child\n\
         deepest last filtered child\nchildren\nsiblings\nfiltered children\nfiltered siblings\nwalk\nhidden\n\
         transform\nbox\nfilter\n",
         which / 12,
     );
-    put_line(b"\n, following\n, preceding\n", which % 3);
+    put_line(stdout, b"\n, following\n, preceding\n", which % 3);
     put_line(
+        stdout,
         b"\n, common filter\n, with root exception\n, without parent checks\n",
         which / 3 % 4,
     );

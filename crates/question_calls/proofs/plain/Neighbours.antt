@@ -30,6 +30,7 @@ use Rattle.question_calls.proofs.plain.Above.{include_is, first_included_lem, fi
 module _ {A B : Type 0} (g : A → List B) (x : A) (y : B) (j : Memᴰ y (g x)) where
   flat_mem : (xs : List A) → Memᴰ x xs → Memᴰ y (flat_map g xs)
   unfolding flat_map
+  flat_mem [] x'' = elim x'' [ ]
   flat_mem (z ∷ xs) (mathlib.Core.List.Memᴰ.head e) = mathlib.Core.List.Memᴰ.append_left (flat_map g xs) (subst (λ (w : A). Memᴰ y (g w)) e j)
   flat_mem (z ∷ xs) (mathlib.Core.List.Memᴰ.tail i) = mathlib.Core.List.Memᴰ.append_right (g z) (flat_mem xs i)
 

@@ -1,0 +1,21 @@
+-- `links::transform_of` meets its contract: what is left to climb from here makes the whole. The measure is the room. Assumes nothing.
+use mathlib.Core.Path.{◌≡◌, refl, sym, ◌∙◌}
+use Prim.Native.Nat.{◌<◌}
+use native.Mathlib.Omega.{arith}
+use lib.ListN.{length}
+use borrow.Author.Rules.{rules}
+use Rattle.state_array.specs.View.{id_in, slots_of, view}
+use Rattle.questions.specs.Links.{ancestors}
+use Rattle.questions.specs.Boxes.{transform}
+use Rattle.question_calls.specs.Slots.{Sound}
+use Rattle.question_calls.proofs.links.Up.{few_ancestors, fewer, chain_from, chain_past, chain_above, chain_on}
+use Rattle.question_calls.proofs.links.transform_of.Given as goal
+
+abbrev pub invariant-loop-p : goal.invariant-loop-p
+invariant-loop-p l = (l.n ≡ slots_of l.state)
+    × (Sound l.state → l.i < slots_of l.state
+    → (chain_from l.state l.whole l.p ≡ transform (view l.state).forest (id_in l.state l.i))
+    × (l.p < slots_of l.state → length (ancestors (view l.state).forest (id_in l.state l.p)) < l.room))
+
+abbrev pub decreases-loop-p : goal.decreases-loop-p
+decreases-loop-p l = l.room
