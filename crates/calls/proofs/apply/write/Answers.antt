@@ -5,4 +5,4 @@ use Rattle.calls.proofs.apply.write.Goals as goal
 
 pub returns : goal.returns
 returns c =
-    written_is _ _ _ _ _ c.write_plan.ensures (λ k. omega (arith, c.shared_slice_known-1.given k)) c.write_outcome.ensures
+    written_is _ _ _ _ _ c.write_plan.ensures (λ k. omega (arith, c.type_inv.batch k)) c.write_outcome.ensures

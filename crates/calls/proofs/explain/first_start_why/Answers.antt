@@ -15,7 +15,7 @@ returns-then-not-same_tree c = search start_pane
 pub listed_again-requires : goal.listed_again-requires
 listed_again-requires c =
     offence_formed _ c.offence-o.ensures
-    (λ i. omega (arith, c.shared_slice_known-1.given i)) c.if-o-ne0.false
+    (λ i. omega (arith, c.type_inv.batch i)) c.if-o-ne0.false
 
 pub returns : goal.returns
 returns c = search start_again

@@ -11,7 +11,7 @@ returns-then-o-ne0 c = search first_offence
 
 pub before_pass-requires : goal.before_pass-requires
 before_pass-requires c =
-    let formed = offence_formed _ c.offence-o.ensures (λ i. omega (arith, c.shared_slice_known-1.given i)) c.if-o-ne0.false in
+    let formed = offence_formed _ c.offence-o.ensures (λ i. omega (arith, c.type_inv.batch i)) c.if-o-ne0.false in
     record { batch_value = formed; scoped = c.scope_of-scope.ensures formed }
 
 pub returns : goal.returns

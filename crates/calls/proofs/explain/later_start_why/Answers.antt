@@ -17,5 +17,5 @@ batch_why-requires c =
 
 pub returns : goal.returns
 returns c =
-    later_start_explains _ (λ i. omega (arith, c.shared_slice_known-1.given i)) c.requires.batch_value
+    later_start_explains _ (λ i. omega (arith, c.type_inv.batch i)) c.requires.batch_value
     (ap (λ (q : State). q.forest) c.seed.ensures ∙ seed_forest _ _) (asked_start _ _ _ (c.start_scope-scope.ensures c.requires.batch_value)) c.batch_why.ensures.explained

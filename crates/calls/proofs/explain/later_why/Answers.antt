@@ -16,7 +16,7 @@ batch_why-why-requires c =
 
 pub returns-then-why-ne0 : goal.returns-then-why-ne0
 returns-then-why-ne0 c =
-    later_explains _ (λ i. omega (arith, c.shared_slice_known-1.given i)) _ _ c.requires.batch_value
+    later_explains _ (λ i. omega (arith, c.type_inv.batch i)) _ _ c.requires.batch_value
     (asked_update _ _ _ (c.scope_of-scope.ensures (first_passed _ _ c.requires.batch_value).formed)) c.batch_why-why.ensures.explained c.if-why-ne0.true
 
 pub slice_why-requires : goal.slice_why-requires
@@ -26,5 +26,5 @@ slice_why-requires c =
 
 pub returns : goal.returns
 returns c =
-    last_explains _ (λ i. omega (arith, c.shared_slice_known-1.given i)) _ _ c.requires.batch_value
+    last_explains _ (λ i. omega (arith, c.type_inv.batch i)) _ _ c.requires.batch_value
     (asked_update _ _ _ (c.scope_of-scope.ensures (first_passed _ _ c.requires.batch_value).formed)) c.batch_why-why.ensures.explained c.if-why-ne0.false c.slice_why.ensures

@@ -7,7 +7,7 @@ use Rattle.calls.proofs.explain.start_why.Goals as goal
 
 pub returns-then-refusal-ne0 : goal.returns-then-refusal-ne0
 returns-then-refusal-ne0 c =
-    first_start_explains _ (λ i. omega (arith, c.shared_slice_known-1.given i)) (ap (λ (q : Refusal). q.number) c.start_rows-refusal.ensures) c.if-refusal-ne0.true
+    first_start_explains _ (λ i. omega (arith, c.type_inv.batch i)) (ap (λ (q : Refusal). q.number) c.start_rows-refusal.ensures) c.if-refusal-ne0.true
     c.first_start_why.ensures c.clear.ensures
 
 pub later_start_why-requires : goal.later_start_why-requires

@@ -14,7 +14,7 @@ loop-i-init c = filling_begins (omega (arith, few_listed))
 pub overflow_add-end : goal.overflow_add-end
 overflow_add-end c =
     let s = c.args.batch.now in
-    omega (arith, end_small s (λ k. omega (arith, c.shared_slice_known-1.given k)) _ c.first_child.ensures c.child_count.ensures)
+    omega (arith, end_small s (λ k. omega (arith, c.type_inv.batch k)) _ c.first_child.ensures c.child_count.ensures)
 
 pub loop-i-preserved : goal.loop-i-preserved
 loop-i-preserved c = filling_goes c.loop-i.invariant c.loop-i-test.true (ap₂ ◌+◌ c.first_child.ensures c.child_count.ensures)
