@@ -9,7 +9,7 @@
 // The calls keep no pointer, allocate nothing and have no state of their own, so threads may call them at once, each on its own memory; questions may
 // share a state. A call needs CARTGRAVEL_STACK bytes of stack. A state lives where its owner puts it.
 //
-// Link libcartgravel.a, which `rt staticlib cartgravel` proves and writes to target/staticlib. examples/c has a program.
+// Link libcartgravel.a, which `rt lib --cpu x86-64` in crates/cartgravel proves and writes to crates/cartgravel/out. examples/c has a program.
 #ifndef CARTGRAVEL_H
 #define CARTGRAVEL_H
 

@@ -188,30 +188,35 @@ def program():
 }
 '''
 
-# An argument in C, in a build without proofs (where slices, structs and answers are behind pointers), and how one becomes the other.
+# An argument in C, in a build without proofs (where slices and small structs are taken apart), and how one becomes the other.
 CROSSES = {
-    'state': ('cartgravel_state *state', 'cartgravel_state *', 'state'), 'asked': ('const cartgravel_state *state', 'const cartgravel_state *', 'state'),
-    'batch': ('const uint8_t *batch, size_t length', 'const struct slice *', '&(struct slice){batch, length}'),
-    'changes': ('uint64_t *changes, size_t room', 'const struct slice *', '&(struct slice){changes, room}'),
-    'ids': ('uint64_t *out, size_t room', 'const struct slice *', '&(struct slice){out, room}'),
-    'label': ('uint8_t *out, size_t room', 'const struct slice *', '&(struct slice){out, room}'),
-    'number': ('uint32_t number', 'uint32_t', 'number'), 'other': ('uint32_t other', 'uint32_t', 'other'),
-    'index': ('uint32_t index', 'const uint32_t *', '&index'), 'tree': ('cartgravel_uuid tree', 'const cartgravel_uuid *', '&tree'),
-    'id': ('cartgravel_node_id id', 'const cartgravel_node_id *', '&id'), 'walk': ('cartgravel_walk *walk', 'cartgravel_walk *', 'walk'),
-    'room': ('size_t room', 'size_t', 'room'), 'way': ('uint64_t *way', 'uint64_t *', 'way'),
+    'state': ('cartgravel_state *state', 'void *', 'state'), 'asked': ('const cartgravel_state *state', 'const void *', 'state'),
+    'batch': ('const uint8_t *batch, size_t length', 'const void *, size_t', 'batch, length'),
+    'changes': ('uint64_t *changes, size_t room', 'void *, size_t', 'changes, room'),
+    'ids': ('uint64_t *out, size_t room', 'void *, size_t', 'out, room'), 'label': ('uint8_t *out, size_t room', 'void *, size_t', 'out, room'),
+    'number': ('uint32_t number', 'uint32_t', 'number'), 'other': ('uint32_t other', 'uint32_t', 'other'), 'index': ('uint32_t index', 'uint32_t', 'index'),
+    'tree': ('cartgravel_uuid tree', 'uint64_t, uint64_t', 'tree.high, tree.low'), 'id': ('cartgravel_node_id id', 'uint32_t, uint64_t', 'id.tree, id.node'),
+    'walk': ('cartgravel_walk *walk', 'void *', 'walk'), 'room': ('size_t room', 'size_t', 'room'), 'way': ('uint64_t *way', 'void *', 'way'),
 }
+# The answers that such a build gives in two registers; the others it writes where its first argument points.
+PAIRS = {'listed', 'flag', 'filter_answer'}
 
 
 def boundary():
     """The functions as C has them, over those of a build without proofs, which are loaded from the file that UNPROVED names."""
-    out = ['#include <dlfcn.h>', '#include <stdlib.h>', '#include "cartgravel.h"', 'struct slice { const void *at; size_t length; };',
+    out = ['#include <dlfcn.h>', '#include <stdlib.h>', '#include "cartgravel.h"', 'struct pair { uint64_t first, second; };',
            'static void *loaded(const char *name) {', '    static void *library;', f'    if (!library) library = dlopen(getenv("{UNPROVED}"), RTLD_NOW);',
            '    void *found = library ? dlsym(library, name) : 0;', '    if (!found) exit(3);', '    return found;', '}']
     for name, (answer, words) in FUNCTIONS.items():
-        c, unproved, given = zip(*(CROSSES[a] for a in words.split()))
-        out += [f'cartgravel_{answer} cartgravel_{name}({", ".join(c)}) {{', f'    static void (*unproved)(cartgravel_{answer} *, {", ".join(unproved)});',
-                f'    if (!unproved) *(void **)&unproved = loaded("unproved_{name}");', f'    cartgravel_{answer} answer;',
-                f'    unproved(&answer, {", ".join(given)});', '    return answer;', '}']
+        c, unproved, given = (', '.join(parts) for parts in zip(*(CROSSES[a] for a in words.split())))
+        is_pair = answer in PAIRS
+        out += [f'cartgravel_{answer} cartgravel_{name}({c}) {{',
+                f'    static struct pair (*unproved)({unproved});' if is_pair else f'    static void (*unproved)(cartgravel_{answer} *, {unproved});',
+                f'    if (!unproved) *(void **)&unproved = loaded("unproved_{name}");']
+        if is_pair:
+            out += [f'    struct pair pair = unproved({given});', f'    return (cartgravel_{answer}){{pair.first, pair.second}};', '}']
+        else:
+            out += [f'    cartgravel_{answer} answer;', f'    unproved(&answer, {given});', '    return answer;', '}']
     return '\n'.join(out) + '\n'
 
 
@@ -233,32 +238,30 @@ def write(path, text):
 
 
 def copy_sources(folder, change):
-    """The crates without contracts, with the change; answers the compiler's words that name them."""
-    words = []
-    for crate in needed('cartgravel'):
-        source = f'{REPOSITORY}/crates/{crate}/src'
-        if os.path.getsize(f'{source}/lib.rt') < 3:
-            continue  # definitions alone
-        for name in glob.glob('**/*.rt', root_dir=source, recursive=True):
-            os.makedirs(os.path.dirname(f'{folder}/{crate}/{name}'), exist_ok=True)
-            text = read(f'{source}/{name}')
-            if change and source_file(change[1]) == f'{source}/{name}':
+    """The crates of the library with the change, in a repository of their own, as libraries whose modules are public: the program names them."""
+    crates = needed('cartgravel')
+    for crate in crates:
+        top = f'{REPOSITORY}/crates/{crate}'
+        for name in glob.glob('src/**/*.rt', root_dir=top, recursive=True) + glob.glob('specs/**/*.antt', root_dir=top, recursive=True):
+            path = f'{folder}/crates/{crate}/{name}'
+            os.makedirs(os.path.dirname(path), exist_ok=True)
+            text = read(f'{top}/{name}')
+            if change and source_file(change[1]) == f'{top}/{name}':
                 text = text.replace(change[2], change[3])
-            text = re.sub(r'^ghost use .*\n', '', text, flags=re.M)
-            text = re.sub(r'^mod ', 'pub mod ', text, flags=re.M)
-            write(f'{folder}/{crate}/{name}', re.sub(r'^ +(requires|ensures)\b.*\n', '', text, flags=re.M))
-        words += ['--lib', f'{crate}={folder}/{crate}/lib.rt']
-    return words
+            write(path, re.sub(r'^mod ', 'pub mod ', text, flags=re.M) if name.endswith('.rt') else text)
+    os.makedirs(f'{folder}/crates/program/src')
+    write(f'{folder}/crates/program/src/main.rt', program())
+    lines = re.sub(r'^(\w+) staticlib:', r'\1:', read(f'{REPOSITORY}/crates.txt'), flags=re.M).splitlines()
+    kept = [line for line in lines if line.partition(':')[0] in crates]
+    write(f'{folder}/crates.txt', '\n'.join(kept + [f'program: {" ".join(crates)} io', '']))
 
 
 def build(folder, change):
     """Writes folder/unproved.so."""
-    kit = os.path.dirname(os.path.dirname(subprocess.run(['rt', 'doc'], capture_output=True, text=True, check=True).stdout.strip()))
-    words = [w for n in ('std', 'io', 'libc') for w in ('--lib', f'{n}={kit}/libs/{n}/src/lib.rt')] + copy_sources(folder, change)
-    os.makedirs(f'{folder}/program')
-    write(f'{folder}/program/main.rt', program())
-    subprocess.run([f'{REPOSITORY}/tools/bitcode', f'{folder}/library.bc', 'program', f'{folder}/program/main.rt'] + words, check=True)
-    clang = f'{kit}/on/x86_64/toolchain/bin/clang'
+    copy_sources(folder, change)
+    subprocess.run([f'{REPOSITORY}/tools/bitcode', f'{folder}/library.bc', 'program', folder], check=True)
+    kit = os.path.dirname(subprocess.run(['rt', 'doc'], capture_output=True, text=True, check=True).stdout.strip())
+    clang = f'{kit}/toolchain/bin/clang'
     subprocess.run([clang, '-S', '-emit-llvm', '-x', 'ir', f'{folder}/library.bc', '-o', f'{folder}/library.ll', '-O0', '-Xclang', '-disable-llvm-passes'], check=True, stderr=subprocess.DEVNULL)
     text = re.sub(r'define internal ([^\n]*@"cartgravel::(?:\w+::)?cartgravel_\w+")', r'define \1', read(f'{folder}/library.ll'))
     text = re.sub(r'define ([^\n]*@main\()', r'define internal \1', text)

@@ -51,8 +51,8 @@ def bits(b):
 
 
 def data(d):
-    bounds = '(r ' + ' '.join(map(bits, d['bounds'])) + ')' if any(d['bounds']) else 'noBounds'
-    transform = '(a ' + ' '.join(map(bits, d['transform'])) + ')' if any(d['transform']) else 'noTransform'
+    bounds = '(r ' + ' '.join(map(bits, d['bounds'])) + ')' if any(d['bounds']) else 'no_bounds'
+    transform = '(a ' + ' '.join(map(bits, d['transform'])) + ')' if any(d['transform']) else 'no_transform'
     return (f"(d {d['active']} {d['graft'][0]} {d['graft'][1]} {items(d['children'], number)} {items(d['label'])}"
             f" {d['role']} {d['flags']} {bounds} {transform})")
 
@@ -75,15 +75,15 @@ def equation(k, j):
     call = j['call']
     constants = []
     def constant(word, s):
-        constants.append(f'abbrev {word}-{k} : State\n{word}-{k} = {state(s)}\n')
-        return f'{word}-{k}'
+        constants.append(f'abbrev {word}_{k} : State\n{word}_{k} = {state(s)}\n')
+        return f'{word}_{k}'
     before = 'blank' if j['before'] is None else constant('before', j['before'])
     if call['kind'] == 'start':
         got = f"start {record(call['batch'])} {str(call['host']).lower()}"
     elif call['kind'] == 'update':
         got = f"update {before} {record(call['batch'])} {items(call['slice'])}"
     else:
-        got = f"hostFocus {before} {str(call['host']).lower()}"
+        got = f"host_focus {before} {str(call['host']).lower()}"
     if j['number']:
         handed_back = j['before'] or {'nodes': [], 'trees': [], 'host': False}
         assert j['after'] == handed_back
@@ -97,20 +97,19 @@ def equation(k, j):
 
 # Short names for the text of a call. `refusal` says every part of a refused answer by itself, without the definitions' own word for it.
 WORDS = '''-- Short names for the text of the calls.
-use mathlib.Core.Bool.{Bool, false}
-use mathlib.Core.List.{List, [], _∷_}
-use mathlib.Core.Option.{Option, none}
-use Prim.Native.Nat.{ℕ}
-use lib.Ieee.{Float, ofBits, binary64}
-use Rattle·ids.specs.declared.TreeId.{TreeId}
-use Rattle·ids.specs.declared.NodeId.{NodeId}
-use Rattle·ids.specs.declared.FullNodeId.{FullNodeId}
-use Rattle·geometry.specs.declared.Rect.{Rect}
-use Rattle·geometry.specs.declared.Affine.{Affine}
-use Rattle·record.specs.Batch.{NodeData, Listed, Batch}
-use Rattle·state.specs.State.{ParentAndIndex, NodeState, Subtree, TreeEntry, Forest, State}
-use Rattle·update.specs.Reports.{Changes, Lengths}
-use Rattle·update.specs.Calls.{Answer}
+use Rattle.std.specs.Prelude.{Bool, false, List, [], ◌∷◌, ℕ, Float}
+use Rattle.std.proofs.Math.Option.{Option, none}
+use Rattle.std.specs.Float.{binary64}
+use Rattle.std.specs.Float.Ieee.{of_bits}
+use Rattle.ids.specs.declared.TreeId.{TreeId}
+use Rattle.ids.specs.declared.NodeId.{NodeId}
+use Rattle.ids.specs.declared.FullNodeId.{FullNodeId}
+use Rattle.geometry.specs.declared.Rect.{Rect}
+use Rattle.geometry.specs.declared.Affine.{Affine}
+use Rattle.record.specs.Batch.{NodeData, Listed, Batch}
+use Rattle.state.specs.State.{ParentAndIndex, NodeState, Subtree, TreeEntry, Forest, State}
+use Rattle.update.specs.Reports.{Changes, Lengths}
+use Rattle.update.specs.Calls.{Answer}
 
 abbrev pub n : ℕ → NodeId
 n x = record { 0 = x }
@@ -119,10 +118,10 @@ abbrev pub i : ℕ → ℕ → FullNodeId
 i t x = record { tree = record { 0 = t }; node = record { 0 = x } }
 
 abbrev pub bits : ℕ → Float
-bits b = ofBits binary64 b
+bits b = of_bits binary64 b
 
 abbrev pub zero64 : Float
-zero64 = ofBits binary64 0
+zero64 = of_bits binary64 0
 
 abbrev pub r : Float → Float → Float → Float → Rect
 r x y z w = record { x0 = x; y0 = y; x1 = z; y1 = w }
@@ -130,15 +129,15 @@ r x y z w = record { x0 = x; y0 = y; x1 = z; y1 = w }
 abbrev pub a : Float → Float → Float → Float → Float → Float → Affine
 a x y z u v w = record { a = x; b = y; c = z; d = u; e = v; f = w }
 
-abbrev pub noBounds : Rect
-noBounds = r zero64 zero64 zero64 zero64
+abbrev pub no_bounds : Rect
+no_bounds = r zero64 zero64 zero64 zero64
 
-abbrev pub noTransform : Affine
-noTransform = a zero64 zero64 zero64 zero64 zero64 zero64
+abbrev pub no_transform : Affine
+no_transform = a zero64 zero64 zero64 zero64 zero64 zero64
 
 abbrev pub d : ℕ → ℕ → ℕ → List NodeId → List ℕ → ℕ → ℕ → Rect → Affine → NodeData
 d active high low children label role flags bounds transform = record {
-  activeDescendant = n active;
+  active_descendant = n active;
   graft = record { high = high; low = low };
   children = children;
   label = label;
@@ -152,7 +151,7 @@ abbrev pub link : FullNodeId → ℕ → ParentAndIndex
 link p k = record { parent = p; index = k }
 
 abbrev pub node : FullNodeId → Option ParentAndIndex → NodeData → NodeState
-node x l body = record { id = x; parentAndIndex = l; BODY = body }
+node x l body = record { id = x; parent_and_index = l; BODY = body }
 
 abbrev pub at : ℕ → ℕ → Subtree
 at root focus = record { root = n root; focus = n focus }
@@ -161,7 +160,7 @@ abbrev pub tree : ℕ → ℕ → Option Subtree → TreeEntry
 tree high low u = record { id = record { high = high; low = low }; subtree = u }
 
 abbrev pub state : List NodeState → List TreeEntry → Bool → State
-state ns ts h = record { forest = record { nodes = ns; trees = ts }; hostFocused = h }
+state ns ts h = record { forest = record { nodes = ns; trees = ts }; host_focused = h }
 
 abbrev pub blank : State
 blank = state [] [] false
@@ -185,10 +184,10 @@ answer k s cs ls fb fa eb ea slice = record {
   state = s;
   changes = cs;
   lengths = ls;
-  focusBefore = fb;
-  focusAfter = fa;
-  extraBefore = eb;
-  extraAfter = ea;
+  focus_before = fb;
+  focus_after = fa;
+  extra_before = eb;
+  extra_after = ea;
   slice = slice;
 }
 
@@ -197,7 +196,7 @@ refusal k s slice = answer k s (changes [] [] [] []) (lengths 0 0 0 0) none none
 '''
 WORD_NAMES = re.findall(r'^abbrev pub (\S+)', WORDS, re.M)
 # what the definitions lean on in the kit's library
-LIBRARY = {'lib.Ieee': ['ofBits', 'toBits', 'eq']}
+LIBRARY = {'lib.Ieee': ['of_bits', 'to_bits', 'eq']}
 
 
 def opened(repository):
@@ -210,13 +209,13 @@ def opened(repository):
             text = open(os.path.join(specs, name + '.antt')).read()
             found = re.findall(r'^ *unfoldable (?:abbrev )?pub (\S+)', text, re.M)
             if found:
-                modules[f'Rattle·{layer}.specs.{name}'] = found
+                modules[f'Rattle.{layer}.specs.{name}'] = found
     for module, found in modules.items():
         parts = []
         for name in found:
-            # all but the calls' own words get a numbered name here, since modules share some
-            plain = name in ('encode', 'start', 'update', 'hostFocus') or '_' in name
-            names.append(name if plain else f'{name}·{len(names)}')
+            # all but the calls' own words and signs get a numbered name here, since modules share some
+            plain = name in ('encode', 'start', 'update', 'host_focus') or '◌' in name
+            names.append(name if plain else f'{name}_u{len(names)}')
             parts.append(name if plain else f'{name} as {names[-1]}')
         uses.append(f"use {module}.{{{', '.join(parts)}}}")
     return uses, names
@@ -229,28 +228,27 @@ def body_field(repository):
 
 
 HEAD = ['-- Calls and their answers, made by the driver.',
-        'use mathlib.Core.Bool.{Bool, true, false}',
-        'use mathlib.Core.List.{List, [], _∷_}',
-        'use mathlib.Core.Option.{Option, none, some}',
-        'use mathlib.Core.Path.{_≡_, refl}',
-        'use Rattle·state.specs.State.{State}',
-        'use Rattle·update.specs.Calls.{Answer}']
+        'use Rattle.std.specs.Prelude.{Bool, true, false, List, [], ◌∷◌, ◌≡◌}',
+        'use Rattle.std.proofs.Math.Option.{Option, none, some}',
+        'use mathlib.Core.Path.{refl}',
+        'use Rattle.state.specs.State.{State}',
+        'use Rattle.update.specs.Calls.{Answer}']
 
 
 def write_crate(scratch, calls, group, per_file):
     """Writes the calls, (index, JSON) each, as groups; answers, by file name, the line of each group's declaration and its calls."""
     crate = os.path.join(scratch, 'crates', CRATE)
     shutil.rmtree(crate, ignore_errors=True)
-    os.makedirs(os.path.join(crate, 'specs'))
-    os.makedirs(os.path.join(crate, 'src'))
+    for part in ('specs', 'proofs', 'src'):
+        os.makedirs(os.path.join(crate, part))
     with open(os.path.join(crate, 'src', 'lib.rt'), 'w') as f:
-        f.write('// Calls and their answers: see specs/.\n')
+        f.write('// Calls and their answers: see proofs/.\n#![tactic(auto)]\n')
     with open(os.path.join(crate, 'specs', 'Words.antt'), 'w') as f:
         f.write(WORDS.replace('BODY', body_field(scratch)))
     uses, names = opened(scratch)
-    head = HEAD + uses + [f"use Rattle·{CRATE}·specs.specs.Words.{{{', '.join(WORD_NAMES)}}}", '']
+    head = HEAD + uses + [f"use Rattle.{CRATE}.specs.Words.{{{', '.join(WORD_NAMES)}}}", '']
     groups = [calls[k:k + group] for k in range(0, len(calls), group)]
-    files, modules = {}, ['Words']
+    files = {}
     for f in range(0, len(groups), per_file):
         name = f'Calls{f // per_file}'
         lines, places = list(head), []
@@ -261,17 +259,17 @@ def write_crate(scratch, calls, group, per_file):
                 constants, got, answer = equation(k, j)
                 lines += ''.join(c + '\n' for c in constants).splitlines()
                 sides.append((got, answer))
-            lines += [f'pub group-{f + g} :']
+            lines += [f'pub group_{f + g} :']
             lines += ['    ' + got + ' ∷' for got, _ in sides] + ['    []', '    ≡']
             lines += ['    ' + answer + ' ∷' for _, answer in sides] + ['    []']
-            lines += ['unfolding ' + ' '.join(names), f'group-{f + g} = refl', '']
+            lines += ['unfolding ' + ' '.join(names), f'group_{f + g} = refl', '']
             places.append((first, len(lines), members))
-        with open(os.path.join(crate, 'specs', name + '.antt'), 'w') as out:
+        with open(os.path.join(crate, 'proofs', name + '.antt'), 'w') as out:
             out.write('\n'.join(lines) + '\n')
         files[name + '.antt'] = places
-        modules.append(name)
-    with open(os.path.join(crate, 'specs', 'Lib.antt'), 'w') as f:
-        f.write(''.join(f'pub mod {m}\n' for m in modules))
+    for part, modules in (('specs', ['Words']), ('proofs', [name.removesuffix('.antt') for name in files])):
+        with open(os.path.join(crate, part, 'Lib.antt'), 'w') as f:
+            f.write(''.join(f'pub mod {m}\n' for m in modules))
     return files
 
 
@@ -279,9 +277,8 @@ def write_crate(scratch, calls, group, per_file):
 
 def checked(scratch):
     """Runs `rt check`: whether the crate of the calls is proved, and what was printed."""
-    run = subprocess.run(['rt', 'check', CRATE], cwd=scratch, env=dict(os.environ, RT_CUT='0'),
-                         stdout=subprocess.PIPE, stderr=subprocess.STDOUT, text=True)
-    return run.returncode == 0 and f'rt: {CRATE} proved' in run.stdout, run.stdout
+    run = subprocess.run(['rt', 'check'], cwd=os.path.join(scratch, 'crates', CRATE), stdout=subprocess.PIPE, stderr=subprocess.STDOUT, text=True)
+    return run.returncode == 0 and re.search('^logic=proved ', run.stdout, re.M) is not None, run.stdout
 
 
 def blamed(printed, files):
@@ -341,7 +338,7 @@ def main():
 
     scratch = tempfile.mkdtemp(prefix='oracle-calls-')
     try:
-        shutil.copytree(REPOSITORY, scratch, dirs_exist_ok=True, ignore=shutil.ignore_patterns('target', '.git', 'oracle'))
+        shutil.copytree(REPOSITORY, scratch, dirs_exist_ok=True, ignore=shutil.ignore_patterns('target', 'out', '.git', 'oracle'))
         with open(os.path.join(scratch, 'crates.txt'), 'a') as f:
             f.write(f"\n{CRATE}: {' '.join(needed('update'))}\n")
         if wrong_calls(scratch, [planted(calls)], 1, 1) == []:

@@ -7,7 +7,7 @@ REPOSITORY = os.path.dirname(os.path.dirname(os.path.abspath(__file__)))
 def needed(crate):
     """The crates of the repository that a crate needs, each after those that it needs itself, and the crate last."""
     with open(os.path.join(REPOSITORY, 'crates.txt'), encoding='utf-8') as f:
-        direct = {name: deps.split() for name, deps in re.findall(r'^(\w+):(.*)$', f.read(), re.M)}
+        direct = {name: deps.split() for name, deps in re.findall(r'^(\w+)(?: staticlib)?:(.*)$', f.read(), re.M)}
     found = []
 
     def visit(name):

@@ -1,7 +1,7 @@
 #!/usr/bin/env python3
 """round_trip.py [COUNT]: records at random, each decoded by batchcheck and read again; every byte must come back.
 
-It runs target/bin/batchcheck, in a folder of its own, and says how many records came back. All are read in one run, with a file of bytes that
+It runs crates/batchcheck/out/batchcheck, in a folder of its own, and says how many records came back. All are read in one run, with a file of bytes that
 are no record before each, so that nothing of one call may stay in the next.
 """
 import os
@@ -11,7 +11,7 @@ import subprocess
 import sys
 import tempfile
 
-PROGRAM = os.path.join(os.path.dirname(os.path.abspath(__file__)), "..", "target", "bin", "batchcheck")
+PROGRAM = os.path.join(os.path.dirname(os.path.abspath(__file__)), "..", "crates", "batchcheck", "out", "batchcheck")
 FLAGS = {"hidden": 1, "clips": 2, "active": 4, "graft": 8, "bounds": 16, "transform": 32}
 
 

@@ -88,7 +88,7 @@ pub struct PlainStep {
 // The next sibling of a kept walk in the state given, or none at the end. The walk moves on with an answer alone.
 #[unsafe(no_mangle)]
 pub extern "C" fn cartgravel_next(walk: &mut Walk, state: &State) -> FoundId
-    ensures { plain_step (next_of (view state.now) walk.entry.now) ≡ record { walk = walk.exit.now; answer = result } }
+    ensures { plain_step (next_of (view state.now) walk.old) ≡ record { walk = walk.new; answer = result } }
 {
     let s = moved_on(state, *walk);
     *walk = s.walk;

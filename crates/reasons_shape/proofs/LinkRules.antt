@@ -222,7 +222,7 @@ module _ {s : List ℕ} {i n : ℕ} (g : Agreeing s i) (slots : n ≡ slots_of s
 
     pub agreeing_more : r ≡ true → Agreeing s (i + 1)
     unfolding wrong_link_from
-    agreeing_more h = record { rest = rest_more g.rest (nodes_at s i (rw slots at l)) (rw (disagrees_is ∙ h)) }
+    agreeing_more h = record { rest = rest_more g.rest (nodes_at s i (rw slots at l)) (rw (disagrees_is ∙ ap not h)) }
 
     pub agreeing_fails : {k : ℕ} {w : Why} → r ≡ false → {y by also : FoundNode} → y ≡ node.At (id_in s i) → found_of_lem by ≡ parent_of (link_of own)
         → found_of_lem also ≡ parent_of (link_of met.first) → w ≡ node_why k 7 i y by also
@@ -230,4 +230,4 @@ module _ {s : List ℕ} {i n : ℕ} (g : Agreeing s i) (slots : n ≡ slots_of s
     unfolding why_broken wrong_link_from node_in found
     agreeing_fails {k} h here a b e =
         e ∙ rw (here, found_of a, found_of b, is, ← met_is)
-        (ap (why_broken k) (rw (nodes_at s i (rw slots at l), disagrees_is ∙ h) at g.rest.same))
+        (ap (why_broken k) (rw (nodes_at s i (rw slots at l), disagrees_is ∙ ap not h) at g.rest.same))

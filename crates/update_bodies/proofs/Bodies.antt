@@ -111,7 +111,7 @@ module _ (s : List ℕ) (i : ℕ) where
 -- ## The data of a code
 
 -- the elements of an array in memory are words
-words_fit : (ws : List ℕ) (us : List Val) → shadow (each ℕ (UInt w64).own_val (map (λ w. w) ws) us) → are_words ws ≡ true
+words_fit : (ws : List ℕ) (us : List Val) → shadow (each ℕ (UInt w64).own_val ws us) → are_words ws ≡ true
 words_fit [] us h = refl
 words_fit (w ∷ ws) [] h = absurd h
 words_fit (w ∷ ws) (u ∷ us) h = joined (lt-ltb w (2 ^ 64) h.0.1) (words_fit ws us h.1)

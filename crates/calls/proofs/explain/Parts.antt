@@ -111,12 +111,12 @@ module _ (bytes : List ℕ) {o : layout.Offence} (is : o ≡ plain_offence (reco
   module _ (z : o.rule ≡ 0) {d : Bool} (rooted : d ≡ is_some (batch_of bytes).root) where
     pub start_unrooted : {r : Why} → d ≡ false → r ≡ of_tree 3 ROOT → r ≡ why_for (first_reason (start_reasons bytes))
     unfolding start_reasons why_for why_of
-    start_unrooted l e = rw (offence_none z, ap not (sym rooted) ∙ l) e
+    start_unrooted l e = rw (offence_none z, ap not (sym rooted ∙ l)) e
 
     module _ (l : d ≡ true) {t : TreeId} (tree : t ≡ (batch_of bytes).tree) {q : Bool} (root : q ≡ same_tree t ROOT) where
       pub start_pane : {r : Why} → q ≡ false → r ≡ of_tree 4 t → r ≡ why_for (first_reason (start_reasons bytes))
       unfolding start_reasons why_for why_of
-      start_pane k e = rw (offence_none z, ap not (sym rooted) ∙ l, ← tree, ap not (sym root) ∙ k) e
+      start_pane k e = rw (offence_none z, ap not (sym rooted ∙ l), ← tree, ap not (sym root ∙ k)) e
 
       pub start_again : {r : Why} → q ≡ true → AgainIs bytes (record { 0 = 0 }) r → r ≡ why_for (first_reason (start_reasons bytes))
       unfolding start_reasons without_tree_data
@@ -124,7 +124,7 @@ module _ (bytes : List ℕ) {o : layout.Offence} (is : o ≡ plain_offence (reco
           let is_root_lem : same_tree (batch_of bytes).tree ROOT ≡ true = rw (← tree) (sym root ∙ k) in
           let number : record { 0 = 0 } ≡ tree_number (seed (batch_of bytes)) (without_tree_data (batch_of bytes)) = seed_number (batch_of bytes) is_root_lem in
           let again = e.says (seed (batch_of bytes)) (without_tree_data (batch_of bytes)) refl number in
-          rw (offence_none z, ap not (sym rooted) ∙ l, is_root_lem) (again ∙ ap why_for (sym (alone _)))
+          rw (offence_none z, ap not (sym rooted ∙ l), is_root_lem) (again ∙ ap why_for (sym (alone _)))
 
 pub first_unsound : (bytes : List ℕ) (s : Forest) {t : Bool} {r : Why} → t ≡ sound s → t ≡ false → r ≡ why_broken 1 (broken_state s) → r ≡ why_for (first_reason (first_reasons s bytes))
 unfolding first_reasons why_for why_of

@@ -8,7 +8,7 @@ use mathlib.Core.Path.{◌≡◌, refl, sym, ap, ◌∙◌}
 use Prim.Native.Nat.{ℕ, zero, suc}
 use lib.ListN.{length, take, drop}
 use Rattle.base.specs.Tests.{if◌then◌else◌, any}
-use Rattle.base.proofs.Tests.{or-false}
+use Rattle.base.proofs.Tests.{or_false}
 use Rattle.ids.specs.declared.FullNodeId.{FullNodeId}
 use Rattle.state.specs.State.{ParentAndIndex, Forest, present, link_at}
 use Rattle.state.proofs.Sound.{Shape}
@@ -34,7 +34,7 @@ Clear f x = any (hidden_at f) (ancestors f x) ≡ false
 -- nor the node itself
 pub clear_unhidden : (f : Forest) (x : FullNodeId) → is_hidden f x ≡ false → (hidden_at f x ≡ false) × Clear f x
 unfolding is_hidden
-clear_unhidden f x e = or-false (hidden_at f x) e
+clear_unhidden f x e = or_false (hidden_at f x) e
 
 -- by the flag that is asked: focused, then hidden, then transparent
 unfoldable pub by_flag : Seen → FullNodeId → Bool → FilterResult
@@ -168,10 +168,10 @@ module _ (v : Seen) where
     -- an ancestor has some of the ancestors alone
     clear_above : (up : List FullNodeId) (x p : FullNodeId) → ancestors f x ≡ up → any (hidden_at f) up ≡ false → Memᴰ p up → Clear f p
     clear_above [] x p e c i = absurd (Memᴰ.not-nil i)
-    clear_above (q ∷ up) x p e c i = go i (clear_above up q p (ancestors_cons f h x q up e).above (or-false (hidden_at f q) c).1)
+    clear_above (q ∷ up) x p e c i = go i (clear_above up q p (ancestors_cons f h x q up e).above (or_false (hidden_at f q) c).1)
       where
         go : Memᴰ p (q ∷ up) → (Memᴰ p up → Clear f p) → Clear f p
-        go (Memᴰ.head w) k = rw (w, (ancestors_cons f h x q up e).above) (or-false (hidden_at f q) c).1
+        go (Memᴰ.head w) k = rw (w, (ancestors_cons f h x q up e).above) (or_false (hidden_at f q) c).1
         go (Memᴰ.tail m) k = k m
 
     clear_ahead : (side : Side) (level : ℕ) (x y : FullNodeId) → Clear f x → Memᴰ y (ahead side f level x)

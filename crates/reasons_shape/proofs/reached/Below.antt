@@ -24,7 +24,7 @@ use Rattle.reasons_shape.specs.Reached.{Few, below_at}
 pub below_end : (s : List ℕ) (p : ℕ) → Few s → p < slots_of s → drop 256 (below_in s p) ≡ []
 unfolding KidSays
 below_end s p few l =
-    by_test (bit 8 (shape_in s p).flags) (λ t. kid_past s p 256 refl refl (ap not t) (omega arith)) (λ t. kid_end s p 256 refl refl (ap not t) (few p l))
+    by_test (bit 8 (shape_in s p).flags) (λ t. kid_past s p 256 refl refl t (omega arith)) (λ t. kid_end s p 256 refl refl t (few p l))
 
 -- the places before j have been looked at
 pub record Looking (s : List ℕ) (x : FullNodeId) (p j : ℕ) : Type 0 where

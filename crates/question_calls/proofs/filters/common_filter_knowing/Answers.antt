@@ -11,7 +11,7 @@ returns-then-is_transparent-hidden_at c = c.common_filter_or_hidden.ensures
 
 pub common_filter_told-requires : goal.common_filter_told-requires
 common_filter_told-requires c =
-    let sound = c.requires.0 in
+    let sound = c.requires.sound in
     let l = rw c.slots.ensures at c.if-slots-i.false in
     record {
       is_sound = sound;
@@ -21,4 +21,4 @@ common_filter_told-requires c =
     }
 
 pub returns : goal.returns
-returns = (λ c sound there. c.common-filter-told.ensures)
+returns c = λ sound there. c.common_filter_told.ensures

@@ -10,7 +10,7 @@ returns-then-slots-p c = λ sound there. dropped_top _ _ sound _ there _ (c.pare
 
 pub returns-then-p-known : goal.returns-then-p-known
 returns-then-p-known c = λ sound there.
-    dropped_known _ _ sound _ there _ (c.parent_slot-p.ensures sound there) _ c.requires.1 c.if-p-known.true
+    dropped_known _ _ sound _ there _ (c.parent_slot-p.ensures sound there) _ c.requires.knows c.if-p-known.true
     (rw c.slots.ensures at c.if-slots-p.false)
 
 pub returns : goal.returns

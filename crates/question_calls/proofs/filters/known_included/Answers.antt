@@ -8,7 +8,7 @@ pub returns-then-is_plain : goal.returns-then-is_plain
 returns-then-is_plain = (λ c k _. c.nothing_known.ensures k)
 
 pub returns-then-is_root : goal.returns-then-is_root
-returns-then-is_root = (λ c k _. c.nothing-known2.ensures k)
+returns-then-is_root = (λ c k _. c.nothing_known-then-is_root.ensures k)
 
 pub returns : goal.returns
 returns c = λ k included l.

@@ -16,11 +16,10 @@ known_at-known-requires c = (c.asked-asked.ensures.stands (omega arith)).is_soun
 
 pub filtered_child-requires : goal.filtered_child-requires
 filtered_child-requires c =
-    let sound = (c.asked-asked.ensures.stands (omega arith)).is_sound in
-    (sound, c.known_at-known.ensures)
+    let sound = (c.asked-asked.ensures.stands (omega arith)).is_sound in record { sound = sound; knows = c.known_at-known.ensures }
 
 pub returns : goal.returns
 returns c =
     let q = c.asked-asked.ensures in
     rw (← c.focused_slot-focused.ensures (q.stands (omega arith)).is_sound)
-    (node_asked _ _ _ q (omega arith) (filtered_child_on _ (filter_of _ _)) _ _ c.filtered_child.ensures.0 c.found.ensures)
+    (node_asked _ _ _ q (omega arith) (filtered_child_on _ (filter_of _ _)) _ _ c.filtered_child.ensures.of_slot c.found.ensures)

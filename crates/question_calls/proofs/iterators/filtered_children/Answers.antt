@@ -15,17 +15,15 @@ known_at-known-requires c = (c.asked-asked.ensures.stands (omega arith)).is_soun
 
 pub shown_child-place-requires : goal.shown_child-place-requires
 shown_child-place-requires c =
-    let sound = (c.asked-asked.ensures.stands (omega arith)).is_sound in
-    (sound, c.known_at-known.ensures)
+    let sound = (c.asked-asked.ensures.stands (omega arith)).is_sound in record { sound = sound; knows = c.known_at-known.ensures }
 
 pub list_from-requires : goal.list_from-requires
 list_from-requires c =
-    let sound = (c.asked-asked.ensures.stands (omega arith)).is_sound in
-    (sound, c.known_at-known.ensures)
+    let sound = (c.asked-asked.ensures.stands (omega arith)).is_sound in record { sound = sound; knows = c.known_at-known.ensures }
 
 pub returns : goal.returns
 returns c =
     let q = c.asked-asked.ensures in
     rw (← c.focused_slot-focused.ensures (q.stands (omega arith)).is_sound)
     (list_asked _ _ _ q (omega arith) (filtered_children (filter_of _ _)) _ _ _ _
-    (λ sound there. children_listed (filter_of _ _) _ _ _ _ (c.shown_child-place.ensures.0 sound there)) c.list_from.ensures)
+    (λ sound there. children_listed (filter_of _ _) _ _ _ _ (c.shown_child-place.ensures.of_slot sound there)) c.list_from.ensures)

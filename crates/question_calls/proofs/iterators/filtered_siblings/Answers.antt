@@ -15,12 +15,11 @@ shown_sibling-start-requires c = (c.asked-asked.ensures.stands (omega arith)).is
 
 pub list_from-requires : goal.list_from-requires
 list_from-requires c =
-    let sound = (c.asked-asked.ensures.stands (omega arith)).is_sound in
-    (sound, c.shown_sibling-start.ensures.1)
+    let sound = (c.asked-asked.ensures.stands (omega arith)).is_sound in record { sound = sound; knows = c.shown_sibling-start.ensures.knows }
 
 pub returns : goal.returns
 returns c =
     let q = c.asked-asked.ensures in
     rw (← c.focused_slot-focused.ensures (q.stands (omega arith)).is_sound)
     (list_asked _ _ _ q (omega arith) (filtered_siblings (filter_of _ _) _) _ _ _ _
-    c.shown_sibling-start.ensures.0 c.list_from.ensures)
+    c.shown_sibling-start.ensures.of_slot c.list_from.ensures)

@@ -7,7 +7,7 @@ use Rattle.question_calls.proofs.iterators.Lists.{puts_nothing, puts_collected}
 use Rattle.question_calls.proofs.iterators.list_from.Goals as goal
 
 pub returns-then-slots-start : goal.returns-then-slots-start
-returns-then-slots-start c = puts_nothing _ _ (listed_nil _ _ c.requires.0 (filter_of _ _) _ (rw c.slots.ensures at c.if-slots-start.true))
+returns-then-slots-start c = puts_nothing _ _ (listed_nil _ _ c.requires.sound (filter_of _ _) _ (rw c.slots.ensures at c.if-slots-start.true))
 
 pub put-requires : goal.put-requires
 put-requires c = omega (arith, c.collect-n.ensures.few)

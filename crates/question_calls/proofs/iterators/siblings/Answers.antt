@@ -16,7 +16,7 @@ pub returns-then-number-ne0 : goal.returns-then-number-ne0
 returns-then-number-ne0 c = rw c.no_list.ensures (list_refused _ _ _ _ _ _ c.asked-asked.ensures.number_is c.if-number-ne0.true)
 
 pub siblings_run-run-requires : goal.siblings_run-run-requires
-siblings_run-run-requires c = let at = c.asked-asked.ensures.stands c.if-number-ne0.false in (at.is_sound, at.within)
+siblings_run-run-requires c = let at = c.asked-asked.ensures.stands c.if-number-ne0.false in record { sound = at.is_sound; i_bound = at.within }
 
 pub returns-then-out-n : goal.returns-then-out-n
 returns-then-out-n c =
@@ -30,7 +30,7 @@ returns-then-out-n c =
 pub put_siblings-requires : goal.put_siblings-requires
 put_siblings-requires c =
     let at = c.asked-asked.ensures.stands c.if-number-ne0.false in
-    (at.is_sound, (at.within, omega (arith, c.siblings_run-run.ensures.count_is, c.if-out-n.false)))
+    record { sound = at.is_sound; i_bound = at.within; i_in_bounds = omega (arith, c.siblings_run-run.ensures.count_is, c.if-out-n.false) }
 
 pub returns : goal.returns
 returns c =

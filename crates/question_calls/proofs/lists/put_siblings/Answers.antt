@@ -19,14 +19,14 @@ loop-k-init c =
     (omega arith, refl, c.siblings_run-run.ensures, collected_none (aside a.state.now a.side a.i) a.out.now)
 
 pub sibling_at-requires : goal.sibling_at-requires
-sibling_at-requires c = (c.requires.0, c.loop-k.invariant.2.stands _ c.loop-k-test.true)
+sibling_at-requires c = record { sound = c.requires.sound; in_run = c.loop-k.invariant.2.stands _ c.loop-k-test.true }
 
 pub store-requires : goal.store-requires
 store-requires c =
     let l = c.loop-k in
     let a = c.args in
     let run = l.invariant.2 in
-    collected_room (aside a.state.now a.side a.i) a.out.now (omega (arith, run.count_is, run.few)) c.requires.1.1 l.k l.out l.invariant.3 _
+    collected_room (aside a.state.now a.side a.i) a.out.now (omega (arith, run.count_is, run.few)) c.requires.i_in_bounds l.k l.out l.invariant.3 _
     (run.each l.k c.loop-k-test.true)
 
 pub loop-k-preserved : goal.loop-k-preserved
@@ -39,7 +39,7 @@ loop-k-preserved c =
       refl,
       run,
       rw (c.store.ensures, c.sibling_at.ensures)
-          (collected_more (aside a.state.now a.side a.i) a.out.now (omega (arith, run.count_is, run.few)) c.requires.1.1 l.k l.out l.invariant.3 _
+          (collected_more (aside a.state.now a.side a.i) a.out.now (omega (arith, run.count_is, run.few)) c.requires.i_in_bounds l.k l.out l.invariant.3 _
           (run.each l.k test)),
     )
 
@@ -48,12 +48,12 @@ shape_of-out c =
     let l = c.loop-k in
     let a = c.args in
     let run = l.invariant.2 in
-    collected_length (aside a.state.now a.side a.i) a.out.now (omega (arith, run.count_is, run.few)) c.requires.1.1 l.k l.out l.invariant.3
+    collected_length (aside a.state.now a.side a.i) a.out.now (omega (arith, run.count_is, run.few)) c.requires.i_in_bounds l.k l.out l.invariant.3
 
 pub returns : goal.returns
 returns c =
     let l = c.loop-k in
     let a = c.args in
     let run = l.invariant.2 in
-    (collected_all (aside a.state.now a.side a.i) a.out.now (omega (arith, run.count_is, run.few)) c.requires.1.1 l.k l.out l.invariant.3
+    (collected_all (aside a.state.now a.side a.i) a.out.now (omega (arith, run.count_is, run.few)) c.requires.i_in_bounds l.k l.out l.invariant.3
     (omega (arith, run.count_is, c.loop-k-test.false, l.invariant.1))).words_are

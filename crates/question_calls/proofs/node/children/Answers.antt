@@ -29,8 +29,7 @@ returns-then-out-length c =
 pub put_children-requires : goal.put_children-requires
 put_children-requires c =
     let a = c.args in
-    let at = c.asked-node.ensures.stands c.if-node-ne0.false in
-    (asked_here a.state.now a.id _ at, (c.child_count-length.ensures at.is_sound at.within, omega (arith, c.if-out-length.false)))
+    let at = c.asked-node.ensures.stands c.if-node-ne0.false in record { node_at = asked_here a.state.now a.id _ at; n_value = (c.child_count-length.ensures at.is_sound at.within, omega (arith, c.if-out-length.false)) }
 
 pub returns : goal.returns
 returns c =

@@ -12,7 +12,7 @@ use Rattle.question_calls.proofs.own.put_children.Goals as goal
 
 pub loop-k-init : goal.loop-k-init
 loop-k-init c =
-    (omega arith, c.requires.1.0, c.requires.1.1, sym (ids_none (child_ids (view c.args.state.now).forest (id_in c.args.state.now c.args.i)) c.args.out.now), refl)
+    (omega arith, c.requires.n_value.0, c.requires.n_value.1, sym (ids_none (child_ids (view c.args.state.now).forest (id_in c.args.state.now c.args.i)) c.args.out.now), refl)
 
 pub overflow_mul-at : goal.overflow_mul-at
 overflow_mul-at c = omega arith
@@ -45,7 +45,7 @@ pub loop-k-preserved : goal.loop-k-preserved
 loop-k-preserved c =
     let l = c.loop-k in
     let a = c.args in
-    let at = c.requires.0 in
+    let at = c.requires.node_at in
     let below : l.k < length (child_ids (view a.state.now).forest (id_in a.state.now a.i)) = omega (arith, l.invariant.1) in (
       omega arith,
       l.invariant.1,

@@ -29,29 +29,29 @@ pub shape_of-ids-then-n-i : goal.shape_of-ids-then-n-i
 shape_of-ids-then-n-i c =
     let l = c.loop-filter in
     let a = c.args in
-    let few = list_few _ _ c.requires.0 (filter_of _ _) a.start in
-    collected_length (list a.state.now a.focused a.filter a.side a.start) a.ids.now few (omega (arith, few, c.requires.1.1))
+    let few = list_few _ _ c.requires.sound (filter_of _ _) a.start in
+    collected_length (list a.state.now a.focused a.filter a.side a.start) a.ids.now few (omega (arith, few, c.requires.in_bounds))
     l.k l.ids l.invariant.1
 
 pub returns-then-n-i : goal.returns-then-n-i
 returns-then-n-i c =
     let l = c.loop-filter in
     let a = c.args in
-    let few = list_few _ _ c.requires.0 (filter_of _ _) a.start in
+    let few = list_few _ _ c.requires.sound (filter_of _ _) a.start in
     let all = list a.state.now a.focused a.filter a.side a.start in
-    let done = ap length (l.invariant.2 ∙ listed_nil _ _ c.requires.0 (filter_of _ _) l.here (rw l.invariant.0 at c.if-n-i.true)) in
-    collected_all all a.ids.now few (omega (arith, few, c.requires.1.1)) l.k l.ids l.invariant.1
+    let done = ap length (l.invariant.2 ∙ listed_nil _ _ c.requires.sound (filter_of _ _) l.here (rw l.invariant.0 at c.if-n-i.true)) in
+    collected_all all a.ids.now few (omega (arith, few, c.requires.in_bounds)) l.k l.ids l.invariant.1
     (omega (arith, done, length-drop l.k all))
 
 pub store-requires : goal.store-requires
 store-requires c =
     let l = c.loop-filter in
     let a = c.args in
-    let few = list_few _ _ c.requires.0 (filter_of _ _) a.start in
+    let few = list_few _ _ c.requires.sound (filter_of _ _) a.start in
     let all = list a.state.now a.focused a.filter a.side a.start in
     let there = rw l.invariant.0 at c.if-n-i.false in
-    collected_room all a.ids.now few (omega (arith, few, c.requires.1.1)) l.k l.ids l.invariant.1 _
-    (at_some all l.k _ _ (l.invariant.2 ∙ listed_open _ _ c.requires.0 (filter_of _ _) l.here there)).0
+    collected_room all a.ids.now few (omega (arith, few, c.requires.in_bounds)) l.k l.ids l.invariant.1 _
+    (at_some all l.k _ _ (l.invariant.2 ∙ listed_open _ _ c.requires.sound (filter_of _ _) l.here there)).0
 
 pub overflow_add-k : goal.overflow_add-k
 overflow_add-k c = let l = c.loop-filter in omega (arith, l.invariant.1.few)
@@ -60,19 +60,19 @@ pub loop-filter-smaller : goal.loop-filter-smaller
 loop-filter-smaller c =
     let l = c.loop-filter in
     let there = rw l.invariant.0 at c.if-n-i.false in
-    omega (arith, ap length (listed_cons _ _ c.requires.0 (filter_of _ _) l.here _ there (c.shown_after-here.ensures c.requires.0 there)))
+    omega (arith, ap length (listed_cons _ _ c.requires.sound (filter_of _ _) l.here _ there (c.shown_after-here.ensures c.requires.sound there)))
 
 pub loop-filter-preserved : goal.loop-filter-preserved
 loop-filter-preserved c =
     let l = c.loop-filter in
     let a = c.args in
-    let few = list_few _ _ c.requires.0 (filter_of _ _) a.start in
+    let few = list_few _ _ c.requires.sound (filter_of _ _) a.start in
     let all = list a.state.now a.focused a.filter a.side a.start in
     let there = rw l.invariant.0 at c.if-n-i.false in
-    let next = listed_cons _ _ c.requires.0 (filter_of _ _) l.here _ there (c.shown_after-here.ensures c.requires.0 there) in
+    let next = listed_cons _ _ c.requires.sound (filter_of _ _) l.here _ there (c.shown_after-here.ensures c.requires.sound there) in
     let at = at_some all l.k _ _ (l.invariant.2 ∙ next) in (
       l.invariant.0,
       rw (c.store.ensures, c.id_at.ensures)
-          (collected_more all a.ids.now few (omega (arith, few, c.requires.1.1)) l.k l.ids l.invariant.1 _ at.0),
+          (collected_more all a.ids.now few (omega (arith, few, c.requires.in_bounds)) l.k l.ids l.invariant.1 _ at.0),
       ap (λ (k : ℕ). drop k all) (add-one l.k) ∙ at.1,
     )

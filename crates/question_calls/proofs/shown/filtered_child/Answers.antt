@@ -5,4 +5,4 @@ use borrow.Author.Rules.{rules}
 use Rattle.question_calls.proofs.shown.filtered_child.Goals as goal
 
 pub returns : goal.returns
-returns c = (λ sound there. child_found _ _ sound (filter_of _ _) _ _ (c.shown_child-first.ensures.0 sound there), c.shown_child-first.ensures.1)
+returns c = record { of_slot = λ sound there. child_found _ _ sound (filter_of _ _) _ _ (c.shown_child-first.ensures.of_slot sound there); included = c.shown_child-first.ensures.included }

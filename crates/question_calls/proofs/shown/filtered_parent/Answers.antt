@@ -6,4 +6,4 @@ use borrow.Author.Rules.{rules}
 use Rattle.question_calls.proofs.shown.filtered_parent.Goals as goal
 
 pub returns : goal.returns
-returns c = λ sound there. c.nearest-up.ensures.0 ∙ sym (parent_from (filter_of _ _) _ sound _ _ there (c.parent_slot-p.ensures sound there))
+returns c = λ sound there. c.nearest-up.ensures.included_value ∙ sym (parent_from (filter_of _ _) _ sound _ _ there (c.parent_slot-p.ensures sound there))

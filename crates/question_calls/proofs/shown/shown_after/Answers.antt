@@ -5,4 +5,4 @@ use borrow.Author.Rules.{rules}
 use Rattle.question_calls.proofs.shown.shown_after.Goals as goal
 
 pub returns : goal.returns
-returns c = λ sound there. ap (flat_map _) (sym (c.after.ensures sound there)) ∙ c.shown_from.ensures.0
+returns c = λ sound there. ap (flat_map _) (sym (c.after.ensures sound there)) ∙ c.shown_from.ensures.lists

@@ -6,7 +6,4 @@ use borrow.Author.Rules.{rules}
 use Rattle.question_calls.proofs.shown.shown_child.Goals as goal
 
 pub returns : goal.returns
-returns c = (
-  λ sound there. ap (flat_map _) (sym (met_children _ _ sound _ _ there (c.first_child_slot-slot.ensures sound there))) ∙ c.shown_from.ensures.0,
-  c.shown_from.ensures.1,
-)
+returns c = record { of_slot = λ sound there. ap (flat_map _) (sym (met_children _ _ sound _ _ there (c.first_child_slot-slot.ensures sound there))) ∙ c.shown_from.ensures.lists; included = c.shown_from.ensures.included }

@@ -13,45 +13,32 @@ use Rattle.question_calls.proofs.shown.shown_sibling.Goals as goal
 
 pub returns-then-n-next : goal.returns-then-n-next
 returns-then-n-next c =
-    let n = c.slots-n.ensures in (
-      λ sound there.
+    let n = c.slots-n.ensures in record { of_slot = λ sound there.
           siblings_alone _ _ sound (filter_of _ _) _ _ (c.climb-up.ensures sound there) _ _ (c.after-next.ensures sound there) (rw n at c.if-n-next.true)
-          (omega (arith, n)),
-      c.nothing_known.ensures _,
-    )
+          (omega (arith, n)); knows = c.nothing_known.ensures _ }
 
 pub returns-then-n-parent : goal.returns-then-n-parent
 returns-then-n-parent c =
     let n = c.slots-n.ensures in
-    let near = c.nearest-near.ensures in (
-      λ sound there.
-          siblings_orphan _ _ sound (filter_of _ _) _ _ (c.climb-up.ensures sound there) _ near.0 _ (rw n at c.if-n-parent.true) (omega (arith, n)),
-      near.1,
-    )
+    let near = c.nearest-near.ensures in record { of_slot = λ sound there.
+          siblings_orphan _ _ sound (filter_of _ _) _ _ (c.climb-up.ensures sound there) _ near.included_value _ (rw n at c.if-n-parent.true) (omega (arith, n)); knows = near.knows }
 
 pub filtered_child-first-requires : goal.filtered_child-first-requires
 filtered_child-first-requires c =
-    let up = up_from c.args.state.now c.climb-up.result.slot in
-    (c.requires, c.known_included-told.ensures _ (λ l. first_is (filter_of _ _) up _ (sym c.nearest-near.ensures.0 ∙ slot_id_some _ _ l)))
+    let up = up_from c.args.state.now c.climb-up.result.slot in record { sound = c.requires; knows = c.known_included-told.ensures _ (λ l. first_is (filter_of _ _) up _ (sym c.nearest-near.ensures.included_value ∙ slot_id_some _ _ l)) }
 
 pub returns-then-n-first : goal.returns-then-n-first
 returns-then-n-first c =
     let n = c.slots-n.ensures in
     let near = c.nearest-near.ensures in
-    let up = rw n at c.if-n-parent.false in (
-      λ sound there.
-          siblings_childless _ _ sound (filter_of _ _) _ _ (c.climb-up.ensures sound there) _ near.0 _ up _ (c.filtered_child-first.ensures.0 sound up)
-          (rw n at c.if-n-first.true) (omega (arith, n)),
-      near.1,
-    )
+    let up = rw n at c.if-n-parent.false in record { of_slot = λ sound there.
+          siblings_childless _ _ sound (filter_of _ _) _ _ (c.climb-up.ensures sound there) _ near.included_value _ up _ (c.filtered_child-first.ensures.of_slot sound up)
+          (rw n at c.if-n-first.true) (omega (arith, n)); knows = near.knows }
 
 pub returns : goal.returns
 returns c =
     let n = c.slots-n.ensures in
     let near = c.nearest-near.ensures in
-    let up = rw n at c.if-n-parent.false in (
-      λ sound there.
-          siblings_listed _ _ sound (filter_of _ _) _ _ (c.climb-up.ensures sound there) _ near.0 _ up _ (c.filtered_child-first.ensures.0 sound up)
-          (rw n at c.if-n-first.false) (ap (flat_map _) (sym (c.after-next.ensures sound there)) ∙ c.shown_from-place.ensures.0),
-      near.1,
-    )
+    let up = rw n at c.if-n-parent.false in record { of_slot = λ sound there.
+          siblings_listed _ _ sound (filter_of _ _) _ _ (c.climb-up.ensures sound there) _ near.included_value _ up _ (c.filtered_child-first.ensures.of_slot sound up)
+          (rw n at c.if-n-first.false) (ap (flat_map _) (sym (c.after-next.ensures sound there)) ∙ c.shown_from-place.ensures.lists); knows = near.knows }

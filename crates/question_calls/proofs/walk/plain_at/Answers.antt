@@ -13,7 +13,7 @@ returns-then-run-k c = λ sound there.
     place_nothing (siblings a.side (view a.state.now).forest (id_in a.state.now a.i)) a.count (omega (arith, run.count_is, c.if-run-k.true))
 
 pub sibling_at-requires : goal.sibling_at-requires
-sibling_at-requires c = (c.requires.0, c.siblings_run-run.ensures.stands _ c.if-run-k.false)
+sibling_at-requires c = record { sound = c.requires.sound; in_run = c.siblings_run-run.ensures.stands _ c.if-run-k.false }
 
 pub returns : goal.returns
 returns c = λ sound there.

@@ -1,0 +1,8 @@
+-- `gone::replaced` meets its contract: the code is the definition's test. Assumes nothing.
+use Rattle.base.specs.Tests.{◌&&◌}
+use Rattle.calls.proofs.gone.Fates.{replaced_is}
+use borrow.Author.Rules.{rules}
+use Rattle.calls.proofs.gone.replaced.Goals as goal
+
+pub returns : goal.returns
+returns c = unfold ◌&&◌ in (replaced_is _ _ c.is_root.ensures)

@@ -1,0 +1,106 @@
+-- `reports::write_lists` meets its contract: the lists one after another, if there is room. Assumes nothing.
+use mathlib.Core.Path.{◌≡◌, refl}
+use Prim.Native.Nat.{ℕ, ◌+◌, ◌*◌, ◌≤◌}
+use lib.ListN.{length}
+use borrow.Author.Tests.{lt-leb, le-leb}
+use native.Mathlib.Omega.{arith}
+use Rattle.calls.specs.Layout.{FATES, CHANGED}
+use Rattle.calls.specs.Slice.{picked, changes_noted}
+use Rattle.calls.proofs.reports.Slice.{picked_count, lists_short, lists_slice_after}
+use borrow.Author.Rules.{rules}
+use Rattle.calls.proofs.reports.write_lists.Goals as goal
+
+-- there is room for all that is picked, where there is for the counts
+fits : {p q r s a b d e n : ℕ} → p ≡ a → q ≡ b → r ≡ d → s ≡ e → 2 * (p + q + r + s) ≤ n → 2 * (a + b + d + e) ≤ n
+fits i j k l t = rw (← i, ← j, ← k, ← l) t
+
+pub returns-then-not-fit : goal.returns-then-not-fit
+returns-then-not-fit c =
+    let a = c.args in
+    let m = c.slots-m.ensures in
+    let n = c.slots-n.ensures in
+    lists_short (changes_noted a.state.now a.notes.now a.next.now) a.changes.now _
+    (picked_count 1 a.notes.now CHANGED a.next.now _ _ c.count_of-added.ensures m)
+    (picked_count 2 a.notes.now CHANGED a.next.now _ _ c.count_of-updated.ensures m)
+    (picked_count 1 a.notes.now FATES a.state.now _ _ c.count_of-removed.ensures n)
+    (picked_count 4 a.notes.now CHANGED a.next.now _ _ c.count_of-relinked.ensures m)
+    refl refl (lt-leb _ _ c.if-not-fit.true)
+
+pub write_list-from_updated-requires : goal.write_list-from_updated-requires
+write_list-from_updated-requires c =
+    let a = c.args in
+    let m = c.slots-m.ensures in
+    let n = c.slots-n.ensures in
+    omega (
+      arith,
+      fits
+          (picked_count 1 a.notes.now CHANGED a.next.now _ _ c.count_of-added.ensures m)
+          (picked_count 2 a.notes.now CHANGED a.next.now _ _ c.count_of-updated.ensures m)
+          (picked_count 1 a.notes.now FATES a.state.now _ _ c.count_of-removed.ensures n)
+          (picked_count 4 a.notes.now CHANGED a.next.now _ _ c.count_of-relinked.ensures m)
+          c.if-not-fit.false,
+    )
+
+pub write_list-from_removed-requires : goal.write_list-from_removed-requires
+write_list-from_removed-requires c =
+    let a = c.args in
+    let m = c.slots-m.ensures in
+    let n = c.slots-n.ensures in
+    omega (
+      arith,
+      fits
+          (picked_count 1 a.notes.now CHANGED a.next.now _ _ c.count_of-added.ensures m)
+          (picked_count 2 a.notes.now CHANGED a.next.now _ _ c.count_of-updated.ensures m)
+          (picked_count 1 a.notes.now FATES a.state.now _ _ c.count_of-removed.ensures n)
+          (picked_count 4 a.notes.now CHANGED a.next.now _ _ c.count_of-relinked.ensures m)
+          c.if-not-fit.false,
+      c.write_list-from_updated.ensures,
+    )
+
+pub write_list-from_relinked-requires : goal.write_list-from_relinked-requires
+write_list-from_relinked-requires c =
+    let a = c.args in
+    let m = c.slots-m.ensures in
+    let n = c.slots-n.ensures in
+    omega (
+      arith,
+      fits
+          (picked_count 1 a.notes.now CHANGED a.next.now _ _ c.count_of-added.ensures m)
+          (picked_count 2 a.notes.now CHANGED a.next.now _ _ c.count_of-updated.ensures m)
+          (picked_count 1 a.notes.now FATES a.state.now _ _ c.count_of-removed.ensures n)
+          (picked_count 4 a.notes.now CHANGED a.next.now _ _ c.count_of-relinked.ensures m)
+          c.if-not-fit.false,
+      c.write_list-from_updated.ensures,
+      c.write_list-from_removed.ensures,
+    )
+
+pub write_list-end-requires : goal.write_list-end-requires
+write_list-end-requires c =
+    let a = c.args in
+    let m = c.slots-m.ensures in
+    let n = c.slots-n.ensures in
+    omega (
+      arith,
+      fits
+          (picked_count 1 a.notes.now CHANGED a.next.now _ _ c.count_of-added.ensures m)
+          (picked_count 2 a.notes.now CHANGED a.next.now _ _ c.count_of-updated.ensures m)
+          (picked_count 1 a.notes.now FATES a.state.now _ _ c.count_of-removed.ensures n)
+          (picked_count 4 a.notes.now CHANGED a.next.now _ _ c.count_of-relinked.ensures m)
+          c.if-not-fit.false,
+      c.write_list-from_updated.ensures,
+      c.write_list-from_removed.ensures,
+      c.write_list-from_relinked.ensures,
+    )
+
+pub returns : goal.returns
+returns c =
+    let a = c.args in
+    let m = c.slots-m.ensures in
+    let n = c.slots-n.ensures in
+    lists_slice_after (changes_noted a.state.now a.notes.now a.next.now) a.changes.now _
+    (picked_count 1 a.notes.now CHANGED a.next.now _ _ c.count_of-added.ensures m)
+    (picked_count 2 a.notes.now CHANGED a.next.now _ _ c.count_of-updated.ensures m)
+    (picked_count 1 a.notes.now FATES a.state.now _ _ c.count_of-removed.ensures n)
+    (picked_count 4 a.notes.now CHANGED a.next.now _ _ c.count_of-relinked.ensures m)
+    refl refl (le-leb _ _ c.if-not-fit.false)
+    _ _ _ _ _ _ _ _ c.write_list-from_updated.ensures c.write_list-from_removed.ensures c.write_list-from_relinked.ensures c.write_list-end.ensures

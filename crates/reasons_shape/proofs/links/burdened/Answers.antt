@@ -1,0 +1,20 @@
+-- `reasons_shape::links::burdened` meets its contract: each graft passed is bare. Assumes nothing.
+use Prim.Native.Nat.{◌-◌}
+use Rattle.reasons_shape.proofs.LinkRules.{burden_says, bare_is}
+use Rattle.reasons_shape.proofs.Slots.{Seeking, seeking_start, seeking_more, spot_kept, spot_broken}
+use Rattle.state.specs.Sound.{graft_is_bare}
+use borrow.Author.Rules.{rules}
+use mathlib.Core.Bool.{not}
+use Rattle.reasons_shape.proofs.links.burdened.Goals as goal
+
+pub loop-i-init : goal.loop-i-init
+loop-i-init c = search (rules, seeking_start)
+
+pub returns-then-not-is_bare : goal.returns-then-not-is_bare
+returns-then-not-is_bare c = search (rules, spot_broken, bare_is, burden_says)
+
+pub loop-i-preserved : goal.loop-i-preserved
+loop-i-preserved c = search (rules, seeking_more, bare_is)
+
+pub returns : goal.returns
+returns c = search (rules, spot_kept)

@@ -1,0 +1,21 @@
+-- `reasons_shape::links::never_met` meets its contract: each node passed is met. Assumes nothing.
+use Prim.Native.Nat.{◌-◌}
+use Rattle.reasons.specs.Shape.{is_never_met}
+use Rattle.reasons_shape.specs.Reached.{reached_in}
+use Rattle.reasons_shape.proofs.LinkRules.{never_is, unmet_kept, unmet_broken}
+use Rattle.reasons_shape.proofs.Slots.{Seeking, seeking_start, seeking_more}
+use Rattle.state_array.specs.View.{view}
+use borrow.Author.Rules.{rules}
+use Rattle.reasons_shape.proofs.links.never_met.Goals as goal
+
+pub loop-i-init : goal.loop-i-init
+loop-i-init c = search (rules, seeking_start)
+
+pub returns-then-is_unmet : goal.returns-then-is_unmet
+returns-then-is_unmet c = search (rules, unmet_broken)
+
+pub loop-i-preserved : goal.loop-i-preserved
+loop-i-preserved c = search (rules, seeking_more, never_is)
+
+pub returns : goal.returns
+returns c = search (rules, unmet_kept)
