@@ -4,7 +4,7 @@
 usage: tools/respell.py [--check]     at the top of the repository
 
 The names are those that the .antt files below crates/ declare. A name in camel case or with a dash gets underscores. Where a definition and a lemma
-would have one name then (`rootOf` and `root-of`), the lemma gets `_lem` after it. Rust names, words in strings, names that the kit makes (`loop-i-kept`)
+that one file cites would have one name then (`rootOf` and `root-of`), the lemma gets `_lem` after it. Rust names, words in strings, names that the kit makes (`loop-i-kept`)
 and quoted text stay. In comments a name with a dash turns inside backquotes alone, since it may be plain words.
 Files of crates/ turn: code, definitions, proofs, edits. The table goes to docs/PORT-NAMES.tsv; --check prints it and writes nothing.
 """
@@ -47,24 +47,46 @@ def declared():
     return names
 
 
+# A record's field that would have a definition's name.
+HAND = {"is-root": "is_the_root"}
+
+# Lemmas that were in snake case already, and whose name a definition gets that the same file cites.
+LOCAL = {
+    "crates/reasons_shape/proofs/Chain.antt": ["found_of"],
+    "crates/reasons_shape/proofs/LinkRules.antt": ["found_of"],
+    "crates/state_array/proofs/Filled.antt": ["in_order"],
+    "crates/reasons_calls/proofs/Cases.antt": ["named_again", "no_place"],
+    "crates/book/proofs/Trees.antt": ["new_line"],
+    "crates/calls/proofs/explain/Explained.antt": ["no_way"],
+    "crates/calls/proofs/explain/Calls.antt": ["no_way"],
+    "crates/update_bodies/proofs/Same.antt": ["same_body"],
+    "crates/calls/proofs/gone/Fates.antt": ["same_index"],
+    "crates/calls/proofs/gone/Slots.antt": ["same_index"],
+}
+
+BARE = re.compile(r"(?<![.:\w'-])(?:[^\s(){}\[\].;,@\"«»:|`]+)")
+
+
 def table(names):
-    turned = {}
-    taken = set(names)
-    # Camel case first: the definitions. Then the dashes, mostly lemmas.
-    for dashed in (False, True):
-        for name in sorted(names):
-            if ("-" in name) != dashed or "◌" in name or not re.match(r"[A-Za-z]", name):
-                continue
-            if not dashed and not re.match(r"[a-z]", name):
-                continue
-            new = name.replace("-", "_") if name.upper() == name else snake(name)
-            if new == name:
-                continue
-            if new in taken:
-                new += "_lem"
-            assert new not in taken, (name, new)
-            taken.add(new)
-            turned[name] = new
+    """Old name to new. Names that fall together keep one name where no file cites both; else what stands in specs/ has it, and the lemma gets `_lem`."""
+    cited = [set(BARE.findall(re.sub(r"(--|//)[^\n]*", "", read(path)))) for path in texts((".antt", ".rt"))]
+    groups = {}
+    for name in names:
+        if "◌" in name or not re.match(r"[A-Za-z]", name) or name in HAND:
+            continue
+        if not re.match(r"[a-z]", name) and name.upper() != name:
+            continue
+        groups.setdefault(name.replace("-", "_") if name.upper() == name else snake(name), []).append(name)
+    turned = dict(HAND)
+    for new, group in groups.items():
+        defined = [name for name in group if any("/specs/" in path for path in names[name])]
+        kept = []
+        for name in sorted(group, key=lambda n: (n not in defined, "-" in n, n)):
+            together = any(name in text and other in text for text in cited for other in kept)
+            if not together:
+                kept.append(name)
+            if name != new:
+                turned[name] = new + "_lem" if together else new
     return turned
 
 
@@ -140,7 +162,9 @@ def main():
     for ending, turn in kinds:
         for path in texts((ending,)):
             old = read(path)
-            new = turn(old, lent(old, turned))
+            mine = {a: b for a, b in lent(old, turned).items()}
+            mine.update({name: name + "_lem" for name in LOCAL.get(path, [])})
+            new = turn(old, mine)
             if new != old:
                 with open(path, "w", encoding="utf-8") as f:
                     f.write(new)

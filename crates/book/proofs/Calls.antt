@@ -29,10 +29,10 @@ use Rattle.update.specs.Calls.{Answer, refused, accepted, judged, batch_rows, up
 use Rattle.update.proofs.Sound.{Passed, passed, outcome_sound}
 use Rattle.update.proofs.Reports.{has_added, has_removed}
 use Rattle.update.proofs.Calls.{update_of, update_is}
-use Rattle.book.specs.Book.{Entry, Book, enter_all, strike, lines_after, number_in, new_line_lem, enter_batch, Call, batch, host, answer_to, entered, trees_of_lines, entry_of_node}
+use Rattle.book.specs.Book.{Entry, Book, enter_all, strike, lines_after, number_in, new_line, enter_batch, Call, batch, host, answer_to, entered, trees_of_lines, entry_of_node}
 use Rattle.book.specs.Demand.{Counted}
-use Rattle.book.proofs.Nodes.{nodes_after_lem}
-use Rattle.book.proofs.Trees.{same_number, trees_after_lem}
+use Rattle.book.proofs.Nodes.{nodes_after}
+use Rattle.book.proofs.Trees.{same_number, trees_after}
 
 -- what is carried from call to call
 pub record Held (s : Forest) (k : Book) : Type 0 where
@@ -52,7 +52,7 @@ tree_exists s b p r e = go (same_tree b.tree ROOT) refl
     root_exists (some u) q = refl
 
     go : (c : Bool) → same_tree b.tree ROOT ≡ c → is_some (subtree_of s b.tree) ≡ true
-    go true q = ap (λ (t : TreeId). is_some (subtree_of s t)) (same_tree→≡ b.tree ROOT q) ∙ root_exists (subtree_of s ROOT) r.is_root_lem
+    go true q = ap (λ (t : TreeId). is_some (subtree_of s t)) (same_tree→≡ b.tree ROOT q) ∙ root_exists (subtree_of s ROOT) r.is_the_root
     go false q =
         not_false (subst (λ (c : Bool). not c && not (is_some (subtree_of s b.tree)) ≡ false) q
         (subst (λ (o : Option NodeId). not (is_some o) && not (same_tree b.tree ROOT) && not (is_some (subtree_of s b.tree)) ≡ false) e p.row7))
@@ -65,11 +65,11 @@ module _ (s : Forest) (b : Batch) where
     is_sound = outcome_sound s b (record { few_trees = parts.few_trees; fields = parts.fields }) f p;
     nodes = same_nodes;
     trees =
-        trees_after_lem s b k.trees trees_in (shape_parts (outcome s b) (not_false p.row19)).held
+        trees_after s b k.trees trees_in (shape_parts (outcome s b) (not_false p.row19)).held
         (tree_exists s b p (root_of_shape s (shape_parts s parts.shape)))
-        ∙ ap (λ (ks : List Entry). trees_of_lines ks 0 (lines_after b (tree_number s b).0 0 k.trees ++ new_line_lem b k.trees)) same_nodes
+        ∙ ap (λ (ks : List Entry). trees_of_lines ks 0 (lines_after b (tree_number s b).0 0 k.trees ++ new_line b k.trees)) same_nodes
         ∙ ap (λ (t : ℕ). trees_of_lines (strike (removed s (outcome s b)) (enter_all (record { 0 = number_in b k.trees }) b.nodes k.nodes)) 0
-        (lines_after b t 0 k.trees ++ new_line_lem b k.trees))
+        (lines_after b t 0 k.trees ++ new_line b k.trees))
         number_in_lem;
   }
     where
@@ -87,7 +87,7 @@ module _ (s : Forest) (b : Batch) where
 
       same_nodes : map entry_of_node (outcome s b).nodes ≡ strike (removed s (outcome s b)) (enter_all (record { 0 = number_in b k.trees }) b.nodes k.nodes)
       same_nodes =
-          nodes_after_lem s b
+          nodes_after s b
           ∙ ap (λ (t : ℕ). strike (removed s (outcome s b)) (enter_all (record { 0 = t }) b.nodes (map entry_of_node s.nodes))) number_in_lem
           ∙ ap (λ (ks : List Entry). strike (removed s (outcome s b)) (enter_all (record { 0 = number_in b k.trees }) b.nodes ks)) i.nodes
 
@@ -162,7 +162,7 @@ counted_accepted : (s : State) (b : Batch) (slice : List ℕ) (s' : State) → s
     → Counted s.forest (accepted s s' (changes_of s.forest b) slice)
 unfolding accepted changes_of changes_with
 counted_accepted s b slice s' q = record {
-  nodes_after_lem = λ x.
+  nodes_after = λ x.
       ap (λ (f : Forest). present f.nodes x) q
       ∙ both_ways (present s.forest.nodes x) (present (outcome s.forest b).nodes x)
       ∙ ap (λ (c : Bool). (present s.forest.nodes x || c) && not (present s.forest.nodes x && not (present (outcome s.forest b).nodes x)))

@@ -131,7 +131,7 @@ counted_code u bytes lent kept v r slice a accepted =
     let taken : removed_in r slice ≡ d.changes.removed =
     rw (a.reply_is, a.slice_is, l.slice_is, l.added_is, l.updated_is, l.removed_is) (slice_after_removed d.changes lent) in
     record {
-      nodes_after_lem = λ x. rw (a.state_is, joined, taken) (n.nodes_after_lem x);
+      nodes_after = λ x. rw (a.state_is, joined, taken) (n.nodes_after x);
       added_new = λ x e. n.added_new x (rw joined at e);
       removed_old = λ x e. n.removed_old x (rw taken at e);
     }

@@ -72,10 +72,10 @@ unfolding entry_of_node entry_of
 entries_keep q ns = map_keep entry_of_node (λ k. q k.id) ns
 
 -- the nodes are entered and the removed ones struck
-pub nodes_after_lem : (s : Forest) (b : Batch)
+pub nodes_after : (s : Forest) (b : Batch)
     → map entry_of_node (outcome s b).nodes ≡ strike (removed s (outcome s b)) (enter_all (tree_number s b) b.nodes (map entry_of_node s.nodes))
 unfolding outcome written strike
-nodes_after_lem s b =
+nodes_after s b =
     entries_relink s b (keep (λ n. not (gone s b n.id)) (written s b))
     ∙ entries_keep (λ x. not (gone s b x)) (written s b)
     ∙ ap (λ (ks : List Entry). keep (λ k. not (gone s b k.id)) ks) (entries_write_all (tree_number s b) b.nodes s.nodes)

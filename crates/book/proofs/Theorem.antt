@@ -27,7 +27,7 @@ use Rattle.update.specs.Calls.{Answer, refused, judged, seed, without_tree_data,
 use Rattle.update.proofs.Sound.{passed, outcome_sound}
 use Rattle.book.specs.Book.{Entry, Book, enter_all, strike, opened_by, opened, Call, answer_to, entered, is_entered, tree_of_line, trees_of_lines, entry_of_node}
 use Rattle.book.specs.Demand.{state_after, book_after, Agrees, Demand3}
-use Rattle.book.proofs.Nodes.{nodes_after_lem, entered_present}
+use Rattle.book.proofs.Nodes.{nodes_after, entered_present}
 use Rattle.book.proofs.Calls.{Held, leaves_call, counted_update}
 
 -- ## What is carried says all the sentences
@@ -43,8 +43,8 @@ agrees s k i =
       nodes_are_the_books = i.nodes;
       trees_are_the_books = i.trees;
       root = r.root;
-      is_root_lem = r.is_root_lem;
-      met_once_lem = d.once;
+      is_the_root = r.is_the_root;
+      met_once = d.once;
       met_only = d.only;
       met_all = d.whole;
       root_keeps_none = d.parentless;
@@ -53,7 +53,7 @@ agrees s k i =
       root_present = r.there;
       focus = f.focus;
       is_focus = f.effective;
-      focus_present_lem = f.there;
+      focus_present = f.there;
       focus_no_graft = f.no_graft;
       is_sound = i.is_sound;
     }
@@ -72,9 +72,9 @@ strike_none [] = refl
 strike_none (k ∷ ks) = ap {B = List Entry} (λ l. k ∷ l) (strike_none ks)
 
 module _ (b : Batch) (for-ROOT : b.tree ≡ ROOT) (r : NodeId) (has-root : b.root ≡ some r) where
-  first_number_lem : tree_number (seed b) (without_tree_data b) ≡ record { 0 = 0 }
+  first_number : tree_number (seed b) (without_tree_data b) ≡ record { 0 = 0 }
   unfolding tree_number seed without_tree_data same_tree ◌&&◌
-  first_number_lem = rw for-ROOT refl
+  first_number = rw for-ROOT refl
 
   first_trees : (outcome (seed b) (without_tree_data b)).trees ≡ record { id = ROOT; subtree = some (record { root = r; focus = b.focus }) } ∷ []
   unfolding outcome entries_after entry_after subtree_here new_entry known tree_number seed without_tree_data same_tree ◌&&◌
@@ -87,8 +87,8 @@ module _ (b : Batch) (for-ROOT : b.tree ≡ ROOT) (r : NodeId) (has-root : b.roo
   first_nodes : map entry_of_node (outcome (seed b) (without_tree_data b)).nodes ≡ (opened_by b).nodes
   unfolding opened_by seed without_tree_data
   first_nodes =
-      nodes_after_lem (seed b) (without_tree_data b)
-      ∙ ap (λ (t : TreeIndex). strike (removed (seed b) (outcome (seed b) (without_tree_data b))) (enter_all t b.nodes [])) first_number_lem
+      nodes_after (seed b) (without_tree_data b)
+      ∙ ap (λ (t : TreeIndex). strike (removed (seed b) (outcome (seed b) (without_tree_data b))) (enter_all t b.nodes [])) first_number
       ∙ none_removed
 
   -- the root is entered, since it is present

@@ -11,7 +11,7 @@ use lib.ListN.{length}
 use borrow.Author.Tests.{eqb-true}
 use Rattle.base.specs.Tests.{◌&&◌, if◌then◌else◌, is_some, has, position}
 use Rattle.base.proofs.Tests.{both, joined}
-use Rattle.ids.specs.Ids.{same_tree, same_index_lem}
+use Rattle.ids.specs.Ids.{same_tree, same_index}
 use Rattle.ids.specs.declared.TreeId.{TreeId}
 use Rattle.ids.specs.declared.NodeId.{NodeId}
 use Rattle.ids.specs.declared.FullNodeId.{FullNodeId}
@@ -24,7 +24,7 @@ use Rattle.update.specs.Gone.{gone}
 use Rattle.update.specs.Outcome.{written, subtree_here, subtree_elsewhere, entry_after, entries_after, new_entry, outcome}
 use Rattle.update.proofs.Outcome.{has_elsewhere, present_outcome}
 use Rattle.update.proofs.Sound.{length_entries_after}
-use Rattle.book.specs.Book.{Entry, Line, line_after, lines_after, number_in, new_line_lem, is_entered, tree_of_line, trees_of_lines, entry_of_node}
+use Rattle.book.specs.Book.{Entry, Line, line_after, lines_after, number_in, new_line, is_entered, tree_of_line, trees_of_lines, entry_of_node}
 use Rattle.book.proofs.Nodes.{entered_present}
 
 -- ## Lists of lines
@@ -107,7 +107,7 @@ has_number id k (u ∷ es) e = go (same_tree id u.id) e (has_number id (suc k) e
 
 module _ (s : Forest) (b : Batch) where
   -- in another tree nothing comes
-  elsewhere : (x : FullNodeId) → same_index_lem x.tree (tree_number s b) ≡ false
+  elsewhere : (x : FullNodeId) → same_index x.tree (tree_number s b) ≡ false
       → is_entered (map entry_of_node (outcome s b).nodes) x ≡ (is_entered (map entry_of_node s.nodes) x && not (gone s b x))
   unfolding written
   elsewhere x e =
@@ -120,7 +120,7 @@ module _ (s : Forest) (b : Batch) where
   subtree_other : (i : ℕ) (focus : NodeId) → eqb i (tree_number s b).0 ≡ false → (o : Option NodeId)
       → subtree_elsewhere s b i (tree_of_line (map entry_of_node s.nodes) i (record { id = b.tree; root = o; focus = focus })).subtree
       ≡ (tree_of_line (map entry_of_node (outcome s b).nodes) i (record { id = b.tree; root = o; focus = focus })).subtree
-  unfolding tree_of_line subtree_elsewhere same_index_lem ◌&&◌
+  unfolding tree_of_line subtree_elsewhere same_index ◌&&◌
   subtree_other i focus q none = refl
   subtree_other i focus q (some r) =
       keeps (is_entered (map entry_of_node s.nodes) x)
@@ -238,13 +238,13 @@ module _ (s : Forest) (b : Batch) where
   same_number ls p = ap (λ (ts : List TreeId). position same_tree ts b.tree) (same_ids ls p)
 
   -- the line that a new tree gets
-  new_line : (i : ℕ) (c : Bool) → (b.root ≡ none → c ≡ true)
+  new_line_lem : (i : ℕ) (c : Bool) → (b.root ≡ none → c ≡ true)
       → all_grafted (outcome s b).nodes i (if c then [] else record { id = b.tree; subtree = subtree_here s b none } ∷ []) ≡ true
       → (if c then [] else record { id = b.tree; subtree = subtree_here s b none } ∷ [])
       ≡ trees_of_lines (map entry_of_node (outcome s b).nodes) i (if c then [] else record { id = b.tree; root = b.root; focus = b.focus } ∷ [])
   unfolding trees_of_lines tree_of_line all_grafted subtree_here
-  new_line i true h e = refl
-  new_line i false h e = ap {B = List TreeEntry} (λ p. p ∷ []) (go b.root h (both e).0)
+  new_line_lem i true h e = refl
+  new_line_lem i false h e = ap {B = List TreeEntry} (λ p. p ∷ []) (go b.root h (both e).0)
     where
       go : (now : Option NodeId) → (now ≡ none → false ≡ true)
           → grafted (outcome s b).nodes i (record { id = b.tree; subtree = subtree_now now none }) ≡ true
@@ -253,16 +253,16 @@ module _ (s : Forest) (b : Batch) where
       go none f g = absurd (false≢true (f refl))
       go (some r) f g = ap {B = TreeEntry} (λ p. record { id = b.tree; subtree = p }) (root_entered i b.tree r g)
 
-  pub trees_after_lem : (ls : List Line) → s.trees ≡ trees_of_lines (map entry_of_node s.nodes) 0 ls
+  pub trees_after : (ls : List Line) → s.trees ≡ trees_of_lines (map entry_of_node s.nodes) 0 ls
       → all_grafted (outcome s b).nodes 0 (outcome s b).trees ≡ true
       → (b.root ≡ none → is_some (subtree_of s b.tree) ≡ true)
-      → (outcome s b).trees ≡ trees_of_lines (map entry_of_node (outcome s b).nodes) 0 (lines_after b (tree_number s b).0 0 ls ++ new_line_lem b ls)
-  unfolding outcome new_entry new_line_lem known subtree_of tree_number
-  trees_after_lem ls p e h =
+      → (outcome s b).trees ≡ trees_of_lines (map entry_of_node (outcome s b).nodes) 0 (lines_after b (tree_number s b).0 0 ls ++ new_line b ls)
+  unfolding outcome new_entry new_line known subtree_of tree_number
+  trees_after ls p e h =
       ap (λ (es : List TreeEntry). es ++ new_entry s b)
       (ap (entries_after s b 0) p ∙ lines 0 ls exists (subst (λ (es : List TreeEntry). all_grafted (outcome s b).nodes 0 (entries_after s b 0 es) ≡ true) p parts.0))
       ∙ ap (λ (es : List TreeEntry). trees_of_lines (map entry_of_node (outcome s b).nodes) 0 noted ++ es) last
-      ∙ sym (trees_of_lines_append (map entry_of_node (outcome s b).nodes) 0 noted (new_line_lem b ls))
+      ∙ sym (trees_of_lines_append (map entry_of_node (outcome s b).nodes) 0 noted (new_line b ls))
     where
       noted : List Line
       noted = lines_after b (tree_number s b).0 0 ls
@@ -283,9 +283,9 @@ module _ (s : Forest) (b : Batch) where
           ∙ length_trees_of_lines (map entry_of_node s.nodes) 0 ls
           ∙ sym (length_lines_after b (tree_number s b).0 0 ls))
 
-      last : new_entry s b ≡ trees_of_lines (map entry_of_node (outcome s b).nodes) (0 + length noted) (new_line_lem b ls)
+      last : new_entry s b ≡ trees_of_lines (map entry_of_node (outcome s b).nodes) (0 + length noted) (new_line b ls)
       last =
-          new_line (0 + length noted) (known s b) (λ z. has_number b.tree 0 s.trees (h z))
+          new_line_lem (0 + length noted) (known s b) (λ z. has_number b.tree 0 s.trees (h z))
           (subst (λ (i : ℕ). all_grafted (outcome s b).nodes i (new_entry s b) ≡ true) places parts.1)
           ∙ ap (λ (c : Bool). trees_of_lines (map entry_of_node (outcome s b).nodes) (0 + length noted)
           (if c then [] else record { id = b.tree; root = b.root; focus = b.focus } ∷ []))

@@ -72,15 +72,15 @@ unfoldable pub number_in : Batch → List Line → ℕ
 number_in b ls = position same_tree (map (λ l. l.id) ls) b.tree
 
 -- the line of a tree id that takes a number
-unfoldable pub new_line_lem : Batch → List Line → List Line
-new_line_lem b ls =
+unfoldable pub new_line : Batch → List Line → List Line
+new_line b ls =
     if has same_tree (map (λ l. l.id) ls) b.tree then [] else record { id = b.tree; root = b.root; focus = b.focus } ∷ []
 
 -- an accepted batch: its nodes are written over what stood there, its tree's focus and root are set, then the removed ids are struck
 unfoldable pub enter_batch : Book → Batch → List FullNodeId → Book
 enter_batch k b removed = record {
   nodes = strike removed (enter_all (record { 0 = number_in b k.trees }) b.nodes k.nodes);
-  trees = lines_after b (number_in b k.trees) 0 k.trees ++ new_line_lem b k.trees;
+  trees = lines_after b (number_in b k.trees) 0 k.trees ++ new_line b k.trees;
 }
 
 -- the start enters its nodes, root and focus under 0

@@ -35,9 +35,9 @@ pub record Agrees (s : Forest) (k : Book) : Type 0 where
   pub trees_are_the_books : s.trees ≡ trees_of_lines k.nodes 0 k.trees
   -- the root, and the way down from it
   pub root : FullNodeId
-  pub is_root_lem : root_of s ≡ some root
+  pub is_the_root : root_of s ≡ some root
   -- going down from the root meets every node exactly once
-  pub met_once_lem : (x : FullNodeId) → present s.nodes x ≡ true → count (λ m. same_id x m.id) (way_down s) ≡ 1
+  pub met_once : (x : FullNodeId) → present s.nodes x ≡ true → count (λ m. same_id x m.id) (way_down s) ≡ 1
   -- and nothing else
   pub met_only : (m : Met) → Memᴰ m (way_down s) → present s.nodes m.id ≡ true
   -- (the way down is whole: with more room nothing more is met)
@@ -53,7 +53,7 @@ pub record Agrees (s : Forest) (k : Book) : Type 0 where
   -- and so is the effective focus
   pub focus : FullNodeId
   pub is_focus : effective_focus s ≡ some focus
-  pub focus_present_lem : present s.nodes focus ≡ true
+  pub focus_present : present s.nodes focus ≡ true
   -- which is never a graft
   pub focus_no_graft : graft_at s.nodes focus ≡ none
   -- the state is sound, so the next call is never answered 1
@@ -62,7 +62,7 @@ pub record Agrees (s : Forest) (k : Book) : Type 0 where
 -- what holds of a batch's answer
 pub record Counted (s : Forest) (a : Answer) : Type 0 where
   -- the batch leaves exactly the nodes before it, with those in its added list joined and those in its removed list taken away
-  pub nodes_after_lem : (x : FullNodeId)
+  pub nodes_after : (x : FullNodeId)
       → present a.state.forest.nodes x ≡ ((present s.nodes x || has same_id a.changes.added x) && not (has same_id a.changes.removed x))
   -- nothing added was there before
   pub added_new : (x : FullNodeId) → has same_id a.changes.added x ≡ true → present s.nodes x ≡ false

@@ -14,7 +14,7 @@ use Rattle.reasons_calls.specs.Pass.{repeated_after, pass_fault, placeless_from,
 use Rattle.reasons_calls.specs.Outcome.{clash_reason, focus_reason, removed_reason, outcome_reason}
 use Rattle.reasons_calls.specs.Explain.{reason_if, reasons_before_pass, reasons_after_pass}
 use Rattle.replies.specs.Replies.{plain_id}
-use Rattle.state_focus.specs.Focus.{found_of_lem}
+use Rattle.state_focus.specs.Focus.{found_of}
 use Rattle.reasons_why.specs.declared.Why.{Why}
 use Rattle.reasons_why.specs.Why.{why, why_of, why_for, way_of, way_words}
 use Rattle.state.specs.State.{Forest}
@@ -35,9 +35,9 @@ plain_why w = record {
   place = w.place;
   other = w.other;
   tree = w.tree;
-  node = plain_id (found_of_lem w.node);
-  by = plain_id (found_of_lem w.by);
-  also = plain_id (found_of_lem w.also);
+  node = plain_id (found_of w.node);
+  by = plain_id (found_of w.by);
+  also = plain_id (found_of w.also);
   rule = w.rule;
   number = w.number;
 }
@@ -60,8 +60,8 @@ pub record Explains (reason : Reason) (r : Why) (way : List ℕ) : Type 0 where
   pub way_is : way ≡ way_words (way_of reason)
 
 -- the words of no way
-abbrev pub no_way_lem : List ℕ
-no_way_lem = replicate 66 0
+abbrev pub no_way : List ℕ
+no_way = replicate 66 0
 
 -- the way of a reason, if there is one
 unfoldable pub way_for : Option Reason → List FullNodeId

@@ -52,7 +52,7 @@ pub record KeptForest (s : Forest) : Type 0 where
   pub ascending : sound.ascending s.nodes ≡ true
   pub few_nodes : length s.nodes ≤ 256
   pub few_trees : length s.trees ≤ 32
-  pub few_children_lem : length (entries_of s.nodes) ≤ 256
+  pub few_children : length (entries_of s.nodes) ≤ 256
   pub fields : all (λ n. fields_ok n.body) s.nodes ≡ true
   pub parent_present : (x : FullNodeId) (l : ParentAndIndex) → link_at s.nodes x ≡ some l → present s.nodes l.parent ≡ true
   pub gone_parent : (b : Batch) (x : FullNodeId) (l : ParentAndIndex) → link_at s.nodes x ≡ some l

@@ -4,7 +4,7 @@ ghost use Rattle.reasons.specs.Reasons.{first_reason};
 ghost use Rattle.reasons_calls.specs.Explain.{why_update, why_start};
 ghost use Rattle.reasons_calls.specs.Outcome.{focus_reason};
 ghost use Rattle.reasons_why.specs.Why.{why_for};
-ghost use Rattle.calls.specs.Explained.{Explained, ExplainedStart, plain_why, Explains, ExplainsFor, Judged, no_way_lem, offence_why, first_reasons, start_reasons, last_reasons};
+ghost use Rattle.calls.specs.Explained.{Explained, ExplainedStart, plain_why, Explains, ExplainsFor, Judged, no_way, offence_why, first_reasons, start_reasons, last_reasons};
 ghost use Rattle.state_array.specs.View.{view};
 ghost use Rattle.state_array.specs.Layout.{blank_words};
 ghost use Rattle.calls.specs.Says.{Written};
@@ -111,7 +111,7 @@ fn start_why<'a, 'b, 'c>(memory: &'a mut State, batch: &'b [u8], way: &'c mut Wa
 
 // No way.
 fn clear(way: &mut Way)
-    ensures { way.new ≡ no_way_lem }
+    ensures { way.new ≡ no_way }
 {
     let none = [0u64; 66];
     *way = none;
@@ -169,7 +169,7 @@ fn offence_why(o: Offence) -> Why
 // Rows 9 to 21 of a batch that passed the others.
 fn later_why<'a, 'b>(state: &'a State, batch: &'a [u8], room: usize, way: &'b mut Way) -> Why
     requires batch_value { first_number (forest state.now) batch.now ≡ 0 }
-    requires way_value { way.old ≡ no_way_lem }
+    requires way_value { way.old ≡ no_way }
     ensures { Explains (why_update (view state.now) batch.now room) result way.new }
 {
     let scope = rows::scope_of(state, batch);
@@ -186,7 +186,7 @@ fn later_why<'a, 'b>(state: &'a State, batch: &'a [u8], room: usize, way: &'b mu
 fn later_start_why<'a, 'b, 'c>(memory: &'a mut State, batch: &'b [u8], way: &'c mut Way) -> Why
     requires batch_value { start_rows batch.now ≡ 0 }
     requires memory_value { memory.old ≡ blank_words }
-    requires way_value { way.old ≡ no_way_lem }
+    requires way_value { way.old ≡ no_way }
     ensures { Explains (why_start batch.now) result way.new }
 {
     seeds::seed(memory, batch, 0);
@@ -207,7 +207,7 @@ fn batch_why<'a, 'b, 'c, 'd>(
 ) -> Why
     requires told { Told 0 state.now batch.now scope notes.old }
     requires next_value { next.old ≡ blank_words }
-    requires way_value { way.old ≡ no_way_lem }
+    requires way_value { way.old ≡ no_way }
     ensures { Judged state.now batch.now scope notes.new next.new result way.new }
 {
     reading::write_words(state, batch, scope, notes);
@@ -229,7 +229,7 @@ fn outcome_why<'a, 'b>(
     way: &'b mut Way,
 ) -> Why
     requires written { Written state.now batch.now scope notes.now next.now }
-    requires way_value { way.old ≡ no_way_lem }
+    requires way_value { way.old ≡ no_way }
     ensures { ExplainsFor (first_reason (last_reasons (forest state.now) (asked batch.now scope) (forest next.now))) result way.new }
 {
     let clash = why_outcome::clash_why(state, batch, scope, notes, next);
@@ -252,7 +252,7 @@ fn outcome_why<'a, 'b>(
 
 // Rows 15 to 17, and the way that leads to the focus.
 fn focus_why<'a, 'b>(next: &'a State, way: &'b mut Way) -> Why
-    requires { way.old ≡ no_way_lem }
+    requires { way.old ≡ no_way }
     ensures { ExplainsFor (focus_reason (forest next.now)) result way.new }
 {
     let why = update_focus::focus_why(next);

@@ -6,7 +6,7 @@ ghost use Rattle.ids.specs.Ids.{same_id};
 ghost use Rattle.state.specs.State.{same_link, parent_of};
 ghost use Rattle.state.specs.Sound.{ascending};
 ghost use Rattle.state_array.specs.View.{view, slots_of, link_of};
-ghost use Rattle.state_focus.specs.Focus.{found_of_lem};
+ghost use Rattle.state_focus.specs.Focus.{found_of};
 ghost use Rattle.state_array.specs.Layout.{SLOTS};
 ghost use Rattle.update.specs.Reports.{unless_in};
 ghost use Rattle.calls.specs.Layout.{TURNS, CHANGED};
@@ -258,7 +258,7 @@ pub(crate) fn report_host(before: FoundNode, after: FoundNode) -> Report
 
 // What a start reports: its focus.
 pub(crate) fn report_start(after: FoundNode) -> Report
-    ensures { OnlyAfter (found_of_lem after) result }
+    ensures { OnlyAfter (found_of after) result }
 {
     Report {
         focus_before: FoundNode::Nothing,
@@ -290,7 +290,7 @@ fn report_of(before: FoundNode, after: FoundNode, lost: FoundNode, got: FoundNod
 
 // Whether two answers are the same node, or none both.
 fn same_found(x: FoundNode, y: FoundNode) -> bool
-    ensures { result ≡ same_option same_id (found_of_lem x) (found_of_lem y) }
+    ensures { result ≡ same_option same_id (found_of x) (found_of y) }
 {
     let FoundNode::At(a) = x else {
         let FoundNode::At(b) = y else {
@@ -313,7 +313,7 @@ fn unless_before<'a>(
 ) -> FoundNode
     requires state_value { ascending (view state.now).forest.nodes ≡ true }
     requires next_value { ascending (view next.now).forest.nodes ≡ true }
-    ensures { found_of_lem result ≡ unless_before (changes_noted state.now notes.now next.now) (found_of_lem found) }
+    ensures { found_of result ≡ unless_before (changes_noted state.now notes.now next.now) (found_of found) }
 {
     let FoundNode::At(x) = found else {
         return FoundNode::Nothing;
@@ -327,7 +327,7 @@ fn unless_before<'a>(
 // A node, unless it is added or updated.
 fn unless_after<'a>(notes: &'a Notes, next: &'a State, found: FoundNode) -> FoundNode
     requires { ascending (view next.now).forest.nodes ≡ true }
-    ensures { found_of_lem result ≡ unless_in (picked 1 notes.now CHANGED next.now ++ picked 2 notes.now CHANGED next.now) (found_of_lem found) }
+    ensures { found_of result ≡ unless_in (picked 1 notes.now CHANGED next.now ++ picked 2 notes.now CHANGED next.now) (found_of found) }
 {
     let FoundNode::At(x) = found else {
         return FoundNode::Nothing;

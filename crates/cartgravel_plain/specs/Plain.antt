@@ -16,7 +16,7 @@ use Rattle.node_answers.specs.declared.FilterAnswer.TheVariants as answer
 use Rattle.node_answers.specs.Filter.{result_number}
 use Rattle.state_lookup.specs.declared.FoundTree.{FoundTree}
 use Rattle.state_lookup.specs.declared.FoundTree.TheVariants as ends
-use Rattle.state_focus.specs.Focus.{found_of_lem}
+use Rattle.state_focus.specs.Focus.{found_of}
 use Rattle.replies.specs.Replies.{plain_id}
 use Rattle.node_answers.specs.declared.OptionalRect.{OptionalRect}
 use Rattle.node_answers.specs.declared.OptionalRect.TheVariants as rect
@@ -66,7 +66,7 @@ nought = of_bits binary64 0
 -- ## Nodes and lists
 
 abbrev pub plain_found : NodeAnswer → FoundId
-plain_found a = record { id = plain_id (found_of_lem a.node); number = a.number }
+plain_found a = record { id = plain_id (found_of a.node); number = a.number }
 
 abbrev pub plain_list : ListAnswer → Listed
 plain_list a = record { length = a.length; number = a.number }

@@ -171,9 +171,9 @@ exact_value z u h k = of_int_value (z +ℤ u) (omega (arith, sum_size z u))
 pub whole_of_int : (z : ℤ) → nat_abs z ≤ 2 ^ 20 → Whole (of_int binary64 z) z
 whole_of_int z h = record { value = same_value_finite (of_int binary64 z) (of_int_finite z (omega arith)); small = h }
 
-pub minus_zero_lem : Whole (of_bits binary64 (2 ^ 63)) (pos 0)
+pub minus_zero : Whole (of_bits binary64 (2 ^ 63)) (pos 0)
 unfolding same_value eq of_bits of_int
-minus_zero_lem = record { value = refl; small = lit≤ tt }
+minus_zero = record { value = refl; small = lit≤ tt }
 
 -- the transform of a node that has none shifts by nothing
 pub identity_shift : Shift identity (pos 0) (pos 0)

@@ -103,11 +103,11 @@ unfolding computed
 both_cut = refl
 
 -- a box of no width lies apart from every box, itself too, where the height in common is finite
-no_width_lem :
+no_width :
     (apart (box (pos 1) (pos 0) (pos 1) (pos 2)) (box (pos 0) (pos 0) (pos 2) (pos 2)) ≡ true)
     × (apart (box (pos 1) (pos 0) (pos 1) (pos 2)) (box (pos 1) (pos 0) (pos 1) (pos 2)) ≡ true)
 unfolding computed
-no_width_lem = (refl, refl)
+no_width = (refl, refl)
 
 -- a width past the greatest f64 times no height is not a number, and so not zero
 not_a_number :

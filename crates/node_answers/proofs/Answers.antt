@@ -9,7 +9,7 @@ use Rattle.ids.specs.declared.FullNodeId.{FullNodeId}
 use Rattle.state.specs.State.{Forest}
 use Rattle.state_focus.specs.declared.FoundNode.{FoundNode}
 use Rattle.state_focus.specs.declared.FoundNode.TheVariants as found
-use Rattle.state_focus.specs.Focus.{found_of_lem}
+use Rattle.state_focus.specs.Focus.{found_of}
 use Rattle.questions.specs.Answers.{ask_number, after, written}
 use Rattle.questions.proofs.Answers.{list_number_refused, list_number_short, list_number_fits, after_refused, after_answered}
 use Rattle.node_answers.specs.Answers.{found_node, node_answer, number_for, list_answer, Lists}
@@ -17,8 +17,8 @@ use Rattle.node_answers.specs.Answers.{found_node, node_answer, number_for, list
 -- ## A node
 
 -- a node as the code found it
-found_again : (r : FoundNode) → found_node (found_of_lem r) ≡ r
-unfolding found_node found_of_lem
+found_again : (r : FoundNode) → found_node (found_of r) ≡ r
+unfolding found_node found_of
 found_again (found.At x) = refl
 found_again found.Nothing = refl
 
@@ -27,7 +27,7 @@ module _ (n : ℕ) (o : Option FullNodeId) where
   unfolding node_answer
   node_refused k e h = rw (← e, after_refused found.Nothing (found_node o) k h)
 
-  pub node_given : n ≡ 0 → (r : FoundNode) → found_of_lem r ≡ o → record { number = 0; node = r } ≡ node_answer n o
+  pub node_given : n ≡ 0 → (r : FoundNode) → found_of r ≡ o → record { number = 0; node = r } ≡ node_answer n o
   unfolding node_answer
   node_given e r q = rw (e, after_answered found.Nothing (found_node o) 0 refl, ← q, found_again r)
 

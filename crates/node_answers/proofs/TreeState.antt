@@ -84,10 +84,10 @@ module _ (s : List ℕ) (i : TreeIndex) where
     unborn_ends e = rw (ends_at, eq-eqb t.exists 0 e)
 
     -- one that does
-    pub ends_are_lem : (t.exists ≡ 0 → ⊥)
+    pub ends_are : (t.exists ≡ 0 → ⊥)
         → ends.At (record { root = record { tree = i; node = t.root }; focus = record { tree = i; node = t.focus } }) ≡ found_tree (tree_ends (view s).forest i)
     unfolding found_tree subtree_state
-    ends_are_lem e = rw (ends_at, ne_eqb t.exists 0 e)
+    ends_are e = rw (ends_at, ne_eqb t.exists 0 e)
 
 -- ## ROOT's root
 

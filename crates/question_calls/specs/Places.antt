@@ -15,5 +15,5 @@ unfoldable pub met_from : Side → List ℕ → Place → List FullNodeId
 met_from side s p = elim (slot_id s p.slot) [ none ↦ [] | some x ↦ x ∷ ahead side (view s).forest p.level x ]
 
 -- one level more, as far as there can be any
-unfoldable pub one_more_lem : ℕ → ℕ
-one_more_lem level = if ltb level SLOTS then suc level else level
+unfoldable pub one_more : ℕ → ℕ
+one_more level = if ltb level SLOTS then suc level else level

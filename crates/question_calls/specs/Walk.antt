@@ -4,7 +4,7 @@ use Rattle.std.proofs.Math.ListN.{get_elem?}
 use Rattle.base.specs.Tests.{if◌then◌else◌}
 use Rattle.state_array.specs.View.{id_in, view}
 use Rattle.state_focus.specs.declared.FoundNode.{FoundNode}
-use Rattle.state_focus.specs.Focus.{found_of_lem}
+use Rattle.state_focus.specs.Focus.{found_of}
 use Rattle.questions.specs.declared.Walk.{Walk}
 use Rattle.questions.specs.Filters.{seen}
 use Rattle.questions.specs.Kept.{walk_list, WalkStep}
@@ -31,4 +31,4 @@ pub record Ours (side filter : ℕ) : Type 0 where
 
 -- what stands at a place of the list of a walk about the node in slot i
 abbrev pub FindsAt : List ℕ → ℕ → ℕ → ℕ → ℕ → FoundNode → Type 0
-FindsAt s i side filter count r = found_of_lem r ≡ get_elem? (walk_list (seen (view s)) (record { node = id_in s i; side = side; filter = filter; count = count })) count
+FindsAt s i side filter count r = found_of r ≡ get_elem? (walk_list (seen (view s)) (record { node = id_in s i; side = side; filter = filter; count = count })) count

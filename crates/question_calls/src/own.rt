@@ -4,7 +4,7 @@ ghost use Rattle.base.specs.Bytes.{bit};
 ghost use Rattle.ids.specs.Ids.{id_words};
 ghost use Rattle.record.specs.Batch.{active_descendant?, graft?, bounds?, transform?};
 ghost use Rattle.state_array.specs.View.{body_in, id_in, label_in, view};
-ghost use Rattle.state_focus.specs.Focus.{found_of_lem};
+ghost use Rattle.state_focus.specs.Focus.{found_of};
 ghost use Rattle.questions.specs.Answers.{written};
 ghost use Rattle.questions.specs.Links.{child_ids};
 ghost use Rattle.question_calls.specs.Asks.{NodeAt};
@@ -67,7 +67,7 @@ pub(crate) fn put_children<'a, 'b>(state: &'a State, i: usize, n: usize, out: &'
 
 // The node in a slot; none past the last.
 pub(crate) fn node_at(state: &State, i: usize) -> FoundNode
-    ensures { found_of_lem result ≡ slot_id state.now i }
+    ensures { found_of result ≡ slot_id state.now i }
 {
     if state_array::slots(state) <= i {
         return FoundNode::Nothing;

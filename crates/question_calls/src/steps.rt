@@ -5,7 +5,7 @@ ghost use Rattle.questions.specs.Ahead.{ahead};
 ghost use Rattle.questions.specs.Links.{child_ids};
 ghost use Rattle.questions.specs.Walks.{turned};
 ghost use Rattle.question_calls.specs.Slots.{OfSlot};
-ghost use Rattle.question_calls.specs.Places.{met_from, one_more_lem};
+ghost use Rattle.question_calls.specs.Places.{met_from, one_more};
 
 use crate::links;
 use questions::Side;
@@ -58,7 +58,7 @@ pub(crate) fn into(state: &State, parents: &[u16], side: Side, at: Place) -> Pla
 
 // One level more, as far as there can be any.
 fn one_more(level: usize) -> usize
-    ensures { result ≡ one_more_lem level }
+    ensures { result ≡ one_more level }
 {
     if level < state_array::SLOTS {
         level + 1

@@ -4,7 +4,7 @@ ghost use Rattle.std.proofs.Math.Option.{some};
 ghost use Rattle.std.specs.Prelude.{◌≡◌, ◌+◌, ◌<◌};
 ghost use Rattle.std.proofs.Math.ListN.{get_elem?};
 ghost use Rattle.state_array.specs.View.{slots_of, view};
-ghost use Rattle.state_focus.specs.Focus.{found_of_lem};
+ghost use Rattle.state_focus.specs.Focus.{found_of};
 ghost use Rattle.questions.specs.Filters.{seen, filter_of};
 ghost use Rattle.questions.specs.Kept.{side_of, filter_choice, next_of};
 ghost use Rattle.questions.specs.Links.{siblings};
@@ -122,7 +122,7 @@ fn sibling_at(
 fn plain_at(state: &State, parents: &[u16], i: usize, side: Side, count: u64) -> FoundNode
     requires sound { Sound state.now }
     requires i_bound { i < slots_of state.now }
-    ensures { OfSlot state.now i (λ f x. found_of_lem result ≡ get_elem? (siblings side f x) count) }
+    ensures { OfSlot state.now i (λ f x. found_of result ≡ get_elem? (siblings side f x) count) }
 {
     let run = lists::siblings_run(state, parents, side, i);
     let k = count as usize;
@@ -142,7 +142,7 @@ fn shown_at(
     count: u64,
 ) -> FoundNode
     requires { Sound state.now }
-    ensures { OfSlot state.now i (λ f x. found_of_lem result ≡ get_elem? (filtered_siblings (filter_of filter (seen (view state.now))) side f x) count) }
+    ensures { OfSlot state.now i (λ f x. found_of result ≡ get_elem? (filtered_siblings (filter_of filter (seen (view state.now))) side f x) count) }
 {
     let focused = plain::focused_slot(state);
     let start = shown::shown_sibling(state, parents, focused, filter, side, i);

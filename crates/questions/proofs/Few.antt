@@ -113,7 +113,7 @@ module _ (side : Side) (s : Forest) where
     root_few : weight r.root ≤ length s.nodes
     root_few =
         let start : List Met = record { id = r.root; link = none } ∷ [] in
-        let way = way_down_from s r.root r.is_root_lem in
+        let way = way_down_from s r.root r.is_the_root in
         let few = leb-true (length (way_down s)) (length s.nodes) h.ends in
         omega (
           arith,
@@ -182,15 +182,15 @@ module _ (side : Side) (s : Forest) where
 
   -- ## What is listed
 
-  abbrev all_below_lem : ℕ → FullNodeId → List FullNodeId
-  all_below_lem room x = gather (λ y. y ∷ []) (λ y. turned side (child_ids s y)) room x
+  abbrev all_below : ℕ → FullNodeId → List FullNodeId
+  all_below room x = gather (λ y. y ∷ []) (λ y. turned side (child_ids s y)) room x
 
   -- a run is no longer than what is met from it
   weight_some : 1 ≤ length s.nodes → (x : FullNodeId) → 1 ≤ weight x
   unfolding everything gather
   weight_some l x = go (length s.nodes) l
     where
-      go : (room : ℕ) → 1 ≤ room → 1 ≤ length (all_below_lem room x)
+      go : (room : ℕ) → 1 ≤ room → 1 ≤ length (all_below room x)
       go zero l = absurd (omega arith)
       go (suc room) l = omega arith
 
@@ -203,7 +203,7 @@ module _ (side : Side) (s : Forest) where
 
   -- and so is what is shown of it
   module _ (filter : FullNodeId → FilterResult) where
-    shown_fewer : (room : ℕ) (x : FullNodeId) → length (shown_within filter room side s x) ≤ length (all_below_lem room x)
+    shown_fewer : (room : ℕ) (x : FullNodeId) → length (shown_within filter room side s x) ≤ length (all_below room x)
     unfolding shown_within gather
     shown_fewer zero x = omega arith
     shown_fewer (suc room) x = go (filter x) (shown_fewer room)
@@ -211,16 +211,16 @@ module _ (side : Side) (s : Forest) where
         kids : List FullNodeId
         kids = turned side (child_ids s x)
 
-        go : (r : FilterResult) → ((y : FullNodeId) → length (shown_within filter room side s y) ≤ length (all_below_lem room y))
+        go : (r : FilterResult) → ((y : FullNodeId) → length (shown_within filter room side s y) ≤ length (all_below room y))
             → length {A = FullNodeId} (elim r as (λ _. List FullNodeId) [ Include ↦ x ∷ [] | ExcludeNode ↦ flat_map (shown_within filter room side s) kids | ExcludeSubtree ↦ [] ])
-            ≤ suc (length (flat_map (all_below_lem room) kids))
+            ≤ suc (length (flat_map (all_below room) kids))
         go Include f = omega arith
         go ExcludeNode f =
             omega (
               arith,
               flat_length (shown_within filter room side s) kids,
-              flat_length (all_below_lem room) kids,
-              sum_most (λ y. length (shown_within filter room side s y)) (λ y. length (all_below_lem room y)) kids (λ y _. f y),
+              flat_length (all_below room) kids,
+              sum_most (λ y. length (shown_within filter room side s y)) (λ y. length (all_below room y)) kids (λ y _. f y),
             )
         go ExcludeSubtree f = omega arith
 

@@ -193,9 +193,9 @@ module _ (s : Forest) where
       (λ t. wrong_says once (suc k) ns (from_tail h))
 
   -- so it is where no node is met twice, and none never
-  met_once_lem : spot (is_met_twice s (reached s)) s.nodes ≡ none → spot (is_never_met s (reached s)) s.nodes ≡ none → MetOnce
+  met_once : spot (is_met_twice s (reached s)) s.nodes ≡ none → spot (is_never_met s (reached s)) s.nodes ≡ none → MetOnce
   unfolding is_met_twice is_never_met
-  met_once_lem twice never n i =
+  met_once twice never n i =
       one (met_links s (reached s) n.id) (spot_none 0 (is_met_twice s (reached s)) s.nodes twice n i)
       (spot_none 0 (is_never_met s (reached s)) s.nodes never n i)
     where
@@ -228,7 +228,7 @@ module _ (s : Forest) where
           λ _. (
             twice,
             λ two.
-                (unmet_says, λ all. (wrong_says (met_once_lem (single two) (never all)) 0 s.nodes (from_start s.nodes), λ _. (full, λ _. tt))),
+                (unmet_says, λ all. (wrong_says (met_once (single two) (never all)) 0 s.nodes (from_start s.nodes), λ _. (full, λ _. tt))),
           ),
         ),
       )

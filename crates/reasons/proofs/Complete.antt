@@ -25,7 +25,7 @@ use Rattle.state.proofs.State.{find_id, find_member, find_self}
 use Rattle.state.proofs.Sound.{Root, root_of_tables, shape_parts, sound_of}
 use Rattle.state.proofs.Down.{way_down_from, down_below, below_id_by}
 use Rattle.state.proofs.Ends.{meets, total_all}
-use Rattle.state.proofs.Once.{once, each_once_lem}
+use Rattle.state.proofs.Once.{once, each_once}
 use Rattle.reasons.specs.Reasons.{Broken, tooManyNodes, tooManyTrees, too_many_children, absent_below, met_twice, never_met, wrong_link}
 use Rattle.reasons.specs.Reasons.{graft_with_children, grafted_twice, root_not_first, tree_twice, tree_unrooted, out_of_order, broken_field, no_focus}
 use Rattle.reasons.specs.Breaks.{Breaks, rank, FirstOfState, FirstOfShape}
@@ -55,7 +55,7 @@ module _ (s : Forest) (k : Unbroken s) where
 
   reached_is : reached s ≡ within (length s.nodes)
   unfolding reached within
-  reached_is = rw (r.is_root_lem, reached)
+  reached_is = rw (r.is_the_root, reached)
 
   -- ## What is met is recorded so
 
@@ -122,12 +122,12 @@ module _ (s : Forest) (k : Unbroken s) where
   going_start = record {
     there = r.there;
     steps = unfold widened in (rw (same_id_refl r.root));
-    under = rw (r.is_root_lem, same_id_refl r.root) (Memᴰ.head refl);
+    under = rw (r.is_the_root, same_id_refl r.root) (Memᴰ.head refl);
   }
 
   way : way_down s ≡ down (suc (length s.nodes)) s (start ∷ [])
   unfolding start
-  way = way_down_from s r.root r.is_root_lem
+  way = way_down_from s r.root r.is_the_root
 
   all_recorded : all (recorded s.nodes) (way_down s) ≡ true
   all_recorded =
@@ -141,7 +141,7 @@ module _ (s : Forest) (k : Unbroken s) where
   single_met x = rw way (once s (suc (length s.nodes)) r.root (rw way at all_recorded) x)
 
   short : length (way_down s) ≤ length s.nodes
-  short = omega (arith, total_all s.nodes k.ordered (way_down s) all_recorded, (each_once_lem s.nodes (way_down s) single_met).0)
+  short = omega (arith, total_all s.nodes k.ordered (way_down s) all_recorded, (each_once s.nodes (way_down s) single_met).0)
 
   -- a node is met
   abbrev IsMet : FullNodeId → Type 0
@@ -179,7 +179,7 @@ module _ (s : Forest) (k : Unbroken s) where
       on l j =
           ⊎_elim
           (λ p. by_test (same_option same_id (root_of s) (some n.id))
-          (λ t. subst IsMet (same_id→≡ r.root n.id (rw r.is_root_lem at t)) root_met)
+          (λ t. subst IsMet (same_id→≡ r.root n.id (rw r.is_the_root at t)) root_met)
           (λ t. absurd (Memᴰ.not-nil (rw t at p))))
           (λ p. let z = links_below_lem s (reached s) n.id s.nodes l p in
           subst IsMet z.4 (below_met z.0 z.2 z.1 (known_met z.0.id z.6) z.3))

@@ -222,12 +222,12 @@ module _ (s : Forest) (h : Shape s) where
       below_met s h r met.0 m met.1 (rw (met.2, find_self s.nodes n h.ordered i, below_id) j)
 
   -- under the link that it records
-  pub met_link_lem : (xs : List FullNodeId) (x : FullNodeId) (l : Option ParentAndIndex) → Memᴰ l (met_links s xs x) → link_at s.nodes x ≡ l
+  pub met_link : (xs : List FullNodeId) (x : FullNodeId) (l : Option ParentAndIndex) → Memᴰ l (met_links s xs x) → link_at s.nodes x ≡ l
   unfolding met_links
-  met_link_lem xs x l i =
+  met_link xs x l i =
       ⊎_elim
       (λ j. by_test (same_option same_id (root_of s) (some x))
-      (λ t. let same : r.root ≡ x = same_id→≡ r.root x (rw r.is_root_lem at t) in
+      (λ t. let same : r.root ≡ x = same_id→≡ r.root x (rw r.is_the_root at t) in
       ap (link_at s.nodes) (sym same) ∙ d.parentless ∙ sym (mathlib.Core.List.Memᴰ.eq_of_singleton (rw t at j)))
       (λ t. absurd (mathlib.Core.List.Memᴰ.not-nil (rw t at j))))
       (λ j. let z = links_below_lem s xs x s.nodes l j in
@@ -235,8 +235,8 @@ module _ (s : Forest) (h : Shape s) where
       (mathlib.Core.List.Memᴰ.append_cases (root_links s x) i)
 
   -- at most once
-  pub met_once_lem : (xs : List FullNodeId) (x : FullNodeId) → length (met_links s xs x) ≤ 1
-  met_once_lem xs x = one_link s xs x h.ordered (link_at s.nodes x) (met_link_lem xs x)
+  pub met_once : (xs : List FullNodeId) (x : FullNodeId) → length (met_links s xs x) ≤ 1
+  met_once xs x = one_link s xs x h.ordered (link_at s.nodes x) (met_link xs x)
 
   -- a node that records no parent is climbed from to itself
   stays : (k : ℕ) (x : FullNodeId) → link_at s.nodes x ≡ none → climb k s.nodes x ≡ x
@@ -263,7 +263,7 @@ module _ (s : Forest) (h : Shape s) where
   reached_all x e =
       let c = d.climbs x e in
       let q : length s.nodes ≡ length s.nodes - c.0 + c.0 = omega (arith, c.1) in
-      rw (r.is_root_lem, reached, q) (widened_old (length s.nodes - c.0) c.0 s (r.root ∷ []) x e (climb_reached c.0 x e c.2))
+      rw (r.is_the_root, reached, q) (widened_old (length s.nodes - c.0) c.0 s (r.root ∷ []) x e (climb_reached c.0 x e c.2))
 
   -- and met
   pub met_some : (x : FullNodeId) → present s.nodes x ≡ true → met_links s (reached s) x ≡ [] → ⊥
@@ -272,7 +272,7 @@ module _ (s : Forest) (h : Shape s) where
       by_option (link_at s.nodes x)
       (λ p. let c = d.climbs x e in
       let top : x ≡ r.root = sym (stays c.0 x p) ∙ c.2 in
-      let at-root : same_option same_id (root_of s) (some x) ≡ true = rw (r.is_root_lem, top, same_id_refl r.root) in
+      let at-root : same_option same_id (root_of s) (some x) ≡ true = rw (r.is_the_root, top, same_id_refl r.root) in
       let z : ◌≡◌ {A = List (Option ParentAndIndex)} (none ∷ links_from s (reached s) x s.nodes) [] = rw at-root at q in
       let no : ◌≡◌ {A = ℕ} 0 1 = cc in omega arith)
       (λ l p. let c = child s h x l p in

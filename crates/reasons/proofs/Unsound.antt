@@ -30,7 +30,7 @@ use Rattle.reasons.proofs.Lists.{sum_member, all_fails, map_member}
 use Rattle.reasons.proofs.First.{said}
 use Rattle.reasons.proofs.Places.{at_member, ascending_places}
 use Rattle.reasons.proofs.Broken.{member_present, state_says}
-use Rattle.reasons.proofs.Links.{same_link_refl, below_way, met_link_lem, met_once_lem, met_some}
+use Rattle.reasons.proofs.Links.{same_link_refl, below_way, met_link, met_once, met_some}
 
 -- what a sound shape may break: the limits, the fields' rules and the focus's
 unfoldable pub Beyond : Forest → Broken → Type 0
@@ -81,7 +81,7 @@ module _ (s : Forest) (h : Shape s) where
   link_agrees : (n : NodeState) → Memᴰ n s.nodes → (l : Option ParentAndIndex) → met_links s (reached s) n.id ≡ l ∷ []
       → same_option same_link n.parent_and_index l ≡ true
   link_agrees n i l q =
-      let same : n.parent_and_index ≡ l = sym (node_link n i) ∙ met_link_lem s h (reached s) n.id l (rw q (Memᴰ.head refl)) in
+      let same : n.parent_and_index ≡ l = sym (node_link n i) ∙ met_link s h (reached s) n.id l (rw q (Memᴰ.head refl)) in
       rw same (same_link_refl l)
 
   pub breaks_beyond : (b : Broken) → Breaks s b → Beyond s b
@@ -93,7 +93,7 @@ module _ (s : Forest) (h : Shape s) where
       let n = z.0 in
       let m = map_member (λ m. m.id) (below s n.0) x n.3.0 in
       clash n.3.1 (rw (← m.2) ((descent s h (root_of_shape s h)).only m.0 (below_way s h n.0 m.0 (at_member n.1) m.1)))
-  breaks_beyond (met_twice p) z = omega (arith, z.3, met_once_lem s h (reached s) z.0.id)
+  breaks_beyond (met_twice p) z = omega (arith, z.3, met_once s h (reached s) z.0.id)
   breaks_beyond (never_met p d) z = met_some s h z.0.0.id (member_present s z.0.0 (at_member z.0.1)) z.0.3
   breaks_beyond (wrong_link p recorded met) z = clash z.3.4 (link_agrees z.0 (at_member z.1) z.3.1 z.3.2)
   breaks_beyond (graft_with_children p) z = clash z.3 (all_member graft_is_bare s.nodes z.0 h.bare (at_member z.1))

@@ -5,7 +5,7 @@ use Rattle.base.specs.Tests.{◌&&◌}
 use Rattle.base.specs.Tables.{first}
 use Rattle.base.specs.Bytes.{little_endian, le, bytes_of, all_below, zeros, list_of, sum_of}
 use Rattle.base.specs.Floats.{zero_bytes, same_value}
-use Rattle.ids.specs.Ids.{same_tree, same_index_lem, same_node, same_id, before, id_words}
+use Rattle.ids.specs.Ids.{same_tree, same_index, same_node, same_id, before, id_words}
 use Rattle.geometry.specs.Geometry.{rect_test, affine_test, same_rect, same_affine}
 use Rattle.record.specs.Batch.{active_descendant?, graft?, bounds?, transform?, fields_ok, same_data, listed_ids, named_ids}
 use Rattle.record.specs.Parse.{header_ok, children_before, labels_before, record_ok, well_formed, parse}
@@ -36,8 +36,8 @@ use Rattle.reasons_calls.specs.Outcome.{way_through, focus_way, last_graft, focu
 use Rattle.reasons_calls.specs.Outcome.{clash_reason, outcome_reason}
 use Rattle.reasons.specs.Reasons.{last_of}
 use Rattle.reasons_calls.specs.Explain.{reasons_before_pass, reasons_after_pass, batch_reason, slice_reason, or_accepted, why_update, why_start}
-use Rattle.reasons_calls.specs.Cases.{Case, listed_again, tree_not_grafted, tree_not_there, named_again_lem, graft_over_child, root_grafted, claimed_again}
-use Rattle.reasons_calls.specs.Cases.{holder_stays, no_place_lem, no_child, focus_on_graft, new_root_gone, gone_with_parent, root_named_in_pane}
+use Rattle.reasons_calls.specs.Cases.{Case, listed_again, tree_not_grafted, tree_not_there, named_again, graft_over_child, root_grafted, claimed_again}
+use Rattle.reasons_calls.specs.Cases.{holder_stays, no_place, no_child, focus_on_graft, new_root_gone, gone_with_parent, root_named_in_pane}
 use Rattle.reasons_calls.specs.Cases.{listed_after_parent, root_named, root_under_gone, pane_root_absent}
 
 abbrev pub Right : Case → Type 0
@@ -45,7 +45,7 @@ Right c = c.got ≡ c.says
 
 -- `unfolding computed` unfolds every definition
 computed : Unit {0}
-unfolding parent_of of_bits to_bits eq ◌&&◌ first little_endian le bytes_of all_below zeros list_of sum_of zero_bytes same_value same_tree same_index_lem same_node
+unfolding parent_of of_bits to_bits eq ◌&&◌ first little_endian le bytes_of all_below zeros list_of sum_of zero_bytes same_value same_tree same_index same_node
     same_id before rect_test affine_test same_rect same_affine active_descendant? graft? bounds? transform? fields_ok same_data listed_ids named_ids header_ok
     children_before labels_before record_ok well_formed parse record_bytes records_bytes entry_bytes labels header_bytes encode same_link find present graft_at
     link_at parent_at holder subtree_state subtree_from subtree_of met_under children_met below below_id down root_of way_down climb through_grafts
@@ -76,9 +76,9 @@ tree_not_there_lem : Right tree_not_there
 unfolding computed tree_not_there
 tree_not_there_lem = refl
 
-named_again : Right named_again_lem
-unfolding computed named_again_lem
-named_again = refl
+named_again_lem : Right named_again
+unfolding computed named_again
+named_again_lem = refl
 
 graft_over_child_lem : Right graft_over_child
 unfolding computed graft_over_child
@@ -96,9 +96,9 @@ holder_stays_lem : Right holder_stays
 unfolding computed holder_stays
 holder_stays_lem = refl
 
-no_place : Right no_place_lem
-unfolding computed no_place_lem
-no_place = refl
+no_place_lem : Right no_place
+unfolding computed no_place
+no_place_lem = refl
 
 no_child_lem : Right no_child
 unfolding computed no_child

@@ -15,7 +15,7 @@ use Rattle.update.specs.Numbers.{updated_and_removed}
 use Rattle.reasons.specs.Reasons.{Dropped}
 use Rattle.reasons_calls.specs.Outcome.{dropper, dropped_within, removed_reason}
 use Rattle.reasons.specs.Breaks.{Up, there, step}
-use Rattle.reasons_calls.specs.Holds.{Goes, as_root_lem, from, OfBatch}
+use Rattle.reasons_calls.specs.Holds.{Goes, as_root, from, OfBatch}
 use Rattle.reasons.proofs.First.{IfSome, says_if, says_first}
 
 module _ (s : Forest) (b : Batch) where
@@ -38,7 +38,7 @@ module _ (s : Forest) (b : Batch) where
         is = rw (q, dropped_within, p);
         steps = 0;
         above = there;
-        why = as_root_lem (rw (q, link_at) p) (rw (q, gone_within, p) at e) refl;
+        why = as_root (rw (q, link_at) p) (rw (q, gone_within, p) at e) refl;
       })
       (λ l p. on n q l p (fate s b x l) refl (rw (q, gone_within, p) at e) (climbs room l.parent)))
     where

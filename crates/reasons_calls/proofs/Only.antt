@@ -21,7 +21,7 @@ use Rattle.update.specs.Pass.{places}
 use Rattle.update.specs.Gone.{goes, asParent, fate}
 use Rattle.update.specs.Outcome.{outcome}
 use Rattle.reasons.specs.Reasons.{Dropped, Reason, number_of, listed_twice, named_twice, claimed_twice, focus_into_nothing, focus_absent, updated_and_gone, last_of}
-use Rattle.reasons_calls.specs.Holds.{namers, ClaimsWhen, Goes, as_root_lem, from, Way, ends, on, OfBatch, FirstOffence, this, later, Kept, Offends}
+use Rattle.reasons_calls.specs.Holds.{namers, ClaimsWhen, Goes, as_root, from, Way, ends, on, OfBatch, FirstOffence, this, later, Kept, Offends}
 use Rattle.reasons_calls.specs.Holds.{in_header, in_record, in_totals, Holds, StartHolds}
 use Rattle.reasons.proofs.Places.{at_same}
 use Rattle.reasons.proofs.Only.{Stops, up_one, dropped_one}
@@ -91,7 +91,7 @@ module _ (s : Forest) (b : Batch) where
 
   -- 18: of a node
   goes_stops : (d : Dropped) → Goes s b d → Stops s.nodes (λ z l. fate s b z l ≡ asParent) d.node
-  goes_stops d (as_root_lem q r t) l p f = absurd (none-ne-some l (sym q ∙ p))
+  goes_stops d (as_root q r t) l p f = absurd (none-ne-some l (sym q ∙ p))
   goes_stops d (from k q g t) l p f =
       let same : k ≡ l = some-injective k l (sym q ∙ p) in
       let both : goes ≡ asParent = sym g ∙ ap (fate s b d.node) same ∙ f in
@@ -99,9 +99,9 @@ module _ (s : Forest) (b : Batch) where
       omega arith
 
   goes_by : (d e : Dropped) → d.node ≡ e.node → Goes s b d → Goes s b e → d.by ≡ e.by
-  goes_by d e n (as_root_lem q r t) (as_root_lem p o u) = t ∙ sym u
-  goes_by d e n (as_root_lem q r t) (from k p g u) = absurd (none-ne-some k (sym q ∙ ap (link_at s.nodes) n ∙ p))
-  goes_by d e n (from k p g u) (as_root_lem q r t) = absurd (none-ne-some k (sym q ∙ ap (link_at s.nodes) (sym n) ∙ p))
+  goes_by d e n (as_root q r t) (as_root p o u) = t ∙ sym u
+  goes_by d e n (as_root q r t) (from k p g u) = absurd (none-ne-some k (sym q ∙ ap (link_at s.nodes) n ∙ p))
+  goes_by d e n (from k p g u) (as_root q r t) = absurd (none-ne-some k (sym q ∙ ap (link_at s.nodes) (sym n) ∙ p))
   goes_by d e n (from k p g u) (from l q h v) =
       let same : k ≡ l = some-injective k l (sym p ∙ ap (link_at s.nodes) n ∙ q) in
       u ∙ ap {B = Option FullNodeId} (λ (m : ParentAndIndex). if listed s b m.parent then some m.parent else none) same ∙ sym v

@@ -43,8 +43,8 @@ unfoldable pub tree_not_there : Case
 tree_not_there = on with_graft (batch_for T none 1 (lists 1 leaf ∷ [])) because notExisting T
 
 -- 9: the first namer and the second
-unfoldable pub named_again_lem : Case
-named_again_lem = on S (batch 2 (lists 1 (parent (2 ∷ 3 ∷ [])) ∷ lists 2 (parent (3 ∷ [])) ∷ []))
+unfoldable pub named_again : Case
+named_again = on S (batch 2 (lists 1 (parent (2 ∷ 3 ∷ [])) ∷ lists 2 (parent (3 ∷ [])) ∷ []))
     because named_twice (id 0 3) (id 0 1 ∷ id 0 2 ∷ [])
 
 -- 10, 11: a listed node that is never placed raises no row; the node that is placed does
@@ -78,8 +78,8 @@ holder_stays =
     because claimed_from_holder U (id 0 4) (id 0 5)
 
 -- 13, 14
-unfoldable pub no_place_lem : Case
-no_place_lem = on S (batch 2 (lists 3 leaf ∷ lists 4 leaf ∷ [])) because without_place (id 0 4) 1
+unfoldable pub no_place : Case
+no_place = on S (batch 2 (lists 3 leaf ∷ lists 4 leaf ∷ [])) because without_place (id 0 4) 1
 
 unfoldable pub no_child : Case
 no_child = on S (batch 2 (lists 2 leaf ∷ lists 1 (parent (2 ∷ 3 ∷ 4 ∷ [])) ∷ [])) because child_nowhere (id 0 1) (id 0 4)
@@ -140,12 +140,12 @@ cases =
     listed_again
     ∷ tree_not_grafted
     ∷ tree_not_there
-    ∷ named_again_lem
+    ∷ named_again
     ∷ graft_over_child
     ∷ root_grafted
     ∷ claimed_again
     ∷ holder_stays
-    ∷ no_place_lem
+    ∷ no_place
     ∷ no_child
     ∷ focus_on_graft
     ∷ new_root_gone

@@ -72,7 +72,7 @@ FocusWay s way P =
 -- Why an old node goes by itself: it was the root, and is replaced; or it is its fate under the parent that it records, which is named if it is
 -- listed.
 pub data Goes (s : Forest) (b : Batch) (d : Dropped) : Type 0 where
-  as_root_lem : link_at s.nodes d.node ≡ none → replaced s b d.node ≡ true → d.by ≡ none → Goes s b d
+  as_root : link_at s.nodes d.node ≡ none → replaced s b d.node ≡ true → d.by ≡ none → Goes s b d
   from : (l : ParentAndIndex) → link_at s.nodes d.node ≡ some l → fate s b d.node l ≡ goes
       → d.by ≡ (if listed s b l.parent then some l.parent else none) → Goes s b d
 

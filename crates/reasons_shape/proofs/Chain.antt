@@ -21,7 +21,7 @@ use Rattle.reasons_why.specs.Why.{found, why_broken}
 use Rattle.reasons_why.specs.declared.Why.{Why}
 use Rattle.state_focus.specs.declared.FoundNode.{FoundNode}
 use Rattle.state_focus.specs.declared.FoundNode.TheVariants as node
-use Rattle.state_focus.specs.Focus.{found_of_lem}
+use Rattle.state_focus.specs.Focus.{found_of}
 use Rattle.reasons_shape.specs.Rules.{rule_why, broken_ways}
 
 -- a rule that is broken has a number, and 0 is none
@@ -125,7 +125,7 @@ module _ (k : ℕ) (b : Broken) {t r : Bool} (test : r ≡ t) {w : Why} where
   if_broken h e = e ∙ rw (sym test ∙ h)
 
 -- an id that is found, as the reason holds it
-pub found_of : {r : FoundNode} {o : Option FullNodeId} → found_of_lem r ≡ o → r ≡ found o
-unfolding found_of_lem found
-found_of {r = node.Nothing} e = ap found e
-found_of {r = node.At x} e = ap found e
+pub found_of_lem : {r : FoundNode} {o : Option FullNodeId} → found_of r ≡ o → r ≡ found o
+unfolding found_of found
+found_of_lem {r = node.Nothing} e = ap found e
+found_of_lem {r = node.At x} e = ap found e

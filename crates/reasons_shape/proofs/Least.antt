@@ -27,7 +27,7 @@ use Rattle.state.specs.Down.{Met, met_under}
 use Rattle.state_array.specs.View.{id_in, node_in, slots_of, view}
 use Rattle.state_focus.specs.declared.FoundNode.{FoundNode}
 use Rattle.state_focus.specs.declared.FoundNode.TheVariants as node
-use Rattle.state_focus.specs.Focus.{found_of_lem}
+use Rattle.state_focus.specs.Focus.{found_of}
 use Rattle.state_lookup.specs.Lookup.{stands_at}
 use Rattle.state_lookup.proofs.Found.{present_slot}
 use Rattle.state_rules.specs.Parts.{below_in, KidSays}
@@ -61,18 +61,18 @@ smallest_more (x ∷ xs) y =
     (λ p. by_test (before y z) (λ q. rw (p, q)) (λ q. rw (p, q, p, before_least x y z p q))))))
 
 -- for each way out of `lesser`
-module _ {least : FoundNode} (y : FullNodeId) (xs : List FullNodeId) (e : found_of_lem least ≡ smallest xs) where
-  pub lesser_only : least ≡ node.Nothing → found_of_lem (node.At y) ≡ smallest (xs ++ y ∷ [])
-  unfolding found_of_lem
+module _ {least : FoundNode} (y : FullNodeId) (xs : List FullNodeId) (e : found_of least ≡ smallest xs) where
+  pub lesser_only : least ≡ node.Nothing → found_of (node.At y) ≡ smallest (xs ++ y ∷ [])
+  unfolding found_of
   lesser_only q = sym (smallest_more xs y ∙ rw (← e, q))
 
   module _ {x : FullNodeId} (q : least ≡ node.At x) {r : Bool} (test : r ≡ before y x) where
-    pub lesser_new : r ≡ true → found_of_lem (node.At y) ≡ smallest (xs ++ y ∷ [])
-    unfolding found_of_lem
+    pub lesser_new : r ≡ true → found_of (node.At y) ≡ smallest (xs ++ y ∷ [])
+    unfolding found_of
     lesser_new h = sym (smallest_more xs y ∙ rw (← e, q, sym test ∙ h))
 
-    pub lesser_old : r ≡ false → found_of_lem (node.At x) ≡ smallest (xs ++ y ∷ [])
-    unfolding found_of_lem
+    pub lesser_old : r ≡ false → found_of (node.At x) ≡ smallest (xs ++ y ∷ [])
+    unfolding found_of
     lesser_old h = sym (smallest_more xs y ∙ rw (← e, q, sym test ∙ h))
 
 -- ## Below one node
@@ -83,7 +83,7 @@ absent_in s ms = keep (λ x. not (present (view s).forest.nodes x)) (map (λ m. 
 
 -- an id is the smallest of some, or there is none
 abbrev pub Least : List FullNodeId → FoundNode → Type 0
-Least xs r = found_of_lem r ≡ smallest xs
+Least xs r = found_of r ≡ smallest xs
 
 -- the places before j have been looked at, from r₀ on
 pub record Lessening (s : List ℕ) (p : ℕ) (r₀ : FoundNode) (j : ℕ) (r : FoundNode) : Type 0 where
@@ -95,8 +95,8 @@ lessening_start = record { all = gathered_start }
 -- the smallest of some ids and of the absent ones below a node
 abbrev pub WithAbsent : List ℕ → ℕ → FoundNode → FoundNode → Type 0
 WithAbsent s p r₀ r =
-    (xs : List FullNodeId) → found_of_lem r₀ ≡ smallest xs
-    → found_of_lem r ≡ smallest (xs ++ keep (λ x. not (present (view s).forest.nodes x)) (ids_below (view s).forest (node_in s p)))
+    (xs : List FullNodeId) → found_of r₀ ≡ smallest xs
+    → found_of r ≡ smallest (xs ++ keep (λ x. not (present (view s).forest.nodes x)) (ids_below (view s).forest (node_in s p)))
 
 module _ {s : List ℕ} {p j : ℕ} {r₀ r : FoundNode} (g : Lessening s p r₀ j r) where
   -- past the last place
@@ -117,7 +117,7 @@ module _ {s : List ℕ} {p j : ℕ} {r₀ r : FoundNode} (g : Lessening s p r₀
           let there : present (view s).forest.nodes y ≡ true = present_slot s y i found ∙ lt-ltb i (slots_of s) (rw slots at h) in
           record { all = rw (rw q at says, there) at g.all }
 
-      pub lessening_absent : n ≤ i → {z : FoundNode} → ((xs : List FullNodeId) → found_of_lem r ≡ smallest xs → found_of_lem z ≡ smallest (xs ++ y ∷ []))
+      pub lessening_absent : n ≤ i → {z : FoundNode} → ((xs : List FullNodeId) → found_of r ≡ smallest xs → found_of z ≡ smallest (xs ++ y ∷ []))
           → Lessening s p r₀ (j + 1) z
       unfolding KidSays met_under
       lessening_absent h step =
@@ -137,10 +137,10 @@ absent_more f (k ∷ ns) n =
 -- the nodes before slot p, of n, have been looked at
 pub record Absences (s : List ℕ) (n p : ℕ) (r : FoundNode) : Type 0 where
   pub within : p ≤ n
-  pub told : found_of_lem r ≡ smallest (absent_ids (view s).forest (list_of p (node_in s)))
+  pub told : found_of r ≡ smallest (absent_ids (view s).forest (list_of p (node_in s)))
 
 pub absences_start : {s : List ℕ} {n : ℕ} → Absences s n 0 node.Nothing
-unfolding found_of_lem absent_ids list_of smallest
+unfolding found_of absent_ids list_of smallest
 absences_start = record { within = omega arith; told = refl }
 
 module _ {s : List ℕ} {n p : ℕ} {r : FoundNode} (g : Absences s n p r) where
@@ -148,24 +148,24 @@ module _ {s : List ℕ} {n p : ℕ} {r : FoundNode} (g : Absences s n p r) where
   absences_more l step =
       record { within = omega arith; told = rw (list_of_more p (node_in s), absent_more (view s).forest (list_of p (node_in s)) (node_in s p)) (step _ g.told) }
 
-  pub absences_end : n ≡ slots_of s → n ≤ p → found_of_lem r ≡ smallest (absent_ids (view s).forest (view s).forest.nodes)
+  pub absences_end : n ≡ slots_of s → n ≤ p → found_of r ≡ smallest (absent_ids (view s).forest (view s).forest.nodes)
   unfolding view
   absences_end slots h = let last : p ≡ slots_of s = omega (arith, g.within) in rw last at g.told
 
 -- ## Rule 4
 
-module _ (s : List ℕ) {k : ℕ} {least : FoundNode} (e : found_of_lem least ≡ smallest (absent_ids (view s).forest (view s).forest.nodes)) {w : Why} where
+module _ (s : List ℕ) {k : ℕ} {least : FoundNode} (e : found_of least ≡ smallest (absent_ids (view s).forest (view s).forest.nodes)) {w : Why} where
   pub absence_none : least ≡ node.Nothing → w ≡ rule_why k 0 → w ≡ why_broken k (absence (view s).forest)
-  unfolding why_broken absence found_of_lem
-  absence_none q t = t ∙ rw (sym e ∙ ap found_of_lem q, absence)
+  unfolding why_broken absence found_of
+  absence_none q t = t ∙ rw (sym e ∙ ap found_of q, absence)
 
   module _ {x : FullNodeId} (q : least ≡ node.At x) {n p : ℕ} (slots : n ≡ slots_of s) (first : First (below_at s x) (slots_of s) p) where
     pub absence_nowhere : n ≤ p → w ≡ rule_why k 0 → w ≡ why_broken k (absence (view s).forest)
-    unfolding why_broken absence found_of_lem below_at
+    unfolding why_broken absence found_of below_at
     absence_nowhere h t =
-        t ∙ rw (sym e ∙ ap found_of_lem q, absence, spot_nowhere s (λ m. has same_id (ids_below (view s).forest m) x) slots first h)
+        t ∙ rw (sym e ∙ ap found_of q, absence, spot_nowhere s (λ m. has same_id (ids_below (view s).forest m) x) slots first h)
 
     pub absence_below : p < n → {y : FoundNode} → y ≡ node.At (id_in s p) → w ≡ node_why k 4 p (node.At x) y node.Nothing → w ≡ why_broken k (absence (view s).forest)
-    unfolding why_broken absence found_of_lem below_at found
+    unfolding why_broken absence found_of below_at found
     absence_below h is t =
-        t ∙ rw (is, sym e ∙ ap found_of_lem q, absence, spot_there s (λ m. has same_id (ids_below (view s).forest m) x) slots first h)
+        t ∙ rw (is, sym e ∙ ap found_of q, absence, spot_there s (λ m. has same_id (ids_below (view s).forest m) x) slots first h)

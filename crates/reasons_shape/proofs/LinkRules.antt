@@ -28,14 +28,14 @@ use Rattle.state_array.specs.declared.ShapeRow.{ShapeRow}
 use Rattle.state_array.specs.View.{id_in, link_in, link_of, shape_in, children_in, body_in, node_in, slots_of, view}
 use Rattle.state_focus.specs.declared.FoundNode.{FoundNode}
 use Rattle.state_focus.specs.declared.FoundNode.TheVariants as node
-use Rattle.state_focus.specs.Focus.{found_of_lem}
+use Rattle.state_focus.specs.Focus.{found_of}
 use Rattle.state_lookup.specs.Lookup.{stands_at}
 use Rattle.state_lookup.proofs.Found.{find_there, find_absent, present_slot}
 use Rattle.state_rules.specs.Parts.{bare_in}
 use Rattle.state_rules.proofs.Grafts.{bare_at}
 use Rattle.reasons_shape.specs.Rules.{rule_why, node_why, ClimbSays}
 use Rattle.reasons_shape.specs.declared.links.Climb.{Climb}
-use Rattle.reasons_shape.proofs.Chain.{kept, found_of}
+use Rattle.reasons_shape.proofs.Chain.{kept, found_of_lem}
 use Rattle.base.proofs.Rest.{Rest, rest_start, rest_more}
 use Rattle.reasons_shape.proofs.Slots.{nodes, nodes_at, nodes_past, nodes_many, Seeking, seeking_here, none_passes}
 
@@ -101,20 +101,20 @@ module _ (s : List ℕ) (i : ℕ) {x : FullNodeId} (own : x ≡ id_in s i) where
 
 -- ## Parents
 
-pub parent_none : (l : LinkRow) → l.linked ≡ 0 → found_of_lem node.Nothing ≡ parent_of (link_of l)
-unfolding found_of_lem parent_of link_of
+pub parent_none : (l : LinkRow) → l.linked ≡ 0 → found_of node.Nothing ≡ parent_of (link_of l)
+unfolding found_of parent_of link_of
 parent_none l e = rw (eq-eqb l.linked 0 e)
 
-pub parent_some : (l : LinkRow) → (l.linked ≡ 0 → ⊥) → found_of_lem (node.At l.parent) ≡ parent_of (link_of l)
-unfolding found_of_lem parent_of link_of
+pub parent_some : (l : LinkRow) → (l.linked ≡ 0 → ⊥) → found_of (node.At l.parent) ≡ parent_of (link_of l)
+unfolding found_of parent_of link_of
 parent_some l e = rw (ne_eqb l.linked 0 e)
 
 module _ (s : List ℕ) (x : FullNodeId) {n i : ℕ} (slots : n ≡ slots_of s) (first : First (stands_at s x) (slots_of s) i) where
-  pub parent_absent : n ≤ i → found_of_lem node.Nothing ≡ parent_at (view s).forest.nodes x
-  unfolding found_of_lem parent_at link_at
+  pub parent_absent : n ≤ i → found_of node.Nothing ≡ parent_at (view s).forest.nodes x
+  unfolding found_of parent_at link_at
   parent_absent h = let away : link_at (view s).forest.nodes x ≡ none = rw (find_absent s x i first (rw slots at h), link_at) in rw (away, parent_at)
 
-  pub parent_there : i < n → {l : LinkRow} → l ≡ link_in s i → (r : FoundNode) → found_of_lem r ≡ parent_of (link_of l) → found_of_lem r ≡ parent_at (view s).forest.nodes x
+  pub parent_there : i < n → {l : LinkRow} → l ≡ link_in s i → (r : FoundNode) → found_of r ≡ parent_of (link_of l) → found_of r ≡ parent_at (view s).forest.nodes x
   unfolding parent_at link_at parent_of node_in
   parent_there h {l} is r e =
       let there : link_at (view s).forest.nodes x ≡ link_of l = rw (find_there s x i first (rw slots at h), link_at, is) in
@@ -139,31 +139,31 @@ module _ {s : List ℕ} {x y : FullNodeId} {left : ℕ} (g : Climbing s x left y
   unfolding topmost_within found dropped_node dropped_by
   climbing_end h = let z : left ≡ 0 = omega arith in rw (← rw z at g.rest) (record { node = refl; by = refl })
 
-  module _ (some_left : 0 < left) {p : FoundNode} (above : found_of_lem p ≡ parent_at (view s).forest.nodes y) where
+  module _ (some_left : 0 < left) {p : FoundNode} (above : found_of p ≡ parent_at (view s).forest.nodes y) where
     -- a node without a parent
     pub climbing_top : p ≡ node.Nothing
         → ClimbSays (topmost_within (slots_of s) (view s).forest (reached_in s) x) (record { node = node.At y; by = node.Nothing })
-    unfolding topmost_within found dropped_node dropped_by found_of_lem
+    unfolding topmost_within found dropped_node dropped_by found_of
     climbing_top q =
         let z : left ≡ suc (left - 1) = omega arith in
-        rw (← rw (z, sym above ∙ ap found_of_lem q, topmost_within) at g.rest) (record { node = refl; by = refl })
+        rw (← rw (z, sym above ∙ ap found_of q, topmost_within) at g.rest) (record { node = refl; by = refl })
 
     module _ {u : FullNodeId} (q : p ≡ node.At u) {r : Bool}
         (test : r ≡ present (view s).forest.nodes u && is_nil (met_links (view s).forest (reached_in s) u)) where
       -- one whose parent is met or absent
       pub climbing_held : r ≡ false
           → ClimbSays (topmost_within (slots_of s) (view s).forest (reached_in s) x) (record { node = node.At y; by = node.At u })
-      unfolding topmost_within found dropped_node dropped_by found_of_lem
+      unfolding topmost_within found dropped_node dropped_by found_of
       climbing_held h =
           let z : left ≡ suc (left - 1) = omega arith in
-          rw (← rw (z, sym above ∙ ap found_of_lem q, topmost_within, call_false test h) at g.rest) (record { node = refl; by = refl })
+          rw (← rw (z, sym above ∙ ap found_of q, topmost_within, call_false test h) at g.rest) (record { node = refl; by = refl })
 
       -- one whose parent is neither
       pub climbing_on : r ≡ true → Climbing s x (left - 1) u
-      unfolding topmost_within found_of_lem
+      unfolding topmost_within found_of
       climbing_on h =
           let z : left ≡ suc (left - 1) = omega arith in
-          record { rest = rw (z, sym above ∙ ap found_of_lem q, topmost_within, call_true test h) at g.rest }
+          record { rest = rw (z, sym above ∙ ap found_of q, topmost_within, call_true test h) at g.rest }
 
 -- ## Rule 6
 
@@ -224,10 +224,10 @@ module _ {s : List ℕ} {i n : ℕ} (g : Agreeing s i) (slots : n ≡ slots_of s
     unfolding wrong_link_from
     agreeing_more h = record { rest = rest_more g.rest (nodes_at s i (rw slots at l)) (rw (disagrees_is ∙ ap not h)) }
 
-    pub agreeing_fails : {k : ℕ} {w : Why} → r ≡ false → {y by also : FoundNode} → y ≡ node.At (id_in s i) → found_of_lem by ≡ parent_of (link_of own)
-        → found_of_lem also ≡ parent_of (link_of met.first) → w ≡ node_why k 7 i y by also
+    pub agreeing_fails : {k : ℕ} {w : Why} → r ≡ false → {y by also : FoundNode} → y ≡ node.At (id_in s i) → found_of by ≡ parent_of (link_of own)
+        → found_of also ≡ parent_of (link_of met.first) → w ≡ node_why k 7 i y by also
         → w ≡ why_broken k (wrong_link_from 0 (view s).forest (reached_in s) (view s).forest.nodes)
     unfolding why_broken wrong_link_from node_in found
     agreeing_fails {k} h here a b e =
-        e ∙ rw (here, found_of a, found_of b, is, ← met_is)
+        e ∙ rw (here, found_of_lem a, found_of_lem b, is, ← met_is)
         (ap (why_broken k) (rw (nodes_at s i (rw slots at l), disagrees_is ∙ ap not h) at g.rest.same))

@@ -26,7 +26,7 @@ use Rattle.state_array.specs.declared.TreeRow.{TreeRow}
 use Rattle.state_array.specs.View.{graft_in, id_in, shape_in, body_in, node_in, tree_in, entry_in, slots_of, trees_of, view}
 use Rattle.state_focus.specs.declared.FoundNode.{FoundNode}
 use Rattle.state_focus.specs.declared.FoundNode.TheVariants as node
-use Rattle.state_focus.specs.Focus.{found_of_lem}
+use Rattle.state_focus.specs.Focus.{found_of}
 use Rattle.state_rules.specs.Parts.{grafts_tree, rooted_in}
 use Rattle.state_rules.proofs.Grafts.{graft_none, graft_some, grafts_at}
 use Rattle.state_rules.proofs.Trees.{old_id, old_found, new_found, rooted_row}
@@ -60,14 +60,14 @@ pub holding_start : {s : List ℕ} {t : TreeId} {i : ℕ} → Holding s t i i
 holding_start = record { same = refl }
 
 module _ {s : List ℕ} {t : TreeId} {i j n : ℕ} (g : Holding s t i j) (slots : n ≡ slots_of s) where
-  pub holding_end : n ≤ j → found_of_lem node.Nothing ≡ holder (drop i (view s).forest.nodes) t
-  unfolding found_of_lem holder
+  pub holding_end : n ≤ j → found_of node.Nothing ≡ holder (drop i (view s).forest.nodes) t
+  unfolding found_of holder
   holding_end h = rw (nodes_past s j (rw slots at h)) at g.same
 
   module _ (l : j < n) {r : Bool} (test : r ≡ grafts_tree s t j) where
-    pub holding_here : r ≡ true → {y : FoundNode} → y ≡ node.At (id_in s j) → found_of_lem y ≡ holder (drop i (view s).forest.nodes) t
-    unfolding found_of_lem
-    holding_here h is = ap found_of_lem is ∙ sym (holder_here s t j (drop (j + 1) (nodes s)) (sym test ∙ h)) ∙ rw (nodes_at s j (rw slots at l)) at g.same
+    pub holding_here : r ≡ true → {y : FoundNode} → y ≡ node.At (id_in s j) → found_of y ≡ holder (drop i (view s).forest.nodes) t
+    unfolding found_of
+    holding_here h is = ap found_of is ∙ sym (holder_here s t j (drop (j + 1) (nodes s)) (sym test ∙ h)) ∙ rw (nodes_at s j (rw slots at l)) at g.same
 
     pub holding_more : r ≡ false → Holding s t i (j + 1)
     holding_more h = record { same = sym (holder_later s t j (drop (j + 1) (nodes s)) (sym test ∙ h)) ∙ rw (nodes_at s j (rw slots at l)) at g.same }
@@ -104,21 +104,21 @@ module _ {s : List ℕ} {i n : ℕ} (g : Regrafting s i) (slots : n ≡ slots_of
     grafts : b ≡ true → graft? (node_in s i).body ≡ some d.graft
     grafts h = graft_at_lem s i ∙ graft_some s i (rw is at (call_true flag h)) ∙ rw is
 
-    module _ (h : b ≡ true) (o : FoundNode) (later : found_of_lem o ≡ holder (drop (i + 1) (view s).forest.nodes) d.graft) where
+    module _ (h : b ≡ true) (o : FoundNode) (later : found_of o ≡ holder (drop (i + 1) (view s).forest.nodes) d.graft) where
       -- a graft alone
       pub regrafting_alone : o ≡ node.Nothing → Regrafting s (i + 1)
-      unfolding graft_twice_from found_of_lem
+      unfolding graft_twice_from found_of
       regrafting_alone q =
-          record { rest = rest_more g.rest (nodes_at s i (rw slots at l)) (rw (grafts h, graft_twice_from, sym later ∙ ap found_of_lem q)) }
+          record { rest = rest_more g.rest (nodes_at s i (rw slots at l)) (rw (grafts h, graft_twice_from, sym later ∙ ap found_of q)) }
 
       -- one of two
       pub regrafting_fails : {k : ℕ} {w : Why} {y : FullNodeId} → o ≡ node.At y → {x : FoundNode} → x ≡ node.At (id_in s i) → {t : TreeId} → t ≡ d.graft
           → w ≡ record { number = k; rule = 9; place = i; other = 0; tree = t; node = x; by = node.Nothing; also = node.At y }
           → w ≡ why_broken k (regraft (graft_twice_from 0 (view s).forest.nodes))
-      unfolding why_broken graft_twice_from found_of_lem found node_in
+      unfolding why_broken graft_twice_from found_of found node_in
       regrafting_fails {k} q here tree e =
           e ∙ rw (here, tree)
-          (ap (λ z. why_broken k (regraft z)) (rw (nodes_at s i (rw slots at l), grafts h, graft_twice_from, sym later ∙ ap found_of_lem q) at g.rest.same))
+          (ap (λ z. why_broken k (regraft z)) (rw (nodes_at s i (rw slots at l), grafts h, graft_twice_from, sym later ∙ ap found_of q) at g.rest.same))
 
 -- ## Rules 11 and 12
 

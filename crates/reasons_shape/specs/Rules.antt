@@ -11,7 +11,7 @@ use Rattle.reasons_why.specs.declared.Why.{Why}
 use Rattle.state.specs.State.{Forest, present}
 use Rattle.state.specs.Sound.{graft_is_bare}
 use Rattle.state_array.specs.View.{node_in, tree_in, view}
-use Rattle.state_focus.specs.Focus.{found_of_lem}
+use Rattle.state_focus.specs.Focus.{found_of}
 use Rattle.state_focus.specs.declared.FoundNode.{FoundNode}
 use Rattle.reasons_shape.specs.declared.links.Climb.{Climb}
 
@@ -21,7 +21,7 @@ absent_under s p = keep (λ x. not (present (view s).forest.nodes x)) (ids_below
 
 -- `least` is the smallest of some ids, and r that of them and of ys
 abbrev pub LeastWith : FoundNode → List FullNodeId → FoundNode → Type 0
-LeastWith least ys r = (xs : List FullNodeId) → found_of_lem least ≡ smallest xs → found_of_lem r ≡ smallest (xs ++ ys)
+LeastWith least ys r = (xs : List FullNodeId) → found_of least ≡ smallest xs → found_of r ≡ smallest (xs ++ ys)
 
 -- a rule alone, for number k; rule 0 where none is broken
 abbrev pub rule_why : ℕ → ℕ → Why

@@ -10,7 +10,7 @@ ghost use Rattle.reasons_why.specs.Why.{why_broken};
 ghost use Rattle.state.specs.State.{present, same_link, parent_of, parent_at};
 ghost use Rattle.state.specs.Sound.{graft_is_bare};
 ghost use Rattle.state_array.specs.View.{view, slots_of, node_in, link_of};
-ghost use Rattle.state_focus.specs.Focus.{found_of_lem};
+ghost use Rattle.state_focus.specs.Focus.{found_of};
 ghost use Rattle.reasons_shape.specs.Rules.{LeastWith, absent_under, broken_ways, ClimbSays};
 
 use crate::reached::{Slots, is_below, met_links};
@@ -113,7 +113,7 @@ fn absence(state: &State, number: u8) -> Why
 // The smallest id below a node that is absent.
 fn least_absent(state: &State) -> FoundNode
     requires { Few state.now }
-    ensures { found_of_lem result ≡ smallest (absent_ids (view state.now).forest (view state.now).forest.nodes) }
+    ensures { found_of result ≡ smallest (absent_ids (view state.now).forest (view state.now).forest.nodes) }
 {
     let n = state_array::slots(state);
     let mut least = FoundNode::Nothing;
@@ -274,7 +274,7 @@ fn topmost<'a>(state: &'a State, marks: &'a Slots, x: FullNodeId) -> Climb
 
 // The parent that a node records.
 fn parent_at(state: &State, x: FullNodeId) -> FoundNode
-    ensures { found_of_lem result ≡ parent_at (view state.now).forest.nodes x }
+    ensures { found_of result ≡ parent_at (view state.now).forest.nodes x }
 {
     let i = state_lookup::find_in(state, x);
     if state_array::slots(state) <= i {
@@ -285,7 +285,7 @@ fn parent_at(state: &State, x: FullNodeId) -> FoundNode
 
 // The parent of a link.
 fn parent_of(l: LinkRow) -> FoundNode
-    ensures { found_of_lem result ≡ parent_of (link_of l) }
+    ensures { found_of result ≡ parent_of (link_of l) }
 {
     if l.linked == 0 {
         return FoundNode::Nothing;

@@ -8,7 +8,7 @@ ghost use Rattle.reasons_why.specs.Why.{why_broken};
 ghost use Rattle.state.specs.State.{holder};
 ghost use Rattle.state.specs.Sound.{root_first};
 ghost use Rattle.state_array.specs.View.{view, slots_of, trees_of};
-ghost use Rattle.state_focus.specs.Focus.{found_of_lem};
+ghost use Rattle.state_focus.specs.Focus.{found_of};
 ghost use Rattle.state_rules.specs.Parts.{rooted_in};
 ghost use Rattle.reasons_shape.specs.Rules.{tree_why};
 
@@ -71,7 +71,7 @@ fn graft_twice(state: &State, number: u8) -> Why
 // The first node after slot i that grafts a tree.
 fn later_graft(state: &State, i: usize, t: TreeId) -> FoundNode
     requires { i < slots_of state.now }
-    ensures { found_of_lem result ≡ holder (drop (i + 1) (view state.now).forest.nodes) t }
+    ensures { found_of result ≡ holder (drop (i + 1) (view state.now).forest.nodes) t }
 {
     let n = state_array::slots(state);
     let mut j = i + 1;

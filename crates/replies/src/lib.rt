@@ -4,7 +4,7 @@
 ghost use Rattle.std.proofs.Math.Option.{none};
 ghost use Rattle.std.specs.Prelude.{◌≡◌};
 ghost use Rattle.base.specs.Tests.{if◌then◌else◌};
-ghost use Rattle.state_focus.specs.Focus.{found_of_lem};
+ghost use Rattle.state_focus.specs.Focus.{found_of};
 ghost use Rattle.replies.specs.Replies.{plain_id, is_set};
 ghost use Rattle.replies.specs.Plain.{lengths_are, refused_reply};
 
@@ -89,7 +89,7 @@ pub fn no_lengths() -> Lengths
 
 // An enum as a plain id.
 pub fn plain_id(found: FoundNode) -> OptionalId
-    ensures { result ≡ plain_id (found_of_lem found) }
+    ensures { result ≡ plain_id (found_of found) }
 {
     let FoundNode::At(x) = found else {
         return no_id();

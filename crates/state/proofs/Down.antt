@@ -165,7 +165,7 @@ descent s h r = record {
     start = record { id = r.root; link = none }
 
     way : way_down s ≡ down (suc (length s.nodes)) s (start ∷ [])
-    way = way_down_from s r.root r.is_root_lem
+    way = way_down_from s r.root r.is_the_root
 
     short : length (down (suc (length s.nodes)) s (start ∷ [])) < suc (length s.nodes)
     short = rw (← way) (omega (arith, leb-true (length (way_down s)) (length s.nodes) h.ends))
@@ -227,12 +227,12 @@ pub way_each : (P : Met → Type 0) (s : Forest) (r : Root s) → P (record { id
 way_each P s r p f m i =
     let start : Met = record { id = r.root; link = none } in
     down_each P s f (suc (length s.nodes)) (start ∷ []) (λ j q. subst P (sym (Memᴰ.eq_of_singleton q)) p) m
-    (rw (way_down_from s r.root r.is_root_lem) at i)
+    (rw (way_down_from s r.root r.is_the_root) at i)
 
 -- in a sound shape, what is below a node that is met is met
 pub below_met : (s : Forest) (h : Shape s) (r : Root s) (k m : Met) → Memᴰ k (way_down s) → Memᴰ m (below_id s k.id) → Memᴰ m (way_down s)
 below_met s h r k m i j =
-    let way = way_down_from s r.root r.is_root_lem in
+    let way = way_down_from s r.root r.is_the_root in
     let start : List Met = record { id = r.root; link = none } ∷ [] in
     let short : length (down (suc (length s.nodes)) s start) < suc (length s.nodes) =
     rw (← way) (omega (arith, leb-true (length (way_down s)) (length s.nodes) h.ends)) in

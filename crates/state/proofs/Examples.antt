@@ -10,7 +10,7 @@ use lib.Ieee.{of_bits, to_bits, eq}
 use Rattle.base.specs.Tests.{◌&&◌}
 use Rattle.base.specs.Bytes.{list_of}
 use Rattle.base.specs.Floats.{zero_bytes}
-use Rattle.ids.specs.Ids.{ROOT, same_tree, same_index_lem, same_node, same_id, before}
+use Rattle.ids.specs.Ids.{ROOT, same_tree, same_index, same_node, same_id, before}
 use Rattle.geometry.specs.Geometry.{rect_test, affine_test}
 use Rattle.record.specs.Batch.{NodeData, active_descendant?, graft?, fields_ok}
 use Rattle.record.specs.ExampleNodes.{T, U, same_four, data_with, parent, leaf, labelled, grafts, graft_over, active, boxed}
@@ -23,7 +23,7 @@ use Rattle.state.specs.ExampleStates.{id, root, under, tree, no_tree, state}
 
 -- `unfolding computed` unfolds every definition
 computed : Unit {0}
-unfolding ◌&&◌ list_of zero_bytes same_tree same_index_lem same_node same_id before rect_test affine_test active_descendant? graft? fields_ok same_link ids_of find
+unfolding ◌&&◌ list_of zero_bytes same_tree same_index same_node same_id before rect_test affine_test active_descendant? graft? fields_ok same_link ids_of find
     present graft_at link_at parent_at holder subtree_state subtree_from subtree_of met_under children_met below below_id down root_of way_down climb
     through_grafts effective_focus or_active_descendant state_focus met_once recorded graft_is_bare sound_links grafts_differ grafted all_grafted root_first
     one_id_each sound_trees ascending way_ends sound_shape focus_present sound of_bits to_bits eq
@@ -75,7 +75,7 @@ sound_states = refl
 
 -- ## States that break a rule of links
 
-broken_links_lem :
+broken_links :
     map sound
     -- a node met twice; a node never met; a named child that is absent; a node that names itself
     (forest (root 0 1 (parent (2 ∷ 2 ∷ [])) ∷ two ∷ []) (tree ROOT 1 2 ∷ [])
@@ -94,11 +94,11 @@ broken_links_lem :
     ∷ [])
     ≡ replicate 10 false
 unfolding computed
-broken_links_lem = refl
+broken_links = refl
 
 -- ## States that break another rule
 
-broken_trees_lem :
+broken_trees :
     map sound
     -- two grafts of one tree that does not exist; an existing tree without a graft; one whose root is absent
     (forest (one ∷ under (id 0 1) 0 (id 0 2) (grafts T) ∷ three ∷ []) (tree ROOT 1 1 ∷ [])
@@ -120,7 +120,7 @@ broken_trees_lem :
     ∷ [])
     ≡ replicate 13 false
 unfolding computed
-broken_trees_lem = refl
+broken_trees = refl
 
 -- at most 32 tree numbers
 abbrev numbered : ℕ → Forest

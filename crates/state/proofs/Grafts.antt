@@ -91,7 +91,7 @@ root_spared s h = all_of (λ n. spares ROOT n.body) s.nodes (λ n i. not_spares 
     grafts n i q =
         let once = eqb-true (count (λ m. same_id n.id m.id) (way_down s)) 1 (all_member (met_once (way_down s)) s.nodes n h.once i) in
         let met = some_met n.id (way_down s) 0 once in
-        let u = some_from (subtree_of s ROOT) (λ v. some v.root) r.root r.is_root_lem in
+        let u = some_from (subtree_of s ROOT) (λ v. some v.root) r.root r.is_the_root in
         let under : Met = met_under n.id 0 u.0.root in
         let below-it : Memᴰ under (below_id s met.0.id) =
         rw (met.2, below_graft s n ROOT u.0 (find_self s.nodes n h.ordered i) q u.1) (mathlib.Core.List.Memᴰ.head refl) in

@@ -171,10 +171,10 @@ once s room r e x =
 -- ## Counting the nodes
 
 -- n pigeons, one at most in each of n holes
-pub each_once_lem : (ns : List NodeState) (ms : List Met) → ((x : FullNodeId) → meets x ms ≤ 1) → (total ns ms ≤ length ns) × (total ns ms ≡ length ns → all (met_once ms) ns ≡ true)
+pub each_once : (ns : List NodeState) (ms : List Met) → ((x : FullNodeId) → meets x ms ≤ 1) → (total ns ms ≤ length ns) × (total ns ms ≡ length ns → all (met_once ms) ns ≡ true)
 unfolding total met_once meets
-each_once_lem [] ms h = (omega arith, λ e. refl)
-each_once_lem (n ∷ ns) ms h =
-    let r = each_once_lem ns ms h in
+each_once [] ms h = (omega arith, λ e. refl)
+each_once (n ∷ ns) ms h =
+    let r = each_once ns ms h in
     let one = h n.id in
     (omega (arith, r.0), λ e. joined (eq-eqb (meets n.id ms) 1 (omega (arith, r.0))) (r.1 (omega (arith, r.0))))

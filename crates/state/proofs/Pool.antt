@@ -76,7 +76,7 @@ module _ (s : Forest) where
   way_length : Shape s → length (way_down s) ≡ 1 + sum_over below_count (met_ids (way_down s))
   way_length h =
       let r = root_of_shape s h in
-      let way = way_down_from s r.root r.is_root_lem in
+      let way = way_down_from s r.root r.is_the_root in
       let start : List Met = record { id = r.root; link = none } ∷ [] in
       let short : length (down (suc (length s.nodes)) s start) < suc (length s.nodes) =
       rw (← way) (omega (arith, leb-true (length (way_down s)) (length s.nodes) h.ends)) in

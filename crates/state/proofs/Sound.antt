@@ -56,7 +56,7 @@ sound_of s p = joined (joined (joined (joined p.shape p.few_nodes) p.few_trees) 
 
 pub record Root (s : Forest) : Type 0 where
   pub root : FullNodeId
-  pub is_root_lem : root_of s ≡ some root
+  pub is_the_root : root_of s ≡ some root
   pub there : present s.nodes root ≡ true
 
 root_of_first : (ns : List NodeState) (t : TreeEntry) (ts : List TreeEntry) (u : Subtree) → t.id ≡ ROOT → t.subtree ≡ some u
@@ -71,7 +71,7 @@ root_of_tables ns (t ∷ ts) e f =
     by_option t.subtree (λ q. absurd (false≢true (rw q at (both e).1)))
     (λ u q. record {
       root = record { tree = record { 0 = 0 }; node = u.root };
-      is_root_lem = root_of_first ns t ts u (same_tree→≡ t.id ROOT (both e).0) q;
+      is_the_root = root_of_first ns t ts u (same_tree→≡ t.id ROOT (both e).0) q;
       there = (both (rw q at (both f).0)).0;
     })
 

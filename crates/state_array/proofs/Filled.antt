@@ -28,9 +28,9 @@ use Rattle.state_array.proofs.Entries.{entries_length, entries_within, entries_a
 -- ## Parts filled in an order of their numbers
 
 -- the regions of the parts js of qs, filled one after another
-abbrev pub in_order_lem : List Part → List ℕ → List ℕ → List ℕ
-in_order_lem qs [] s = s
-in_order_lem qs (j ∷ js) s = in_order_lem qs js (fill (part_start qs j) (part_of qs j).used (part_of qs j).word s)
+abbrev pub in_order : List Part → List ℕ → List ℕ → List ℕ
+in_order qs [] s = s
+in_order qs (j ∷ js) s = in_order qs js (fill (part_start qs j) (part_of qs j).used (part_of qs j).word s)
 
 -- the parts then
 abbrev pub used_in : List Part → List ℕ → List Part → List Part
@@ -86,16 +86,16 @@ free_in (p ∷ ps) zero n h u l = (u, l)
 free_in (p ∷ ps) (suc j) n h u l = free_in ps j n (omega arith) u l
 
 -- a fill for each, in any order
-in_order : (qs : List Part) → fitting qs ≡ true → (js : List ℕ) (ps : List Part) → sizes ps ≡ sizes qs → each_once qs js ps ≡ true
-    → in_order_lem qs js (image ps) ≡ image (used_in qs js ps)
-in_order qs fit [] ps e once = refl
-in_order qs fit (j ∷ js) ps e once =
-    ap (in_order_lem qs js)
+in_order_lem : (qs : List Part) → fitting qs ≡ true → (js : List ℕ) (ps : List Part) → sizes ps ≡ sizes qs → each_once qs js ps ≡ true
+    → in_order qs js (image ps) ≡ image (used_in qs js ps)
+in_order_lem qs fit [] ps e once = refl
+in_order_lem qs fit (j ∷ js) ps e once =
+    ap (in_order qs js)
     (ap (λ k. fill k (part_of qs j).used (part_of qs j).word (image ps)) (start_in_lem qs j ∙ ap (λ ns. start_in ns j) (sym e) ∙ sym (start_in_lem ps j))
     ∙ image_filled ps j (part_of qs j).used (part_of qs j).word
     (free_in ps j (part_of qs j).used (ltb-true j (length ps) (both (both once).0).0) (eqb-true (part_of ps j).used 0 (both (both once).0).1)
     (rw (size_in ps j, e, ← size_in qs j) (fits_in qs j fit))))
-    ∙ in_order qs fit js (with_part ps j (part_of qs j).used (part_of qs j).word) (sizes_with ps j (part_of qs j).used (part_of qs j).word ∙ e) (both once).1
+    ∙ in_order_lem qs fit js (with_part ps j (part_of qs j).used (part_of qs j).word) (sizes_with ps j (part_of qs j).used (part_of qs j).word ∙ e) (both once).1
 
 -- ## Of a state
 
@@ -110,11 +110,11 @@ module _ (a : State) (few : length a.forest.nodes ≤ SLOTS) (fewTrees : length 
 
   -- the writers' order is any in which every region comes once
   pub filled_in_order : (js : List ℕ) → each_once (parts a) js (blanks (sizes (parts a))) ≡ true → used_in (parts a) js (blanks (sizes (parts a))) ≡ parts a
-      → in_order_lem (parts a) js blank_words ≡ stored a
+      → in_order (parts a) js blank_words ≡ stored a
   unfolding stored list_of
   filled_in_order js once all =
-      ap (in_order_lem (parts a) js) (zeros_image (sizes (parts a)))
-      ∙ in_order (parts a) parts_fit js (blanks (sizes (parts a))) (sizes_blanks (sizes (parts a))) once
+      ap (in_order (parts a) js) (zeros_image (sizes (parts a)))
+      ∙ in_order_lem (parts a) parts_fit js (blanks (sizes (parts a))) (sizes_blanks (sizes (parts a))) once
       ∙ ap image all
 
 -- ## In the order of the writers

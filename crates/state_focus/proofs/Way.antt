@@ -28,7 +28,7 @@ use Rattle.state_lookup.specs.declared.FoundTree.{FoundTree}
 use Rattle.state_lookup.specs.declared.FoundTree.TheVariants as tree
 use Rattle.state_focus.specs.declared.FoundNode.{FoundNode}
 use Rattle.state_focus.specs.declared.FoundNode.TheVariants as node
-use Rattle.state_focus.specs.Focus.{found_of_lem}
+use Rattle.state_focus.specs.Focus.{found_of}
 use Rattle.state_lookup.proofs.Found.{find_there, find_absent, present_slot}
 
 -- ## The way through the grafts
@@ -133,13 +133,13 @@ module _ (s : List ℕ) {h : ℕ} (host : h ≡ host_of s) where
   unfolding state_focus view
   unfocused e = rw (← host, eq-eqb h 0 e, state_focus)
 
-  module _ {r : FoundNode} (way : found_of_lem r ≡ effective_focus (view s).forest) (e : h ≡ 0 → ⊥) where
+  module _ {r : FoundNode} (way : found_of r ≡ effective_focus (view s).forest) (e : h ≡ 0 → ⊥) where
     -- none where there is no effective focus
     pub focus_none : r ≡ node.Nothing → none ≡ state_focus (view s)
-    unfolding state_focus view found_of_lem
-    focus_none q = rw (← host, ne_eqb h 0 e, state_focus, sym way ∙ ap found_of_lem q)
+    unfolding state_focus view found_of
+    focus_none q = rw (← host, ne_eqb h 0 e, state_focus, sym way ∙ ap found_of q)
 
     -- else its active descendant, if present
     pub focus_some : {x y : FullNodeId} → r ≡ node.At x → y ≡ or_active_descendant (view s).forest.nodes x → some y ≡ state_focus (view s)
-    unfolding state_focus view found_of_lem
-    focus_some q a = rw (← host, ne_eqb h 0 e, state_focus, sym way ∙ ap found_of_lem q, a)
+    unfolding state_focus view found_of
+    focus_some q a = rw (← host, ne_eqb h 0 e, state_focus, sym way ∙ ap found_of q, a)

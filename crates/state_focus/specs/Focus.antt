@@ -5,6 +5,6 @@ use Rattle.state_focus.specs.declared.FoundNode.{FoundNode}
 use Rattle.state_focus.specs.declared.FoundNode.TheVariants as node
 
 -- the id that was found, if any
-unfoldable pub found_of_lem : FoundNode → Option FullNodeId
-found_of_lem (node.At x) = some x
-found_of_lem node.Nothing = none
+unfoldable pub found_of : FoundNode → Option FullNodeId
+found_of (node.At x) = some x
+found_of node.Nothing = none

@@ -4,7 +4,7 @@
 ghost use Rattle.std.specs.Prelude.{◌≡◌, ◌+◌};
 ghost use Rattle.state.specs.Focus.{through_grafts, effective_focus, or_active_descendant, state_focus};
 ghost use Rattle.state_array.specs.View.{trees_of, view};
-ghost use Rattle.state_focus.specs.Focus.{found_of_lem};
+ghost use Rattle.state_focus.specs.Focus.{found_of};
 
 use ids::{FullNodeId, TreeId};
 use state_array::State;
@@ -19,7 +19,7 @@ pub enum FoundNode {
 
 // `TreeState::focus`: from the effective focus to the active descendant; none without host focus.
 pub fn focus(state: &State) -> FoundNode
-    ensures { found_of_lem result ≡ state_focus (view state.now) }
+    ensures { found_of result ≡ state_focus (view state.now) }
 {
     if state_array::host(state) == 0 {
         return FoundNode::Nothing;
@@ -32,7 +32,7 @@ pub fn focus(state: &State) -> FoundNode
 
 // The effective focus: from ROOT's focus through the grafts.
 pub fn effective_focus(state: &State) -> FoundNode
-    ensures { found_of_lem result ≡ effective_focus (view state.now).forest }
+    ensures { found_of result ≡ effective_focus (view state.now).forest }
 {
     let FoundTree::At(e) = state_lookup::tree_of(state, TreeId { high: 0, low: 0 }) else {
         return FoundNode::Nothing;
@@ -43,7 +43,7 @@ pub fn effective_focus(state: &State) -> FoundNode
 
 // Going on from x to the tree's focus while it is present and a graft.
 fn through_grafts(state: &State, x: FullNodeId) -> FoundNode
-    ensures { found_of_lem result ≡ through_grafts (trees_of state.now + 1) (view state.now).forest x }
+    ensures { found_of result ≡ through_grafts (trees_of state.now + 1) (view state.now).forest x }
 {
     let n = state_array::slots(state);
     let mut at = x;

@@ -22,7 +22,7 @@ use Rattle.state.specs.Sound.{ascending}
 use Rattle.state.proofs.Order.{ascending_list_of, ascending_at}
 use Rattle.state_array.specs.View.{id_in, node_in, slots_of, view}
 use Rattle.state_array.proofs.View.{view_ids}
-use Rattle.state_lookup.specs.Lookup.{ascend, in_order_lem, in_slot, SlotAmong, SlotOf}
+use Rattle.state_lookup.specs.Lookup.{ascend, in_order, in_slot, SlotAmong, SlotOf}
 
 module _ (id : ℕ → FullNodeId) (n : ℕ) (up : ascend n id ≡ true) where
   -- neighbours are in order
@@ -131,7 +131,7 @@ module _ {n : ℕ} {id : ℕ → FullNodeId} {x : FullNodeId} where
 -- ## The order of nodes
 
 -- the nodes of a state ascend if and only if its ids do
-pub ordered_is : (s : List ℕ) → ascending (view s).forest.nodes ≡ in_order_lem s
+pub ordered_is : (s : List ℕ) → ascending (view s).forest.nodes ≡ in_order s
 unfolding view node_in ascend
 ordered_is s =
     let n : ℕ = slots_of s in

@@ -16,8 +16,8 @@ unfoldable pub ascend : ℕ → (ℕ → FullNodeId) → Bool
 ascend n id = all_below (n - 1) (λ i. before (id i) (id (i + 1)))
 
 -- the ids of a state ascend
-abbrev pub in_order_lem : List ℕ → Bool
-in_order_lem s = ascend (slots_of s) (id_in s)
+abbrev pub in_order : List ℕ → Bool
+in_order s = ascend (slots_of s) (id_in s)
 
 -- whether the id stands in a slot
 abbrev pub stands_at : List ℕ → FullNodeId → ℕ → Bool

@@ -26,7 +26,7 @@ use Rattle.state.specs.Down.{root_of}
 use Rattle.state.specs.Sound.{grafted, all_grafted, root_first, one_id_each}
 use Rattle.state_array.specs.View.{id_in, tree_in, node_in, entry_in, slots_of, trees_of, view}
 use Rattle.state.proofs.State.{present_has}
-use Rattle.state_lookup.specs.Lookup.{stands_at, in_order_lem, SlotOf}
+use Rattle.state_lookup.specs.Lookup.{stands_at, in_order, SlotOf}
 use Rattle.state_rules.specs.Parts.{none_grafts, rooted_in, all_rooted}
 use Rattle.state_rules.proofs.Grafts.{same_tree_swap, holder_is}
 
@@ -141,6 +141,6 @@ module _ (s : List ℕ) (k : ℕ) {t : TreeRow} (is : t ≡ tree_in s k) where
   rooted_found e {r} found =
       rw (← is, ne_eqb t.exists 0 e, first_any (same_id (record { tree = record { 0 = k }; node = t.root })) (slots_of s) (id_in s) r found)
 
-  pub rooted_born : (t.exists ≡ 0 → ⊥) → {r : ℕ} → SlotOf s (record { tree = record { 0 = k }; node = t.root }) r → in_order_lem s ≡ true
+  pub rooted_born : (t.exists ≡ 0 → ⊥) → {r : ℕ} → SlotOf s (record { tree = record { 0 = k }; node = t.root }) r → in_order s ≡ true
       → rooted_in s k ≡ ltb r (slots_of s) && (eqb k 0 || not (none_grafts s t.id (slots_of s)))
   rooted_born e slot up = rooted_found e (slot.first up)

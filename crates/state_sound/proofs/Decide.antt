@@ -21,7 +21,7 @@ use Rattle.state.specs.Down.{below_id, root_of}
 use Rattle.state.specs.Sound.{root_first, sound_links, sound_trees, ascending, sound_shape, focus_present, sound, recorded}
 use Rattle.state_array.specs.View.{tree_in, link_in, link_of, node_in, entry_in, slots_of, trees_of, view}
 use Rattle.state.proofs.Sound.{shape_parts, sound_parts}
-use Rattle.state_lookup.specs.Lookup.{stands_at, in_order_lem, SlotOf}
+use Rattle.state_lookup.specs.Lookup.{stands_at, in_order, SlotOf}
 use Rattle.state_array.specs.declared.LinkRow.{LinkRow}
 use Rattle.state_array.specs.declared.TreeRow.{TreeRow}
 use Rattle.state_sound.specs.Counted.{counted}
@@ -63,7 +63,7 @@ module _ (s : List ℕ) where
   -- ## From the root
 
   module _ {n r : ℕ} {t : TreeRow} (slots : n ≡ slots_of s) (row : t ≡ tree_in s 0) (slot : SlotOf s (record { tree = record { 0 = 0 }; node = t.root }) r)
-      (up : in_order_lem s ≡ true) where
+      (up : in_order s ≡ true) where
     found : First (stands_at s (start_in s).id) (slots_of s) r
     found = rw row at (slot.first up)
 

@@ -18,7 +18,7 @@ use Rattle.state.specs.Sound.{met_once, recorded, ascending, way_ends}
 use Rattle.state.proofs.Down.{way_down_from}
 use Rattle.state_sound.specs.Counted.{counted}
 use Rattle.state.proofs.Ends.{total_all, once_total}
-use Rattle.state.proofs.Once.{once, each_once_lem}
+use Rattle.state.proofs.Once.{once, each_once}
 
 -- ## The one pass
 
@@ -58,4 +58,4 @@ links_counted s r q up = rw (way_down_from s r q) (iff there back ∙ sym (down_
         let long = eqb-true (length way) (length s.nodes) (both h).1 in
         let single = once s (suc (length s.nodes)) r All-there in
         let sum = total_all s.nodes up way All-there in
-        joined (joined ((each_once_lem s.nodes way single).1 (omega arith)) All-there) (le-leb (length way) (length s.nodes) (omega arith))
+        joined (joined ((each_once s.nodes way single).1 (omega arith)) All-there) (le-leb (length way) (length s.nodes) (omega arith))

@@ -21,7 +21,7 @@ use Rattle.state.specs.State.{ParentAndIndex, same_link, NodeState, Forest}
 use Rattle.state.specs.Down.{Met, met_under, below, below_id}
 use Rattle.state.specs.Sound.{recorded}
 use Rattle.state_array.specs.View.{id_in, link_in, link_of, node_in, slots_of, view}
-use Rattle.state_lookup.specs.Lookup.{stands_at, in_order_lem, SlotOf}
+use Rattle.state_lookup.specs.Lookup.{stands_at, in_order, SlotOf}
 use Rattle.state_lookup.proofs.Found.{find_there, find_absent}
 use Rattle.state_rules.specs.declared.Kid.{Kid}
 use Rattle.state_rules.specs.declared.Kid.TheVariants as kid
@@ -103,7 +103,7 @@ unfolding link_of same_link ◌&&◌
 agrees_is l p j = by_test (eqb l.linked 0) (λ e. rw e) (λ e. rw e)
 
 -- the slot of a node that is met, for each way out of `met_at`
-module _ (s : List ℕ) (p j : ℕ) {x : FullNodeId} {n i : ℕ} (slots : n ≡ slots_of s) (slot : SlotOf s x i) (up : in_order_lem s ≡ true) where
+module _ (s : List ℕ) (p j : ℕ) {x : FullNodeId} {n i : ℕ} (slots : n ≡ slots_of s) (slot : SlotOf s x i) (up : in_order s ≡ true) where
   -- the link by which it is met
   abbrev link : Option ParentAndIndex
   link = some (record { parent = id_in s p; index = j })

@@ -7,7 +7,7 @@ ghost use Rattle.std.specs.Prelude.{◌≡◌, true, ◌<◌};
 ghost use Rattle.base.specs.Tests.{all};
 ghost use Rattle.state.specs.Sound.{graft_is_bare, grafts_differ, one_id_each, sound_shape, sound};
 ghost use Rattle.state_array.specs.View.{trees_of, view};
-ghost use Rattle.state_lookup.specs.Lookup.{in_order_lem};
+ghost use Rattle.state_lookup.specs.Lookup.{in_order};
 ghost use Rattle.state_rules.specs.Parts.{none_grafts, Marked, rooted_in, all_rooted};
 ghost use Rattle.state_sound.specs.Parts.{sound_grafts};
 
@@ -123,7 +123,7 @@ fn ids_differ(state: &State) -> bool
 
 // Whether tree k, if it exists, has its root among the nodes and, but for ROOT, a graft there.
 fn is_rooted(state: &State, k: usize) -> bool
-    requires { (in_order_lem state.now ≡ true) × (k < trees_of state.now) }
+    requires { (in_order state.now ≡ true) × (k < trees_of state.now) }
     ensures { result ≡ rooted_in state.now k }
 {
     let n = state_array::slots(state);
@@ -142,7 +142,7 @@ fn is_rooted(state: &State, k: usize) -> bool
 
 // Whether every tree is rooted.
 fn all_rooted(state: &State) -> bool
-    requires { in_order_lem state.now ≡ true }
+    requires { in_order state.now ≡ true }
     ensures { result ≡ all_rooted state.now (trees_of state.now) }
 {
     let m = state_array::trees(state);
@@ -158,7 +158,7 @@ fn all_rooted(state: &State) -> bool
 
 // Whether the grafts and the table of trees are sound.
 fn trees_are_sound(state: &State) -> bool
-    requires { in_order_lem state.now ≡ true }
+    requires { in_order state.now ≡ true }
     ensures { result ≡ sound_grafts (view state.now).forest }
 {
     grafts_are_bare(state)

@@ -5,7 +5,7 @@ ghost use Rattle.base.specs.Tests.{same_option};
 ghost use Rattle.state.specs.State.{same_link};
 ghost use Rattle.state_array.specs.Layout.{SLOTS};
 ghost use Rattle.state_array.specs.View.{link_of, slots_of};
-ghost use Rattle.state_lookup.specs.Lookup.{in_order_lem};
+ghost use Rattle.state_lookup.specs.Lookup.{in_order};
 ghost use Rattle.state_sound.specs.Parts.{MetAt, counted_below, counted_all};
 
 use ids::{FullNodeId, TreeIndex};
@@ -22,7 +22,7 @@ fn agrees(l: LinkRow, p: FullNodeId, j: usize) -> bool
 // The slot of the node that is met at place j below slot p, with the slots beside `near` tried first; the number of slots where it is
 // absent or records another link.
 fn met_at(state: &State, near: usize, p: usize, j: usize, id: FullNodeId) -> usize
-    requires { in_order_lem state.now ≡ true }
+    requires { in_order state.now ≡ true }
     ensures { MetAt state.now p j id result }
 {
     let n = state_array::slots(state);
@@ -41,7 +41,7 @@ fn met_at(state: &State, near: usize, p: usize, j: usize, id: FullNodeId) -> usi
 // Whether going down from the node in slot r, which has no parent, meets every node, each recorded with its parent and place.
 // The nodes gone down from stand in `path`, the deepest last, each with the place of its next child in `nexts`.
 fn goes_down<'a, 'b>(state: &'a State, r: usize, parents: &'b mut [u16]) -> bool
-    requires { (r < slots_of state.now) × (in_order_lem state.now ≡ true) }
+    requires { (r < slots_of state.now) × (in_order state.now ≡ true) }
     ensures { result ≡ counted_below state.now r }
 {
     let n = state_array::slots(state);
@@ -74,7 +74,7 @@ fn goes_down<'a, 'b>(state: &'a State, r: usize, parents: &'b mut [u16]) -> bool
 
 // Whether going down from ROOT's root, which has no parent, meets each node once, by its recorded link.
 pub(crate) fn is_linked<'a, 'b>(state: &'a State, parents: &'b mut [u16]) -> bool
-    requires { in_order_lem state.now ≡ true }
+    requires { in_order state.now ≡ true }
     ensures { result ≡ counted_all state.now }
 {
     let n = state_array::slots(state);

@@ -7,7 +7,7 @@ use Rattle.base.specs.Tests.{◌&&◌}
 use Rattle.base.specs.Tables.{first}
 use Rattle.base.specs.Bytes.{little_endian, le, bytes_of, all_below, zeros, list_of, sum_of}
 use Rattle.base.specs.Floats.{zero_bytes, same_value}
-use Rattle.ids.specs.Ids.{same_tree, same_index_lem, same_node, same_id, before, id_words}
+use Rattle.ids.specs.Ids.{same_tree, same_index, same_node, same_id, before, id_words}
 use Rattle.geometry.specs.Geometry.{rect_test, affine_test, same_rect, same_affine}
 use Rattle.record.specs.Batch.{active_descendant?, graft?, bounds?, transform?, fields_ok, same_data, listed_ids, named_ids}
 use Rattle.record.specs.Parse.{batch_of, header_ok, children_before, labels_before, record_ok, well_formed, parse}
@@ -48,7 +48,7 @@ AllRight (c ∷ cs) = Right c × AllRight cs
 
 -- `unfolding computed` unfolds every definition
 computed : Unit {0}
-unfolding of_bits to_bits eq ◌&&◌ first little_endian le bytes_of all_below zeros list_of sum_of zero_bytes same_value same_tree same_index_lem same_node same_id
+unfolding of_bits to_bits eq ◌&&◌ first little_endian le bytes_of all_below zeros list_of sum_of zero_bytes same_value same_tree same_index same_node same_id
     before rect_test affine_test same_rect same_affine active_descendant? graft? bounds? transform? fields_ok same_data listed_ids named_ids header_ok
     children_before labels_before record_ok well_formed batch_of parse record_bytes records_bytes entry_bytes labels header_bytes encode same_link find present
     graft_at link_at parent_at holder subtree_state subtree_from subtree_of met_under children_met below below_id down root_of way_down climb through_grafts

@@ -9,7 +9,7 @@ use lib.ListN.{length, length-map}
 use Rattle.base.specs.Tests.{◌&&◌, if◌then◌else◌, is_some, all, keep, has, distinct}
 use Rattle.base.proofs.Tests.{both, or_absorb, or_swap, or_right, all_keep}
 use Rattle.base.proofs.Lists.{all_map, count_rest}
-use Rattle.ids.specs.Ids.{same_index_lem, same_node, same_id}
+use Rattle.ids.specs.Ids.{same_index, same_node, same_id}
 use Rattle.ids.proofs.Ids.{same_id→≡}
 use Rattle.ids.specs.declared.TreeIndex.{TreeIndex}
 use Rattle.ids.specs.declared.FullNodeId.{FullNodeId}
@@ -46,7 +46,7 @@ has_write_all t (l ∷ ls) ns x e =
     (has_write (record { tree = t; node = l.id }) l.body ns x ∙ or_right (same_id x (record { tree = t; node = l.id })) e)
 
 -- nothing of another tree is written
-pub has_elsewhere : (t : TreeIndex) (ls : List Listed) (ns : List NodeState) (x : FullNodeId) → same_index_lem x.tree t ≡ false
+pub has_elsewhere : (t : TreeIndex) (ls : List Listed) (ns : List NodeState) (x : FullNodeId) → same_index x.tree t ≡ false
     → has same_id (ids_of (write_all t ls ns)) x ≡ has same_id (ids_of ns) x
 unfolding write_all same_id ◌&&◌
 has_elsewhere t [] ns x e = refl

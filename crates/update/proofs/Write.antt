@@ -9,7 +9,7 @@ use lib.ListN.{length}
 use Rattle.base.specs.Tests.{◌&&◌, if◌then◌else◌, is_some, all, has, distinct}
 use Rattle.base.proofs.Tests.{both, joined}
 use Rattle.base.proofs.Lists.{first_given_some, any_map, none_of}
-use Rattle.ids.specs.Ids.{same_index_lem, same_node, same_id, before}
+use Rattle.ids.specs.Ids.{same_index, same_node, same_id, before}
 use Rattle.ids.proofs.Ids.{same_node→≡, same_id→≡, same_id_refl, before_trans, before_total}
 use Rattle.ids.specs.declared.TreeIndex.{TreeIndex}
 use Rattle.ids.specs.declared.NodeId.{NodeId}
@@ -120,15 +120,15 @@ laid x o was = elim o [ none ↦ was | some d ↦ some (merged x d was) ]
 pub find_write_all : (t : TreeIndex) (ls : List Listed) (ns : List NodeState) → ascending ns ≡ true → distinct same_node (listed_ids ls) ≡ true
     → (x : FullNodeId)
     → find x (write_all t ls ns)
-    ≡ (if same_index_lem x.tree t then elim (listing ls x.node) [ none ↦ find x ns | some d ↦ some (merged x d (find x ns)) ] else find x ns)
+    ≡ (if same_index x.tree t then elim (listing ls x.node) [ none ↦ find x ns | some d ↦ some (merged x d (find x ns)) ] else find x ns)
 unfolding write_all listing listed_ids same_id
-find_write_all t [] ns e u x = go (same_index_lem x.tree t)
+find_write_all t [] ns e u x = go (same_index x.tree t)
   where
     go : (c : Bool) → find x ns ≡ (if c then find x ns else find x ns)
     go true = refl
     go false = refl
 find_write_all t (l ∷ ls) ns e u x =
-    find_write_all t ls ns' (ascending_write y l.body ns e) (both u).1 x ∙ go (same_index_lem x.tree t) refl (same_node x.node l.id) refl
+    find_write_all t ls ns' (ascending_write y l.body ns e) (both u).1 x ∙ go (same_index x.tree t) refl (same_node x.node l.id) refl
   where
     y : FullNodeId
     y = record { tree = t; node = l.id }
@@ -139,7 +139,7 @@ find_write_all t (l ∷ ls) ns e u x =
     other : same_id x y ≡ false → find x ns' ≡ find x ns
     other = find_write_other y x l.body ns
 
-    go : (c : Bool) → same_index_lem x.tree t ≡ c → (k : Bool) → same_node x.node l.id ≡ k
+    go : (c : Bool) → same_index x.tree t ≡ c → (k : Bool) → same_node x.node l.id ≡ k
         → (if c then laid x (listing ls x.node) (find x ns') else find x ns')
         ≡ (if c then laid x (elim (if k then some l.body else none) as (λ _. Option NodeData) [ none ↦ listing ls x.node | some d ↦ some d ]) (find x ns)
         else find x ns)

@@ -3,7 +3,7 @@
 use Rattle.std.specs.Prelude.{Bool, true, not, List, [], ◌∷◌, ◌++◌, map, ℕ, suc, eqb, leb}
 use Rattle.std.proofs.Math.Option.{Option, none, some}
 use Rattle.base.specs.Tests.{◌&&◌, if◌then◌else◌, keep}
-use Rattle.ids.specs.Ids.{ROOT, same_tree, same_index_lem, same_id, before}
+use Rattle.ids.specs.Ids.{ROOT, same_tree, same_index, same_id, before}
 use Rattle.ids.specs.declared.TreeIndex.{TreeIndex}
 use Rattle.ids.specs.declared.FullNodeId.{FullNodeId}
 use Rattle.record.specs.Batch.{NodeData, same_data, Listed, Batch}
@@ -67,7 +67,7 @@ module _ (s : Forest) (b : Batch) where
   unfoldable pub link_elsewhere : FullNodeId → Option ParentAndIndex → Option ParentAndIndex
   link_elsewhere x none = none
   link_elsewhere x (some l) =
-      if same_index_lem l.parent.tree x.tree then some l
+      if same_index l.parent.tree x.tree then some l
       else elim (claimed_from s b l.parent) [ none ↦ some l | some g ↦ under_graft g ]
 
   -- of the batch's tree or of another

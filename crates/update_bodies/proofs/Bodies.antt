@@ -117,8 +117,8 @@ words_fit (w ∷ ws) [] h = absurd h
 words_fit (w ∷ ws) (u ∷ us) h = joined (lt-ltb w (2 ^ 64) h.0.1) (words_fit ws us h.1)
 
 -- so are the floats of what a call answers: `Is ..` is its `.ok`
-pub floats_fit_lem : (r : Body) (vs : List Val) → Is (row the_type) r vs → are_words r.floats ≡ true
-floats_fit_lem r vs h = let floats = h.1.1.1.1.1.1.1.1.1.0 in words_fit r.floats floats.0 floats.1.1
+pub floats_fit : (r : Body) (vs : List Val) → Is (row the_type) r vs → are_words r.floats ≡ true
+floats_fit r vs h = let floats = h.1.1.1.1.1.1.1.1.1.0 in words_fit r.floats floats.0 floats.1.1
 
 module _ (state bytes : List ℕ) (code : ℕ) {r : Body} (is : r ≡ code_body state bytes code) where
   -- a slot's, where its fields obey the rules

@@ -22,7 +22,7 @@ use Rattle.record.proofs.Batch.{field_rules}
 use Rattle.state_array.specs.Stored.{floats_of, body_of, DataFits, label_word}
 use Rattle.state_array.specs.declared.Body.{Body}
 use Rattle.state_array.proofs.Labels.{float_forth, are_bytes, le_byte}
-use Rattle.update_bodies.specs.Bodies.{bounds_of, transform_of, same_run, same_body_lem}
+use Rattle.update_bodies.specs.Bodies.{bounds_of, transform_of, same_run, same_body}
 use lib.Seq.{ext_get_or}
 
 -- ## Lists of bytes
@@ -84,8 +84,8 @@ pub body_compared : (a b : Body) {g n w r t : Bool} → g ≡ same_tree a.graft 
     → t ≡ same_affine (transform_of a.floats) (transform_of b.floats)
     → eqb a.child_count b.child_count && eqb a.flags b.flags && g
     && (n && (eqb a.label_length b.label_length && w) && eqb a.role b.role && r && t)
-    ≡ same_body_lem a b
-unfolding same_body_lem
+    ≡ same_body a b
+unfolding same_body
 body_compared a b g n w r t = cc
 
 -- ## Data
@@ -131,9 +131,9 @@ rest_same d e kids =
 
 module _ (d e : NodeData) (df : DataFits d) (ef : DataFits e) where
   -- two images are the same where the data is, the children counted
-  pub same_body : same_body_lem (body_of d) (body_of e) ≡ rest_same d e (eqb (length d.children) (length e.children))
-  unfolding same_body_lem body_of
-  same_body =
+  pub same_body_lem : same_body (body_of d) (body_of e) ≡ rest_same d e (eqb (length d.children) (length e.children))
+  unfolding same_body body_of
+  same_body_lem =
       rw (bounds_back d df, bounds_back e ef, transform_back d df, transform_back e ef)
       (ap (λ t. eqb (length d.children) (length e.children)
       && eqb d.flags e.flags
@@ -142,9 +142,9 @@ module _ (d e : NodeData) (df : DataFits d) (ef : DataFits e) where
       (label_same d.label e.label df.bytes ef.bytes (field_rules d df.fields).label_limit))
 
   -- where the images are the same, the children's lists decide
-  pub data_by_children : same_body_lem (body_of d) (body_of e) ≡ true → same_data d e ≡ same_list same_node d.children e.children
+  pub data_by_children : same_body (body_of d) (body_of e) ≡ true → same_data d e ≡ same_list same_node d.children e.children
   unfolding same_data ◌&&◌
-  data_by_children h = go (same_list same_node d.children e.children) (sym same_body ∙ h)
+  data_by_children h = go (same_list same_node d.children e.children) (sym same_body_lem ∙ h)
     where
       go : (t : Bool) → rest_same d e (eqb (length d.children) (length e.children)) ≡ true → rest_same d e t ≡ t
       go true q = ap (rest_same d e) (sym (counted q)) ∙ q
@@ -154,16 +154,16 @@ module _ (d e : NodeData) (df : DataFits d) (ef : DataFits e) where
       go false q = refl
 
   -- and as many are compared
-  pub children_counted : same_body_lem (body_of d) (body_of e) ≡ true → length d.children ≡ length e.children
-  children_counted h = eqb-true _ _ (both (both (both (sym same_body ∙ h)).0).0).0
+  pub children_counted : same_body (body_of d) (body_of e) ≡ true → length d.children ≡ length e.children
+  children_counted h = eqb-true _ _ (both (both (both (sym same_body_lem ∙ h)).0).0).0
 
   -- where they are not, the data differs
-  pub data_differs : same_body_lem (body_of d) (body_of e) ≡ false → same_data d e ≡ false
+  pub data_differs : same_body (body_of d) (body_of e) ≡ false → same_data d e ≡ false
   unfolding same_data ◌&&◌
   data_differs h = go (same_list same_node d.children e.children) refl
     where
       go : (t : Bool) → same_list same_node d.children e.children ≡ t → rest_same d e t ≡ false
       go true q =
           let lists : d.children ≡ e.children = same_list→≡ same_node same_node→≡ d.children e.children q in
-          ap (rest_same d e) (sym (eq-eqb _ _ (ap length lists))) ∙ sym same_body ∙ h
+          ap (rest_same d e) (sym (eq-eqb _ _ (ap length lists))) ∙ sym same_body_lem ∙ h
       go false q = refl

@@ -58,8 +58,8 @@ unfoldable pub same_run : List ℕ → ℕ → List ℕ → ℕ → ℕ → ℕ 
 same_run a from b to past count = all_below count (λ k. eqb (get_or a (from + k) past) (get_or b (to + k) past))
 
 -- two nodes have the same data by value, their children's lists aside
-unfoldable pub same_body_lem : Body → Body → Bool
-same_body_lem a b =
+unfoldable pub same_body : Body → Body → Bool
+same_body a b =
     eqb a.child_count b.child_count
     && eqb a.flags b.flags
     && same_tree a.graft b.graft

@@ -8,7 +8,7 @@ ghost use Rattle.base.specs.Bytes.{list_of};
 ghost use Rattle.geometry.specs.Geometry.{same_rect, same_affine};
 ghost use Rattle.record_reader.specs.Reader.{field_at};
 ghost use Rattle.state_array.specs.Stored.{label_word};
-ghost use Rattle.update_bodies.specs.Bodies.{patterns_in, listed_body, code_body, bounds_of, transform_of, same_run, same_body_lem};
+ghost use Rattle.update_bodies.specs.Bodies.{patterns_in, listed_body, code_body, bounds_of, transform_of, same_run, same_body};
 
 use state_array::{Body, State};
 
@@ -91,7 +91,7 @@ fn pattern(batch: &[u8], i: usize, k: usize) -> u64
 
 // Whether two nodes have the same data by value, their children's lists aside: as many children, and -0 equals 0.
 pub fn same_body(a: Body, b: Body) -> bool
-    ensures { result ≡ same_body_lem a b }
+    ensures { result ≡ same_body a b }
 {
     let x = a.label;
     let y = b.label;

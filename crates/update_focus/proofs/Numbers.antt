@@ -23,7 +23,7 @@ use Rattle.state_lookup.specs.declared.Ends.{Ends}
 use Rattle.state_lookup.specs.declared.FoundTree.{FoundTree}
 use Rattle.state_lookup.specs.declared.FoundTree.TheVariants as tree
 use Rattle.state_lookup.proofs.Found.{present_slot}
-use Rattle.state_focus.specs.Focus.{found_of_lem}
+use Rattle.state_focus.specs.Focus.{found_of}
 use Rattle.state_focus.specs.declared.FoundNode.{FoundNode}
 use Rattle.state_focus.specs.declared.FoundNode.TheVariants as node
 use Rattle.update.specs.Numbers.{absent}
@@ -44,17 +44,17 @@ forest_length state = length_list_of (slots_of state) (node_in state)
 
 -- ## Rows 15 to 17
 
-module _ (state : List ℕ) {r : FoundNode} (way : found_of_lem r ≡ effective_focus (view state).forest) where
+module _ (state : List ℕ) {r : FoundNode} (way : found_of r ≡ effective_focus (view state).forest) where
   -- no focus
   pub row_unfocused : r ≡ node.Nothing → 15 ≡ focus_number (view state).forest
-  unfolding focus_number first found_of_lem
+  unfolding focus_number first found_of
   row_unfocused q = sym (rw (← way, q))
 
   module _ {x : FullNodeId} (q : r ≡ node.At x) {v : Bool} (rootless : v ≡ absent (view state).forest.nodes (root_of (view state).forest)) where
     -- the focus that was found
     focus_is : effective_focus (view state).forest ≡ some x
-    unfolding found_of_lem
-    focus_is = sym way ∙ ap found_of_lem q
+    unfolding found_of
+    focus_is = sym way ∙ ap found_of q
 
     -- ROOT's root is absent
     pub row_rootless : v ≡ true → 16 ≡ focus_number (view state).forest

@@ -21,7 +21,7 @@ use Rattle.update.proofs.Outcome.{present_after}
 use Rattle.calls.specs.Setting.{KeptForest}
 use Rattle.calls.specs.Codes.{id_at, slot_at, code_id, Coded, code_of}
 use Rattle.calls.specs.Says.{turn_mark}
-use Rattle.calls.proofs.notes.Places.{slot_old, slot_id_lem, present_at}
+use Rattle.calls.proofs.notes.Places.{slot_old, slot_id, present_at}
 use Rattle.calls.proofs.notes.Marks.{turn_within, turn_here}
 
 module _ (s : Forest) (b : Batch) where
@@ -80,7 +80,7 @@ module _ (s : Forest) (b : Batch) (kept : KeptForest s) (few : length b.nodes �
     stays_slot q =
         let l = old_slot s b x q in
         record {
-          stays = λ _. (l, ap (gone s b) (slot_id_lem s x l) ∙ not_true (both stands).0);
+          stays = λ _. (l, ap (gone s b) (slot_id s x l) ∙ not_true (both stands).0);
           new = λ m. absurd (omega (arith, kept.few_nodes));
         }
 
@@ -109,7 +109,7 @@ module _ (s : Forest) (b : Batch) (kept : KeptForest s) (few : length b.nodes �
     unfolding code_of
     id_code =
         by_test (old s b x)
-        (λ q. let l = old_slot s b x q in rw q (code_old s b (slot_at s x) (omega (arith, kept.few_nodes)) ∙ slot_id_lem s x l)) (λ q. rw q (new_id q))
+        (λ q. let l = old_slot s b x q in rw q (code_old s b (slot_at s x) (omega (arith, kept.few_nodes)) ∙ slot_id s x l)) (λ q. rw q (new_id q))
 
   -- ## The outcome's nodes, by index
 

@@ -15,7 +15,7 @@ use Rattle.base.proofs.Tests.{all_member}
 use Rattle.base.proofs.Lists.{all_at, all_index, all_or, all_take, all_drop}
 use Rattle.state_array.proofs.Labels.{float_fits}
 use Rattle.base.proofs.Bytes.{all_list_of}
-use Rattle.ids.specs.Ids.{ROOT, same_tree, same_node, same_index_lem}
+use Rattle.ids.specs.Ids.{ROOT, same_tree, same_node, same_index}
 use Rattle.ids.specs.declared.TreeId.{TreeId}
 use Rattle.ids.specs.declared.NodeId.{NodeId}
 use Rattle.ids.specs.declared.FullNodeId.{FullNodeId}
@@ -170,7 +170,7 @@ module _ (s : Forest) (b : Batch) (few : length s.trees ≤ 32) (ids : all (λ n
   unfolding link_elsewhere
   elsewhere_link x none h = refl
   elsewhere_link x (some l) h =
-      by_test (same_index_lem l.parent.tree x.tree) (λ t. rw t h)
+      by_test (same_index l.parent.tree x.tree) (λ t. rw t h)
       (λ t. rw t (under_small (claimed_from s b l.parent) (some l) (claimed_small l.parent) h))
 
   link_small : (x : FullNodeId) (was : Option ParentAndIndex) → small_link was ≡ true → small_link (link_after s b x was) ≡ true

@@ -22,7 +22,7 @@ use Rattle.update.proofs.Outcome.{found_written, found_after, find_outcome, body
 use Rattle.calls.specs.Setting.{KeptForest}
 use Rattle.calls.specs.Codes.{node_at, id_at, slot_at, code_id, code_link, Coded, SourceOf, code_of, source_of, differs}
 use Rattle.calls.specs.Says.{turn_mark}
-use Rattle.calls.proofs.notes.Places.{find_at, slot_id_lem, present_at}
+use Rattle.calls.proofs.notes.Places.{find_at, slot_id, present_at}
 use Rattle.calls.proofs.notes.Marks.{turn_within, turn_here, turn_listing, turn_self, listed_self, here_mine}
 use Rattle.calls.proofs.Outcome.Codes.{code_old, code_new, gone_absent, code_slot, code_turn, old_slot, listed_mark, new_mark, coded, code_id_lem}
 
@@ -160,7 +160,7 @@ module _ (s : Forest) (b : Batch) (kept : KeptForest s) (few : length b.nodes �
       rw (ap (λ (n : NodeState). n.body) code_node_lem)
       (by_test (old s b x)
       (λ q. let m = old_slot s b x q in
-      rw (q, code_slot s b x q, old_node_body s b (slot_at s x) (omega (arith, kept.few_nodes))) (old_source s b kept (slot_at s x) m x (slot_id_lem s x m)))
+      rw (q, code_slot s b x q, old_node_body s b (slot_at s x) (omega (arith, kept.few_nodes))) (old_source s b kept (slot_at s x) m x (slot_id s x m)))
       (λ q. let first : 320 + turn s b x - 320 ≡ turn s b x = omega arith in
       let mark = new_mark s b kept few u x (present_at (outcome s b) r l) q in
       rw (q, code_turn s b x q, new_node_body s b (320 + turn s b x) (omega arith), first)

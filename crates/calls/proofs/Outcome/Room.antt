@@ -83,7 +83,7 @@ length_entries (n ∷ ns) = rw (length-append n.body.children (entries_of ns), l
 
 module _ (s : Forest) (b : Batch) (kept : KeptForest s) where
   pub entries_few : length (named_ids b.nodes) ≤ 256 → length (entries_of (outcome s b).nodes) ≤ 512
-  entries_few few = omega (arith, length_entries (outcome s b).nodes, length_entries s.nodes, child_count_outcome s b, kept.few_children_lem)
+  entries_few few = omega (arith, length_entries (outcome s b).nodes, length_entries s.nodes, child_count_outcome s b, kept.few_children)
 
   -- ## Nodes and trees
 

@@ -12,7 +12,7 @@ use Rattle.state_array.proofs.View.{view_host}
 use Rattle.state.specs.Focus.{state_focus}
 use Rattle.state.specs.Sound.{sound}
 use Rattle.state_focus.specs.declared.FoundNode.{FoundNode}
-use Rattle.state_focus.specs.Focus.{found_of_lem}
+use Rattle.state_focus.specs.Focus.{found_of}
 use Rattle.update.specs.Reports.{no_changes, change_words, slice_after}
 use Rattle.update.specs.Calls as definition
 use Rattle.calls.specs.declared.reports.Report as reports
@@ -32,7 +32,7 @@ host_refused s host e r q =
 
 -- on one that is
 pub host_accepted : (s : List ℕ) (host : ℕ) → sound (view s).forest ≡ true → (t : List ℕ) → HostPut s host t
-    → (before after : FoundNode) → found_of_lem before ≡ state_focus (view s) → found_of_lem after ≡ state_focus (view t)
+    → (before after : FoundNode) → found_of before ≡ state_focus (view s) → found_of after ≡ state_focus (view t)
     → (p : reports.Report) → HostReported before after p → (r : Reply) → r ≡ accepted_reply (lengths_are 0 0 0 0) p → HostFocuses s host t r
 unfolding definition.host_focus definition.with_host_focus no_changes slice_after change_words id_words
 host_accepted s host e t h before after b a p said r q =

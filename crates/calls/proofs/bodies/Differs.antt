@@ -42,7 +42,7 @@ use Rattle.calls.proofs.notes.Setting.{batched_at}
 use Rattle.calls.proofs.notes.Told.{batched, few_named}
 use Rattle.state_array.proofs.Labels.{are_bytes}
 use Rattle.state_array.proofs.Bodies.{are_words}
-use Rattle.update_bodies.specs.Bodies.{code_body, same_run, same_body_lem}
+use Rattle.update_bodies.specs.Bodies.{code_body, same_run, same_body}
 use Rattle.update_bodies.proofs.Bodies.{Bodied, code_kept, code_listed}
 use Rattle.update_bodies.proofs.Same.{list_run, data_by_children, children_counted, data_differs}
 
@@ -74,7 +74,7 @@ module _ {state bytes : List ℕ} {c : Scope} {notes : List ℕ} (told : Told GO
   pub run_within : field_at 2 bytes i 32 + length (listed_at (batch_of bytes) i).body.children ≤ c.named
   run_within =
       let within : i < node_count bytes = rw (node_count_is bytes) in_batch in
-      let lies = (record_facts bytes told.given.formed i within).children_in_lem in
+      let lies = (record_facts bytes told.given.formed i within).children_in in
       omega (arith, named_count, field_here bytes i 2 32 refl within, field_here bytes i 2 34 refl within, children_count bytes i)
 
   -- and stand there
@@ -158,16 +158,16 @@ module _ {state bytes : List ℕ} {c : Scope} {notes : List ℕ} (told : Told GO
         let e : 320 + i - 320 ≡ i = omega arith in
         (rw e at (code_listed state bytes (320 + i) read byte (omega arith) told.given.formed)) in_batch
 
-    images : same_body_lem old new ≡ same_body_lem (body_of (node_in state slot).body) (body_of (listed_at (batch_of bytes) i).body)
-    images = ap₂ same_body_lem old_is.is new_is.is
+    images : same_body old new ≡ same_body (body_of (node_in state slot).body) (body_of (listed_at (batch_of bytes) i).body)
+    images = ap₂ same_body old_is.is new_is.is
 
     -- where the images are not the same, it differs
-    pub other_data : {v : Bool} → v ≡ same_body_lem old new → v ≡ false → false ≡ same_data (node_in state slot).body (listed_at (batch_of bytes) i).body
+    pub other_data : {v : Bool} → v ≡ same_body old new → v ≡ false → false ≡ same_data (node_in state slot).body (listed_at (batch_of bytes) i).body
     other_data e q =
         sym (data_differs (node_in state slot).body (listed_at (batch_of bytes) i).body old_is.fits new_is.fits (sym images ∙ call_false e q))
 
     -- where they are, the children decide, as the code finds where they stand
-    pub same_data_lem : {v w : Bool} {own : FullNodeId} {d : ShapeRow} {entries : List ℕ} {from to : ℕ} → v ≡ same_body_lem old new → v ≡ true
+    pub same_data_lem : {v w : Bool} {own : FullNodeId} {d : ShapeRow} {entries : List ℕ} {from to : ℕ} → v ≡ same_body old new → v ≡ true
         → own ≡ id_in state slot → d ≡ shape_in state slot → from ≡ min d.first_child ENTRIES → to ≡ field_at 2 bytes i 32
         → entries ≡ child_entries state → w ≡ same_run entries from notes (NAMED + to) own.node.0 d.child_count
         → w ≡ same_data (node_in state slot).body (listed_at (batch_of bytes) i).body

@@ -41,8 +41,8 @@ use Rattle.reasons_calls.proofs.Numbers.{Tells, told_none, told_row, told_if, be
 use Rattle.reasons_why.specs.declared.Why.{Why}
 use Rattle.reasons_why.specs.Why.{why_of, why_for, way_of, way_words}
 use Rattle.reasons_why.proofs.Numbers.{Proper, proper, why_none}
-use Rattle.calls.specs.Explained.{Explains, ExplainsFor, no_way_lem, way_for, record_reason, first_reasons, start_reasons, pass_reasons, last_reasons, later_reasons}
-use Rattle.calls.proofs.explain.Explained.{no_way, Wayless, wayless_of, wayless_if, proper_tells, alone, explains_plain, explains_whole, explains_alone, told_number}
+use Rattle.calls.specs.Explained.{Explains, ExplainsFor, no_way, way_for, record_reason, first_reasons, start_reasons, pass_reasons, last_reasons, later_reasons}
+use Rattle.calls.proofs.explain.Explained.{no_way_lem, Wayless, wayless_of, wayless_if, proper_tells, alone, explains_plain, explains_whole, explains_alone, told_number}
 
 -- ## Reasons in a row
 
@@ -69,9 +69,9 @@ none_told none n h z = refl
 none_told (some r) n h z = absurd (omega (arith, h.1, z))
 
 -- no reason, no way
-pub none_way : (o : Option Reason) {r : Why} {way : List ℕ} → Proper o → ExplainsFor o r way → r.number ≡ 0 → way ≡ no_way_lem
+pub none_way : (o : Option Reason) {r : Why} {way : List ℕ} → Proper o → ExplainsFor o r way → r.number ≡ 0 → way ≡ no_way
 unfolding way_for
-none_way o h e z = e.way_is ∙ ap (λ p. way_words (way_for p)) (why_none o h e.why_is z) ∙ no_way
+none_way o h e z = e.way_is ∙ ap (λ p. way_words (way_for p)) (why_none o h e.why_is z) ∙ no_way_lem
 
 -- ## Rows 9 to 14
 
@@ -114,7 +114,7 @@ module _ (s : Forest) (b : Batch) where
       )
 
   -- a batch that they refuse
-  pub judged_early : {w : Why} {way : List ℕ} → w ≡ why_for (first_reason (pass_reasons s b)) → (w.number ≡ 0 → ⊥) → way ≡ no_way_lem
+  pub judged_early : {w : Why} {way : List ℕ} → w ≡ why_for (first_reason (pass_reasons s b)) → (w.number ≡ 0 → ⊥) → way ≡ no_way
       → ExplainsFor (first_reason (later_reasons s b)) w way
   unfolding later_reasons reasons_after_pass last_reasons
   judged_early e some? z =
@@ -193,7 +193,7 @@ module _ (bytes : List ℕ) (small : (i : ℕ) → get_or bytes i 0 < 256) where
   module _ (s : State) (room : ℕ) where
     -- a batch that they refuse
     pub first_explains : {k : ℕ} {r : Why} {way : List ℕ} → k ≡ first_number s.forest bytes → (k ≡ 0 → ⊥) → r ≡ why_for (first_reason (first_reasons s.forest bytes))
-        → way ≡ no_way_lem → Explains (why_update s bytes room) r way
+        → way ≡ no_way → Explains (why_update s bytes room) r way
     first_explains {k} {r} e some? h z =
         let tells = first_tells s.forest in
         let more : r.number ≡ 0 → ⊥ = λ n. some? (e ∙ sym (told_number (first_reason (first_reasons s.forest bytes)) tells h) ∙ n) in
@@ -274,7 +274,7 @@ module _ (bytes : List ℕ) (small : (i : ℕ) → get_or bytes i 0 < 256) where
       )
 
   -- a start that rows 2 to 5 refuse
-  pub first_start_explains : {k : ℕ} {r : Why} {way : List ℕ} → k ≡ start_rows bytes → (k ≡ 0 → ⊥) → r ≡ why_for (first_reason (start_reasons bytes)) → way ≡ no_way_lem
+  pub first_start_explains : {k : ℕ} {r : Why} {way : List ℕ} → k ≡ start_rows bytes → (k ≡ 0 → ⊥) → r ≡ why_for (first_reason (start_reasons bytes)) → way ≡ no_way
       → Explains (why_start bytes) r way
   first_start_explains {k} {r} e some? h z =
       let more : r.number ≡ 0 → ⊥ = λ n. some? (e ∙ sym (told_number (first_reason (start_reasons bytes)) start_tells h) ∙ n) in

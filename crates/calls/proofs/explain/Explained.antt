@@ -13,7 +13,7 @@ use Rattle.reasons_calls.proofs.Numbers.{Tells}
 use Rattle.reasons_why.specs.declared.Why.{Why}
 use Rattle.reasons_why.specs.Why.{why_of, why_for, way_of, way_words}
 use Rattle.reasons_why.proofs.Numbers.{why_number, Proper, why_none}
-use Rattle.calls.specs.Explained.{Explains, ExplainsFor, no_way_lem, way_for}
+use Rattle.calls.specs.Explained.{Explains, ExplainsFor, no_way, way_for}
 
 -- ## Ways
 
@@ -49,14 +49,14 @@ abbrev pub Wayless : Option Reason → Type 0
 Wayless o = IfSome (λ r. way_of r ≡ []) o
 
 -- no way, as words
-pub no_way : way_words [] ≡ no_way_lem
+pub no_way_lem : way_words [] ≡ no_way
 unfolding way_words id_words
-no_way = refl
+no_way_lem = refl
 
-pub explains_plain : (o : Option Reason) {r : Why} {way : List ℕ} → Wayless o → r ≡ why_for o → way ≡ no_way_lem → ExplainsFor o r way
+pub explains_plain : (o : Option Reason) {r : Why} {way : List ℕ} → Wayless o → r ≡ why_for o → way ≡ no_way → ExplainsFor o r way
 unfolding way_for
-explains_plain none h e z = record { why_is = e; way_is = z ∙ sym no_way }
-explains_plain (some q) h e z = record { why_is = e; way_is = z ∙ sym (ap way_words h ∙ no_way) }
+explains_plain none h e z = record { why_is = e; way_is = z ∙ sym no_way_lem }
+explains_plain (some q) h e z = record { why_is = e; way_is = z ∙ sym (ap way_words h ∙ no_way_lem) }
 
 -- ## The first reason of some
 

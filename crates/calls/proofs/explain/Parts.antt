@@ -22,7 +22,7 @@ use Rattle.state.specs.State.{Forest}
 use Rattle.state.specs.Down.{root_of}
 use Rattle.state.specs.Focus.{effective_focus}
 use Rattle.state.specs.Sound.{sound, sound_shape}
-use Rattle.state_focus.specs.Focus.{found_of_lem}
+use Rattle.state_focus.specs.Focus.{found_of}
 use Rattle.update.specs.Calls.{seed, without_tree_data}
 use Rattle.update.specs.Numbers.{absent}
 use Rattle.state_array.specs.Layout.{blank_words}
@@ -37,7 +37,7 @@ use Rattle.calls.specs.WhyRows.{AgainIs}
 use Rattle.reasons_why.specs.declared.Why.{Why}
 use Rattle.reasons_why.specs.Why.{of_tree, why_broken, why_of, why_for, way_of, way_words}
 use Rattle.calls.specs.declared.explain.Explanation.{Explanation}
-use Rattle.calls.specs.Explained.{plain_why, Explained, ExplainedStart, Explains, ExplainsFor, no_way_lem, way_for, offence_why, record_reason, first_reasons, start_reasons, last_reasons}
+use Rattle.calls.specs.Explained.{plain_why, Explained, ExplainedStart, Explains, ExplainsFor, no_way, way_for, offence_why, record_reason, first_reasons, start_reasons, last_reasons}
 use Rattle.calls.proofs.explain.Explained.{Wayless, wayless_of, wayless_if, alone, explains_plain, explains_found, explains_passed, explains_alone}
 use Rattle.calls.proofs.explain.Calls.{none_way}
 use Rattle.reasons_calls.proofs.Numbers.{clash_number, removed_number}
@@ -46,7 +46,7 @@ use Rattle.update.specs.Words.{tree_number}
 
 -- ## Plain numbers
 
-pub plain_is : (w : Why) {n b a : OptionalId} → n ≡ plain_id (found_of_lem w.node) → b ≡ plain_id (found_of_lem w.by) → a ≡ plain_id (found_of_lem w.also)
+pub plain_is : (w : Why) {n b a : OptionalId} → n ≡ plain_id (found_of w.node) → b ≡ plain_id (found_of w.by) → a ≡ plain_id (found_of w.also)
     → record { place = w.place; other = w.other; tree = w.tree; node = n; by = b; also = a; rule = w.rule; number = w.number } ≡ plain_why w
 unfolding plain_why
 plain_is w p q s = rw (p, q, s)
@@ -120,10 +120,10 @@ module _ (bytes : List ℕ) {o : layout.Offence} (is : o ≡ plain_offence (reco
       pub start_again : {r : Why} → q ≡ true → AgainIs bytes (record { 0 = 0 }) r → r ≡ why_for (first_reason (start_reasons bytes))
       unfolding start_reasons without_tree_data
       start_again {r} k e =
-          let is_root_lem : same_tree (batch_of bytes).tree ROOT ≡ true = rw (← tree) (sym root ∙ k) in
-          let number : record { 0 = 0 } ≡ tree_number (seed (batch_of bytes)) (without_tree_data (batch_of bytes)) = seed_number (batch_of bytes) is_root_lem in
+          let is_the_root : same_tree (batch_of bytes).tree ROOT ≡ true = rw (← tree) (sym root ∙ k) in
+          let number : record { 0 = 0 } ≡ tree_number (seed (batch_of bytes)) (without_tree_data (batch_of bytes)) = seed_number (batch_of bytes) is_the_root in
           let again = e.says (seed (batch_of bytes)) (without_tree_data (batch_of bytes)) refl number in
-          rw (offence_none z, ap not (sym rooted ∙ l), is_root_lem) (again ∙ ap why_for (sym (alone _)))
+          rw (offence_none z, ap not (sym rooted ∙ l), is_the_root) (again ∙ ap why_for (sym (alone _)))
 
 pub first_unsound : (bytes : List ℕ) (s : Forest) {t : Bool} {r : Why} → t ≡ sound s → t ≡ false → r ≡ why_broken 1 (broken_state s) → r ≡ why_for (first_reason (first_reasons s bytes))
 unfolding first_reasons why_for why_of
@@ -154,12 +154,12 @@ abbrev after_clash : Forest → Batch → Forest → List (Option Reason)
 after_clash s b o = focus_reason o ∷ after_focus s b o
 
 module _ (o : Forest) {r : Why} {way : List ℕ} where
-  unsound_explains : sound_shape o ≡ false → r ≡ why_broken 19 (broken_shape o) → way ≡ no_way_lem
+  unsound_explains : sound_shape o ≡ false → r ≡ why_broken 19 (broken_shape o) → way ≡ no_way
       → ExplainsFor (first_reason (after_removed o)) r way
   unfolding outcome_reason why_for why_of way_of
   unsound_explains f e z = rw f (explains_plain (some (unsound_outcome (broken_shape o))) refl e z)
 
-  many_explains : sound_shape o ≡ true → r ≡ why_for (many o) → way ≡ no_way_lem
+  many_explains : sound_shape o ≡ true → r ≡ why_for (many o) → way ≡ no_way
       → ExplainsFor (first_reason (after_removed o)) r way
   unfolding outcome_reason way_of
   many_explains f e z =
@@ -204,7 +204,7 @@ module _ (o : Forest) where
         (λ u. by_test (absent o.nodes (effective_focus o)) (λ v. record { why_is = e; way_is = h ∙ ap way_words (sym (way_lost t u v)) })
         (λ v. absurd (false≢true (sym (ap has_way (number_0 t u v)) ∙ l)))))
 
-    pub focus_plain : {way : List ℕ} → has_way w.number ≡ false → way ≡ no_way_lem → ExplainsFor (focus_reason o) w way
+    pub focus_plain : {way : List ℕ} → has_way w.number ≡ false → way ≡ no_way → ExplainsFor (focus_reason o) w way
     focus_plain l h =
         by_test (is_none (effective_focus o)) (λ t. absurd (true≢false (sym (ap has_way (number_15 t)) ∙ l)))
         (λ t. by_test (absent o.nodes (root_of o)) (λ u. explains_plain (focus_reason o) (root_wayless o t u) e h)
@@ -221,7 +221,7 @@ proper_focus o =
     (λ u. by_test (absent o.nodes (effective_focus o)) (λ v. rw (t, u, v) (omega arith)) (λ v. rw (t, u, v) tt)))
 
 module _ (s : Forest) (b : Batch) (o : Forest) {cl : Why} (clash : cl ≡ why_for (clash_reason s b o)) where
-  pub outcome_clash : {way : List ℕ} → (cl.number ≡ 0 → ⊥) → way ≡ no_way_lem → ExplainsFor (first_reason (last_reasons s b o)) cl way
+  pub outcome_clash : {way : List ℕ} → (cl.number ≡ 0 → ⊥) → way ≡ no_way → ExplainsFor (first_reason (last_reasons s b o)) cl way
   unfolding last_reasons
   outcome_clash some? z =
       explains_found (clash_reason s b o) (after_clash s b o)
@@ -236,7 +236,7 @@ module _ (s : Forest) (b : Batch) (o : Forest) {cl : Why} (clash : cl ≡ why_fo
     outcome_focus some? = past_clash (explains_found (focus_reason o) (after_focus s b o) focus some?)
 
     module _ (none-15 : f.number ≡ 0) {m : Why} (removed : m ≡ why_for (removed_reason s b)) where
-      no_way_yet : way ≡ no_way_lem
+      no_way_yet : way ≡ no_way
       no_way_yet = none_way (focus_reason o) (proper_focus o) focus none-15
 
       past_focus : {r : Why} → ExplainsFor (first_reason (after_focus s b o)) r way

@@ -9,7 +9,7 @@ use native.Mathlib.Omega.{arith}
 use lib.Dec.{eqb, ltb, leb}
 use borrow.Author.Tests.{eq-eqb, ne_eqb, lt-ltb, le-ltb, le-leb, lt-leb}
 use Rattle.base.specs.Tests.{◌&&◌, if◌then◌else◌, same_option}
-use Rattle.ids.specs.Ids.{same_index_lem, same_id}
+use Rattle.ids.specs.Ids.{same_index, same_id}
 use Rattle.ids.specs.declared.TreeIndex.{TreeIndex}
 use Rattle.ids.specs.declared.FullNodeId.{FullNodeId}
 use Rattle.record.specs.Batch.{Batch}
@@ -31,13 +31,13 @@ not_above k = go (dec_lt 0 k)
     go (no h) = rw (le-ltb 0 k (omega arith)) (eq-eqb k 0 (omega arith))
 
 -- one tree number
-pub same_index : (i j : TreeIndex) → i.0 ≡ j.0 → same_index_lem i j ≡ true
-unfolding same_index_lem
-same_index i j e = eq-eqb i.0 j.0 e
+pub same_index_lem : (i j : TreeIndex) → i.0 ≡ j.0 → same_index i j ≡ true
+unfolding same_index
+same_index_lem i j e = eq-eqb i.0 j.0 e
 
 -- another tree number
-pub other_index : (i j : TreeIndex) → (i.0 ≡ j.0 → ⊥) → same_index_lem i j ≡ false
-unfolding same_index_lem
+pub other_index : (i j : TreeIndex) → (i.0 ≡ j.0 → ⊥) → same_index i j ≡ false
+unfolding same_index
 other_index i j h = ne_eqb i.0 j.0 h
 
 -- ## What a scope says
@@ -45,7 +45,7 @@ other_index i j h = ne_eqb i.0 j.0 h
 module _ (s : Forest) (b : Batch) (scope : Scope) (scoped : Scoped s b scope) (x : FullNodeId) where
   -- whether x is of the batch's tree
   mine_is : eqb x.tree.0 scope.tree.0 ≡ mine s b x
-  unfolding mine same_index_lem
+  unfolding mine same_index
   mine_is = rw scoped.tree
 
   -- it is
@@ -91,10 +91,10 @@ module _ (s : Forest) (b : Batch) (x : FullNodeId) {mark : ℕ} (none : mark ≤
   not_listed e = turn_listed s b x ∙ rw (← e) (le-ltb 0 mark none)
 
 -- whether tree data names x
-as_root_lem : (s : Forest) (b : Batch) (scope : Scope) → Scoped s b scope → (x : FullNodeId) {r v : Bool} → r ≡ same_option same_id (root_in scope) (some x)
+as_root : (s : Forest) (b : Batch) (scope : Scope) → Scoped s b scope → (x : FullNodeId) {r v : Bool} → r ≡ same_option same_id (root_in scope) (some x)
     → bool.◌&&◌ scope.with_tree_data r ≡ v → (with_tree_data s b && is_root s b x) ≡ v
 unfolding ◌&&◌
-as_root_lem s b scope scoped x root e = ap₂ bool.◌&&◌ (sym scoped.tree_data) (sym (root ∙ root_is s b scope scoped x)) ∙ e
+as_root s b scope scoped x root e = ap₂ bool.◌&&◌ (sym scoped.tree_data) (sym (root ∙ root_is s b scope scoped x)) ∙ e
 
 module _ (scope : Scope) (x p : FullNodeId) {turn naming parentTurn : ℕ} where
   -- under a node of another tree
@@ -122,9 +122,9 @@ module _ (scope : Scope) (x p : FullNodeId) {turn naming parentTurn : ℕ} where
         pub here_root : bool.◌&&◌ scope.with_tree_data r ≡ true → FateHereIs scope x p turn naming parentTurn 0
         unfolding fate_here fate_code
         here_root e s b scoped own name parent =
-            rw (mine_true s b scope scoped p inside, not_named s b x unnamed name, not_listed s b p unlisted parent, as_root_lem s b scope scoped x root e)
+            rw (mine_true s b scope scoped p inside, not_named s b x unnamed name, not_listed s b p unlisted parent, as_root s b scope scoped x root e)
 
         pub here_below : bool.◌&&◌ scope.with_tree_data r ≡ false → FateHereIs scope x p turn naming parentTurn 2
         unfolding fate_here fate_code
         here_below e s b scoped own name parent =
-            rw (mine_true s b scope scoped p inside, not_named s b x unnamed name, not_listed s b p unlisted parent, as_root_lem s b scope scoped x root e)
+            rw (mine_true s b scope scoped p inside, not_named s b x unnamed name, not_listed s b p unlisted parent, as_root s b scope scoped x root e)

@@ -25,14 +25,14 @@ use Rattle.calls.specs.declared.notes.Scope.{Scope}
 use Rattle.calls.specs.Setting.{asked, forest}
 use Rattle.calls.specs.Codes.{id_at, slot_at, flag, node_at}
 use Rattle.calls.specs.Says.{turn_mark, naming_mark, graft_below, ClaimedFromIs, slot_above, turn_word, naming_word, claim_word, Told, above_word}
-use Rattle.calls.proofs.notes.Places.{slot_self, forest_id, forest_link, slot_present, slot_id_lem, find_at}
+use Rattle.calls.proofs.notes.Places.{slot_self, forest_id, forest_link, slot_present, slot_id, find_at}
 use Rattle.update_focus.proofs.Numbers.{forest_length}
 use Rattle.calls.proofs.notes.Marks.{turn_none}
 use Rattle.calls.proofs.notes.Grafts.{graft_slot, claimed_from_is, lets_go_turn}
 use Rattle.calls.proofs.notes.Setting.{batched_at}
 use Rattle.calls.proofs.notes.Told.{batched}
 use Rattle.calls.specs.Fates.{fate_code, fate_by, fate_mark, fate_word, ReplacedIs, FateHereIs, FateUnderIs, ABOVE_TOLD}
-use Rattle.calls.proofs.gone.Fates.{same_index, other_index, mine_true, mine_false}
+use Rattle.calls.proofs.gone.Fates.{same_index_lem, other_index, mine_true, mine_false}
 use mathlib.Core.Option.{Option, none, some}
 use Rattle.state.specs.Sound.{ascending}
 use Rattle.state_lookup.specs.Lookup.{in_slot, SlotOf}
@@ -48,7 +48,7 @@ module _ (s : Forest) where
 
   -- an id that is present stands in its slot
   pub slot_stands : (x : FullNodeId) → present s.nodes x ≡ true → (slot_at s x < length s.nodes) × (id_at s (slot_at s x) ≡ x)
-  slot_stands x e = let h = ltb-true (slot_at s x) (length s.nodes) (sym (slot_present s x) ∙ e) in (h, slot_id_lem s x h)
+  slot_stands x e = let h = ltb-true (slot_at s x) (length s.nodes) (sym (slot_present s x) ∙ e) in (h, slot_id s x h)
 
 -- ## A row's link
 
@@ -224,7 +224,7 @@ module _ {state bytes : List ℕ} {c : Scope} {notes : List ℕ} (told : Told AB
 
         pub fate_below : l.parent.tree.0 ≡ x.tree.0 → 2 ≡ fate_word state bytes c i
         unfolding fate_elsewhere fate_code
-        fate_below e = fate_other (rw (same_index _ (id_in state i).tree (rw (id, link) at e)))
+        fate_below e = fate_other (rw (same_index_lem _ (id_in state i).tree (rw (id, link) at e)))
 
         pub fate_root : {r : ℕ} → (l.parent.tree.0 ≡ x.tree.0 → ⊥) → FateUnderIs state bytes c (get_or notes (ABOVE + i) 0) r → r ≡ fate_word state bytes c i
         fate_root apart f = fate_other ((rw (parent_id parented) at f) (id_in state i) (rw (id, link) at apart))

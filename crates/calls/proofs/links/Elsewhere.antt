@@ -9,7 +9,7 @@ use native.Mathlib.Omega.{arith}
 use lib.Dec.{eqb, ltb}
 use borrow.Author.Tests.{eq-eqb, ne_eqb, lt-ltb, le-ltb}
 use Rattle.base.specs.Tests.{if◌then◌else◌}
-use Rattle.ids.specs.Ids.{same_index_lem}
+use Rattle.ids.specs.Ids.{same_index}
 use Rattle.ids.specs.declared.FullNodeId.{FullNodeId}
 use Rattle.record.specs.Parse.{batch_of}
 use Rattle.record_reader.specs.Reader.{listed_at}
@@ -57,7 +57,7 @@ module _ (x : FullNodeId) {was : LinkRow} where
   -- such a node keeps its link
   link_elsewhere_own : (s : Forest) (b : Batch) (o : Option ParentAndIndex) → was ≡ link_row o → own_test x was ≡ true
       → was ≡ link_row (link_elsewhere s b x o)
-  unfolding link_elsewhere link_row same_index_lem
+  unfolding link_elsewhere link_row same_index
   link_elsewhere_own s b none e own = e
   link_elsewhere_own s b (some l) e own = let same : eqb l.parent.tree.0 x.tree.0 ≡ true = rw e at own in rw same e
 
@@ -68,7 +68,7 @@ module _ (x : FullNodeId) {was : LinkRow} where
         → {t : Bool} → ltb r c.listed ≡ t
         → (if t then under_graft (here (forest state) (asked bytes c) (listed_at (asked bytes c) r).id) else o)
         ≡ link_elsewhere (forest state) (asked bytes c) x o
-    unfolding link_elsewhere link_row same_index_lem slot_above claim_word
+    unfolding link_elsewhere link_row same_index slot_above claim_word
     link_elsewhere_claimed found none e at other is = absurd (true≢false (rw e at other))
     link_elsewhere_claimed {slot} {r} found (some l) e at other {t} is =
         let apart : eqb l.parent.tree.0 x.tree.0 ≡ false = rw e at other in

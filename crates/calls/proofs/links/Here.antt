@@ -13,7 +13,7 @@ use borrow.Author.Tests.{eqb-true, eq-eqb, ne_eqb, lt-ltb, le-ltb, ltb-true, ltb
 use Rattle.base.specs.Tests.{◌&&◌, if◌then◌else◌, same_option, distinct, position, has}
 use Rattle.base.specs.Search.{First}
 use Rattle.base.proofs.Tests.{iff, both, at_position}
-use Rattle.ids.specs.Ids.{ROOT, same_tree, same_index_lem, same_node, same_id}
+use Rattle.ids.specs.Ids.{ROOT, same_tree, same_index, same_node, same_id}
 use Rattle.ids.specs.declared.TreeId.{TreeId}
 use Rattle.ids.specs.declared.TreeIndex.{TreeIndex}
 use Rattle.ids.specs.declared.NodeId.{NodeId}
@@ -190,14 +190,14 @@ cut_sides k r true true true true = sym (leb-suc-suc r k)
 
 module _ {s : Forest} {b : Batch} {c : Scope} (scoped : Scoped s b c) (x : FullNodeId) {root : Bool} (root_is : root ≡ same_option same_id (root_in c) (some x)) where
   -- the root test of the scope is the batch's
-  is_root_lem : root ≡ is_root s b x
+  is_the_root : root ≡ is_root s b x
   unfolding is_root
-  is_root_lem = root_is ∙ ap (λ (o : Option FullNodeId). same_option same_id o (some x)) scoped.root
+  is_the_root = root_is ∙ ap (λ (o : Option FullNodeId). same_option same_id o (some x)) scoped.root
 
   -- and so is the test for a pane's root
   pane_is : pane_test c root ≡ pane_root s b x
   unfolding pane_root ◌&&◌
-  pane_is = rw (is_root_lem, scoped.tree_data, scoped.root_tree)
+  pane_is = rw (is_the_root, scoped.tree_data, scoped.root_tree)
 
   module _ (o : Option ParentAndIndex) where
     -- the root that tree data gives a pane: under the graft holder
@@ -219,7 +219,7 @@ module _ {s : Forest} {b : Batch} {c : Scope} (scoped : Scoped s b c) (x : FullN
             cut_lasts,
             naming_none s b x f,
             q,
-            is_root_lem,
+            is_the_root,
             scoped.root_tree,
           )
           (sym (cut_unnamed (turn s b x) (is_root s b x) (same_tree b.tree ROOT) (listed s b x) (old s b x) o new))
@@ -239,7 +239,7 @@ module _ {s : Forest} {b : Batch} {c : Scope} (scoped : Scoped s b c) (x : FullN
             f,
             turn_self s b once r h,
             q,
-            is_root_lem,
+            is_the_root,
             scoped.root_tree,
             cut_sides (turn s b x) r (is_root s b x) (same_tree b.tree ROOT) (listed s b x) (old s b x),
           )
@@ -308,12 +308,12 @@ module _ {state bytes : List ℕ} {c : Scope} {notes : List ℕ} (told : Told CO
 module _ {s : Forest} {b : Batch} {c : Scope} (scoped : Scoped s b c) (x : FullNodeId) (o : Option ParentAndIndex) where
   -- a node of the batch's tree
   pub link_after_here : x.tree.0 ≡ c.tree.0 → link_here s b x o ≡ link_after s b x o
-  unfolding link_after mine same_index_lem
+  unfolding link_after mine same_index
   link_after_here e = rw (← scoped.tree, eq-eqb x.tree.0 c.tree.0 e)
 
   -- a node of another
   pub link_after_elsewhere : (x.tree.0 ≡ c.tree.0 → ⊥) → link_elsewhere s b x o ≡ link_after s b x o
-  unfolding link_after mine same_index_lem
+  unfolding link_after mine same_index
   link_after_elsewhere h = rw (← scoped.tree, ne_eqb x.tree.0 c.tree.0 h)
 
 -- ## Listed nodes

@@ -27,7 +27,7 @@ use Rattle.update.specs.Words.{listing, tree_number, here, mine, listed, turn, n
 use Rattle.calls.specs.Codes.{id_at, slot_at}
 use Rattle.calls.specs.Says.{turn_mark, naming_mark}
 use Rattle.calls.proofs.notes.Positions.{first_unique, first_cong, position_first, has_position, position_append, position_self, first_given_at}
-use Rattle.calls.proofs.notes.Places.{slot_id_lem, slot_self}
+use Rattle.calls.proofs.notes.Places.{slot_id, slot_self}
 
 -- ## A mark
 
@@ -149,18 +149,18 @@ module _ (s : Forest) (b : Batch) (x : FullNodeId) where
   naming_none e = none_of (naming s b x) (ap not (naming_named ∙ ap (ltb 0) e))
 
   -- a number that stands among the children of listed node i, and of none before it, is named by it
-  namer_at_lem : (ls : List Listed) (i : ℕ) → i < length ls → length (named_ids (take i ls)) ≤ position same_node (named_ids ls) x.node
+  namer_at : (ls : List Listed) (i : ℕ) → i < length ls → length (named_ids (take i ls)) ≤ position same_node (named_ids ls) x.node
       → position same_node (named_ids ls) x.node < length (named_ids (take (suc i) ls))
       → namer ls ≡ some (record { parent = here s b (get_or ls i no_listed).id; index = position same_node (named_ids ls) x.node - length (named_ids (take i ls)) })
   unfolding named_ids
-  namer_at_lem [] i h l m = absurd (omega arith)
-  namer_at_lem (k ∷ ks) zero h l m =
+  namer_at [] i h l m = absurd (omega arith)
+  namer_at (k ∷ ks) zero h l m =
       let cs = k.body.children in
       let e = position_append same_node x.node cs (named_ids ks) in
       by_test (has same_node cs x.node)
       (λ q. let same : position same_node cs x.node - 0 ≡ position same_node cs x.node = omega arith in rw (q, first_given, rw q at e, same))
       (λ q. absurd (omega (arith, rw q at e, length-append cs [])))
-  namer_at_lem (k ∷ ks) (suc i) h l m =
+  namer_at (k ∷ ks) (suc i) h l m =
       let cs = k.body.children in
       let e = position_append same_node x.node cs (named_ids ks) in
       let before = length-append cs (named_ids (take i ks)) in
@@ -170,7 +170,7 @@ module _ (s : Forest) (b : Batch) (x : FullNodeId) where
       (λ q. let at = rw q at e in
       let same : position same_node (cs ++ named_ids ks) x.node - length (cs ++ named_ids (take i ks))
       ≡ position same_node (named_ids ks) x.node - length (named_ids (take i ks)) = omega arith in
-      rw (q, first_given, same) (namer_at_lem ks i (omega arith) (omega arith) (omega arith)))
+      rw (q, first_given, same) (namer_at ks i (omega arith) (omega arith) (omega arith)))
 
   -- the link of a node that is first named at entry j, which is among the children of listed node i
   pub naming_link : (j i : ℕ) → naming_mark s b x ≡ suc j → i < length b.nodes → length (named_ids (take i b.nodes)) ≤ j
@@ -179,7 +179,7 @@ module _ (s : Forest) (b : Batch) (x : FullNodeId) where
   unfolding naming_mark naming listed_at
   naming_link j i e h l m =
       let is = mark_is (mine s b x && has same_node (named_ids b.nodes) x.node) (position same_node (named_ids b.nodes) x.node) j e in
-      rw ((both is.0).0, naming, ← is.1) (namer_at_lem b.nodes i h (rw is.1 l) (rw (is.1, ← add-one i) m))
+      rw ((both is.0).0, naming, ← is.1) (namer_at b.nodes i h (rw is.1 l) (rw (is.1, ← add-one i) m))
 
 -- ## Which slot a key marks
 
@@ -195,7 +195,7 @@ module _ (s : Forest) (b : Batch) (up : ascending s.nodes ≡ true) (keys : List
       to : eqb (slot_at s (here s b n)) i ≡ true → (mine s b (id_at s i) && same_node (id_at s i).node n) ≡ true
       to e =
           let at : slot_at s (here s b n) ≡ i = eqb-true (slot_at s (here s b n)) i e in
-          let same : id_at s i ≡ here s b n = ap (id_at s) (sym at) ∙ slot_id_lem s (here s b n) (omega arith) in
+          let same : id_at s i ≡ here s b n = ap (id_at s) (sym at) ∙ slot_id s (here s b n) (omega arith) in
           rw same (joined (here_mine s b n) (same_node_refl n))
 
       from : (mine s b (id_at s i) && same_node (id_at s i).node n) ≡ true → eqb (slot_at s (here s b n)) i ≡ true

@@ -69,8 +69,8 @@ module _ (s : Forest) (x : FullNodeId) where
   slot_old b = slot_present
 
   -- the id in its slot
-  pub slot_id_lem : slot_at s x < length s.nodes → id_at s (slot_at s x) ≡ x
-  slot_id_lem h = sym (same_id→≡ x (id_at s (slot_at s x)) (slot_first.hit h))
+  pub slot_id : slot_at s x < length s.nodes → id_at s (slot_at s x) ≡ x
+  slot_id h = sym (same_id→≡ x (id_at s (slot_at s x)) (slot_first.hit h))
 
 -- ## Slots of nodes in order
 

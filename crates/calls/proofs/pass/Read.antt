@@ -26,7 +26,7 @@ use Rattle.calls.specs.Setting.{asked, forest, root_in}
 use Rattle.calls.specs.Codes.{id_at, slot_at}
 use Rattle.calls.specs.Says.{naming_mark, PositionIn, listed_word, named_word, end_word, listed_slot, named_slot, naming_word, claim_word, Told, READ}
 use Rattle.calls.proofs.notes.Positions.{first_unique, position_first, first_cong, first_given_at}
-use Rattle.calls.proofs.notes.Places.{slot_old, slot_id_lem}
+use Rattle.calls.proofs.notes.Places.{slot_old, slot_id}
 use Rattle.update_focus.proofs.Numbers.{forest_length}
 use Rattle.calls.proofs.notes.Marks.{here_mine}
 use Rattle.calls.specs.Steps.{entries_before, due_of}
@@ -268,7 +268,7 @@ module _ {state bytes : List ℕ} {c : Scope} {notes : List ℕ} (told : Told RE
       let x = here s b (get_or all j no_node) in
       let few : j < length all = omega (arith, told.given.scoped.named) in
       let slot : get_or notes (NAMED_SLOTS + j) 0 ≡ slot_at s x = told.written 4 (omega arith) j h in
-      let node : id_at s (get_or notes (NAMED_SLOTS + j) 0) ≡ x = ap (id_at s) slot ∙ slot_id_lem s x (omega (arith, forest_length state)) in
+      let node : id_at s (get_or notes (NAMED_SLOTS + j) 0) ≡ x = ap (id_at s) slot ∙ slot_id s x (omega (arith, forest_length state)) in
       ap (λ m. leb m j) (told.written 6 (omega arith) (get_or notes (NAMED_SLOTS + j) 0) l ∙ ap (naming_mark s b) node ∙ naming_is s b j few)
       ∙ sym (has_before same_node (get_or all j no_node) all j (omega arith))
 

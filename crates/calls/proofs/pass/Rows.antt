@@ -108,17 +108,17 @@ module _ {state bytes : List ℕ} {c : Scope} {notes due firsts : List ℕ} (w :
       (sym (w.dues (get_or firsts (j + 1) 0) first_listed) ∙ (w.firsts_are.right (j + 1) (omega (arith, few_named state bytes c w.told.given)) l).1)
 
   -- so it is the child
-  pub first_id_lem : get_or (named_ids (asked bytes c).nodes) j no_node ≡ (listed_at (asked bytes c) (get_or firsts (j + 1) 0)).id
-  first_id_lem =
+  pub first_id : get_or (named_ids (asked bytes c).nodes) j no_node ≡ (listed_at (asked bytes c) (get_or firsts (j + 1) 0)).id
+  first_id =
       let all = named_ids (asked bytes c).nodes in
       let x = (listed_at (asked bytes c) (get_or firsts (j + 1) 0)).id in
       sym (same_node→≡ x (get_or all j no_node) (rw first_due.1 at ((position_first same_node x no_node all).hit (omega (arith, first_due.1, w.told.given.scoped.named)))))
 
   pub first_unplaced : placed_at_turn (forest state) (asked bytes c) (get_or (named_ids (asked bytes c).nodes) j no_node) ≡ false
-  first_unplaced = rw first_id_lem first_due.0
+  first_unplaced = rw first_id first_due.0
 
   pub first_at : position same_node (named_ids (asked bytes c).nodes) (get_or (named_ids (asked bytes c).nodes) j no_node) ≡ j
-  first_at = rw first_id_lem first_due.1
+  first_at = rw first_id first_due.1
 
   -- and a search for the child ends there
   pub first_found : First (λ m. same_node (get_or (named_ids (asked bytes c).nodes) j no_node) (listed_at (asked bytes c) m).id) (length (asked bytes c).nodes) (get_or firsts (j + 1) 0)
@@ -126,7 +126,7 @@ module _ {state bytes : List ℕ} {c : Scope} {notes due firsts : List ℕ} (w :
   first_found =
       let s = forest state in
       let b = asked bytes c in
-      rw first_id_lem
+      rw first_id
       (rw (turn_self s b w.told.given.once (get_or firsts (j + 1) 0) first_listed) at
       (turn_first s b (here s b (listed_at b (get_or firsts (j + 1) 0)).id)))
 
@@ -212,5 +212,5 @@ unfolding nowhere
 nowhere_first {state} {bytes} {c} w {j} h l =
     let s = forest state in
     let b = asked bytes c in
-    let is = ap (λ y. listed s b (here s b y)) (first_id_lem w j h l) ∙ listed_self s b _ (first_listed w j h l) in
+    let is = ap (λ y. listed s b (here s b y)) (first_id w j h l) ∙ listed_self s b _ (first_listed w j h l) in
     sym (ap (λ t. not (old s b (here s b (get_or (named_ids b.nodes) j no_node))) && not t) is ∙ and_false _)

@@ -33,7 +33,7 @@ use Rattle.calls.specs.Steps.{entries_before, At, Standing, rest, seen, placing,
 use Rattle.calls.proofs.pass.Going.{entries_before_within, entries_before_more, rest_name, rest_own}
 use Rattle.calls.proofs.pass.Faults.{placing_here, placing_past, seen_has, seen_more}
 use Rattle.calls.proofs.pass.Read.{has_before, first_place, listing_found, listing_missing, due_reached, due_is, end_word_lem, named_word_lem, named_old, named_mark, named_search}
-use Rattle.calls.proofs.pass.Rows.{first_listed, first_id_lem, first_unplaced, first_at, first_found}
+use Rattle.calls.proofs.pass.Rows.{first_listed, first_id, first_unplaced, first_at, first_found}
 
 -- ## A child that waits
 
@@ -199,7 +199,7 @@ module _ {state bytes : List ℕ} {c : Scope} {notes due firsts : List ℕ} {i j
         (waits_here (forest state) (asked bytes c) (take i (asked bytes c).nodes) _ _
         (listing_found (asked bytes c).nodes _ i (get_or firsts (j + 1) 0) (omega (arith, is_listed)) (first_found q.prepared j is_named l) m)
         (first_unplaced q.prepared j is_named l)
-        ∙ rw (first_id_lem q.prepared j is_named l)))
+        ∙ rw (first_id q.prepared j is_named l)))
 
     -- any other: it was named before, or is not listed, or is placed at its turn
     module _ (l : 64 ≤ get_or firsts (j + 1) 0) where

@@ -24,7 +24,7 @@ use Rattle.calls.specs.declared.notes.Scope.{Scope}
 use Rattle.calls.specs.Setting.{KeptForest, asked, forest}
 use Rattle.calls.specs.Codes.{id_at, slot_at, code_id, Coded, code_of}
 use Rattle.calls.specs.Says.{code_word, outcome_count, Told, COMPARED}
-use Rattle.calls.proofs.notes.Places.{slot_present, slot_id_lem, slot_self, present_at}
+use Rattle.calls.proofs.notes.Places.{slot_present, slot_id, slot_self, present_at}
 use Rattle.update_focus.proofs.Numbers.{forest_length}
 use Rattle.calls.proofs.notes.Marks.{turn_self, listed_self}
 use Rattle.calls.proofs.notes.Setting.{batched_facts}
@@ -70,8 +70,8 @@ has_among f g m n to x e =
     ap (has same_id (list_of n g)) (sym (j.2 ∙ i.2)) ∙ has_list_of same_id same_id_refl n g j.0 j.1
 
 -- two ascending runs with the same members are the same run
-pub same_run_lem : (f g : ℕ → FullNodeId) (m n : ℕ) → Ascends f m → Ascends g n → StandsIn f m g n → StandsIn g n f m → (m ≡ n) × ((i : ℕ) → i < m → f i ≡ g i)
-same_run_lem f g m n p q to from =
+pub same_run : (f g : ℕ → FullNodeId) (m n : ℕ) → Ascends f m → Ascends g n → StandsIn f m g n → StandsIn g n f m → (m ≡ n) × ((i : ℕ) → i < m → f i ≡ g i)
+same_run f g m n p q to from =
     (many, λ i l. sym (list_of_at m i f (f 0) l) ∙ ap (λ (xs : List FullNodeId). get_or xs i (f 0)) same ∙ list_of_at n i g (f 0) (omega (arith, many)))
   where
     same : list_of m f ≡ list_of n g
@@ -139,14 +139,14 @@ module _ (s : Forest) (b : Batch) (kept : KeptForest s) (few : length b.nodes �
 
     run : (count ≡ length (outcome s b).nodes) × ((r : ℕ) → r < count → code_id s b (code_in notes r) ≡ id_at (outcome s b) r)
     unfolding o
-    run = same_run_lem (λ r. code_id s b (code_in notes r)) (id_at o) count (length o.nodes) h.up (ascending_pair o (ascending_outcome s b kept.ascending)) to from
+    run = same_run (λ r. code_id s b (code_in notes r)) (id_at o) count (length o.nodes) h.up (ascending_pair o (ascending_outcome s b kept.ascending)) to from
       where
         to : (r : ℕ) → r < count → (j : ℕ) × (j < length o.nodes) × (id_at o j ≡ code_id s b (code_in notes r))
         to r l =
             let x = code_id s b (code_in notes r) in
             let there = coded_present (code_in notes r) (h.are r l) in
             let below : slot_at o x < length o.nodes = ltb-true (slot_at o x) (length o.nodes) (sym (slot_present o x) ∙ there) in
-            (slot_at o x, below, slot_id_lem o x below)
+            (slot_at o x, below, slot_id o x below)
 
         from : (j : ℕ) → j < length o.nodes → (r : ℕ) × (r < count) × (code_id s b (code_in notes r) ≡ id_at o j)
         from j l =

@@ -20,7 +20,7 @@ use Rattle.calls.specs.declared.notes.Scope.{Scope}
 use Rattle.calls.specs.Setting.{KeptForest, asked, forest}
 use Rattle.calls.specs.Codes.{id_at, flag, differs, code_of, source_of}
 use Rattle.calls.specs.Says.{turn_mark, turn_word, differ_word, code_word, source_word, outcome_count, Told}
-use Rattle.calls.proofs.notes.Places.{slot_id_lem}
+use Rattle.calls.proofs.notes.Places.{slot_id}
 use Rattle.update_focus.proofs.Numbers.{forest_length}
 use Rattle.calls.proofs.notes.Marks.{turn_none, turn_is, turn_within, turn_listed}
 use Rattle.calls.proofs.Outcome.Codes.{old_slot, code_slot, code_turn}
@@ -54,7 +54,7 @@ module _ (s : Forest) (b : Batch) (kept : KeptForest s) (x : FullNodeId) where
     code_there = rw (code_slot s b x (code_low low)) (old_slot s b x (code_low low))
 
     code_holds : id_at s (code_of s b x) ≡ x
-    code_holds = ap (id_at s) (code_slot s b x (code_low low)) ∙ slot_id_lem s x (old_slot s b x (code_low low))
+    code_holds = ap (id_at s) (code_slot s b x (code_low low)) ∙ slot_id s x (old_slot s b x (code_low low))
 
     -- one that is not listed keeps its data
     source_kept : turn_mark s b x ≡ 0 → source_of s b x ≡ code_of s b x

@@ -33,7 +33,7 @@ use Rattle.base.proofs.Cases.{by_test, by_order}
 use Rattle.calls.specs.Setting.{asked, forest, KeptForest}
 use Rattle.calls.specs.Codes.{node_at, id_at, slot_at, flag, differs, code_of, change_of}
 use Rattle.calls.specs.Says.{turn_mark, turn_word, differ_word, code_word, changed_word, outcome_count, Told, PLANNED}
-use Rattle.calls.proofs.notes.Places.{slot_old, slot_id_lem, find_at, forest_id, forest_link}
+use Rattle.calls.proofs.notes.Places.{slot_old, slot_id, find_at, forest_id, forest_link}
 use Rattle.update_focus.proofs.Numbers.{forest_length}
 use Rattle.calls.proofs.notes.Marks.{turn_listed, turn_none, turn_within, turn_here, turn_listing}
 use Rattle.calls.specs.Outcomes.{Outcomes, PaneRootIs}
@@ -201,7 +201,7 @@ module _ (s : Forest) (b : Batch) (kept : KeptForest s) (once : distinct same_no
   stays =
       go (gone s b old_node.id)
       (sym (find_old_outcome s b kept.ascending once old_node found)
-      ∙ ap (λ x. find x (outcome s b).nodes) (slot_id_lem s after.id here)
+      ∙ ap (λ x. find x (outcome s b).nodes) (slot_id s after.id here)
       ∙ find_at (outcome s b) (ascending_outcome s b kept.ascending) r h)
     where
       go : (g : Bool) → (if g then none else some (node_after s b old_node)) ≡ some after
@@ -217,11 +217,11 @@ module _ (s : Forest) (b : Batch) (kept : KeptForest s) (once : distinct same_no
   unfolding link_changed ◌&&◌
   updated_by =
       updated_is s b kept.ascending once old_node found (fields s b kept (slot_at s after.id) here) (pane_root s b)
-      ∙ rw (stays.0, stays.1, slot_id_lem s after.id here)
+      ∙ rw (stays.0, stays.1, slot_id s after.id here)
 
   relinked_by : is_relinked s (outcome s b) after.id ≡ not (same_option same_id (parent_of old_node.parent_and_index) (parent_of after.parent_and_index))
   unfolding ◌&&◌
-  relinked_by = rw (stays.0, stays.1, slot_id_lem s after.id here) at (relinked_is s b kept.ascending once old_node found)
+  relinked_by = rw (stays.0, stays.1, slot_id s after.id here) at (relinked_is s b kept.ascending once old_node found)
 
 -- ## The word of a node
 

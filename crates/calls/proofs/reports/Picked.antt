@@ -27,7 +27,7 @@ use Rattle.update.specs.Outcome.{pane_root, outcome}
 use Rattle.update.specs.Reports.{sorted, added, removed, is_updated, updated, is_relinked, relinked, changes_with, changes_of, Changes, no_changes, unless_in, focus_moved, extra_before, extra_after}
 use Rattle.update.proofs.Outcome.{ascending_outcome}
 use Rattle.update.proofs.Reports.{removed_is, sorted_ids, sorted_keep, same_members}
-use Rattle.state_focus.specs.Focus.{found_of_lem}
+use Rattle.state_focus.specs.Focus.{found_of}
 use Rattle.state_focus.specs.declared.FoundNode.{FoundNode}
 use Rattle.state_focus.specs.declared.FoundNode.TheVariants as node
 use Rattle.calls.specs.declared.notes.Scope.{Scope}
@@ -36,7 +36,7 @@ use Rattle.calls.specs.Layout.{FATES, CHANGED}
 use Rattle.calls.specs.Setting.{asked, forest}
 use Rattle.calls.specs.Codes.{node_at, id_at, slot_at, flag, change_of}
 use Rattle.calls.specs.Says.{goes_word, changed_word, outcome_state, REPORTED}
-use Rattle.calls.proofs.notes.Places.{slot_found, slot_present, slot_id_lem, present_at}
+use Rattle.calls.proofs.notes.Places.{slot_found, slot_present, slot_id, present_at}
 use Rattle.update_focus.proofs.Numbers.{forest_length}
 use Rattle.calls.specs.Outcomes.{changes_in, Outcomes}
 use Rattle.calls.specs.Slice.{picked, changes_noted, ListsWritten}
@@ -68,8 +68,8 @@ unless_nothing (some x) = refl
 
 -- a report of two answers is that of two states whose focus they are
 pub report_is : (s s' : State) (c : Changes) (before after lost got : FoundNode) (r : Report) → ReportOf before after lost got r
-    → found_of_lem before ≡ state_focus s → found_of_lem after ≡ state_focus s'
-    → found_of_lem lost ≡ unless_before c (found_of_lem before) → found_of_lem got ≡ unless_after c (found_of_lem after) → Reported s s' c r
+    → found_of before ≡ state_focus s → found_of after ≡ state_focus s'
+    → found_of lost ≡ unless_before c (found_of before) → found_of got ≡ unless_after c (found_of after) → Reported s s' c r
 unfolding extra_before extra_after focus_moved
 report_is s s' c before after lost got r says p q l g = record {
   before_is = says.before_is ∙ p;
@@ -159,7 +159,7 @@ module _ (s : Forest) (b : Batch) (up : ascending s.nodes ≡ true) where
 
       there : (x : FullNodeId) → was_updated s b x ≡ true → present (outcome s b).nodes x ≡ true
       there x e =
-          let at = slot_id_lem s x (ltb-true (slot_at s x) (length s.nodes) (sym (slot_present s x) ∙ (both e).0)) in
+          let at = slot_id s x (ltb-true (slot_at s x) (length s.nodes) (sym (slot_present s x) ∙ (both e).0)) in
           rw at at (found (find (node_at s (slot_at s x)).id (outcome s b).nodes) _ (both e).1)
 
   relinked_among : keep (was_relinked s b) (ids_of (outcome s b).nodes) ≡ relinked s (outcome s b)
@@ -251,8 +251,8 @@ module _ (xs ys : List FullNodeId) (found : FoundNode) {x : FullNodeId} (is : fo
   marked = ap₂ ◌||◌ p q ∙ sym (any_append (same_id x) xs ys)
 
   -- it stands in one of two lists, or in neither
-  pub unless_marked : (t || u) ≡ true → found_of_lem node.Nothing ≡ unless_in (xs ++ ys) (found_of_lem found)
-  unfolding found_of_lem
+  pub unless_marked : (t || u) ≡ true → found_of node.Nothing ≡ unless_in (xs ++ ys) (found_of found)
+  unfolding found_of
   unless_marked e = rw is (unless_there _ x (sym marked ∙ e))
 
   pub unless_unmarked : (t || u) ≡ false → some x ≡ unless_in (xs ++ ys) (some x)

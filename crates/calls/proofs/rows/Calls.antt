@@ -100,18 +100,18 @@ module _ (s : State) (bytes slice : List ℕ) where
     update_later h = by_refusal (first_passed f bytes none).formed (later_rows f b) (number_is ∙ found_counts (later_rows f b) (row 21 too_short ∷ []) h) h
 
     module _ (clear : later_rows f b ≡ 0) where
-      last_number_lem : (t : Bool) → too_short ≡ t → update_number s (some b) slice ≡ first (row 21 t ∷ [])
-      last_number_lem t q = number_is ∙ found_passes (later_rows f b) (row 21 too_short ∷ []) clear ∙ ap (λ (c : Bool). first (row 21 c ∷ [])) q
+      last_number : (t : Bool) → too_short ≡ t → update_number s (some b) slice ≡ first (row 21 t ∷ [])
+      last_number t q = number_is ∙ found_passes (later_rows f b) (row 21 too_short ∷ []) clear ∙ ap (λ (c : Bool). first (row 21 c ∷ [])) q
 
       -- row 21
       pub update_full : too_short ≡ true → update s bytes slice ≡ refused 21 s slice
       unfolding judged first
-      update_full q = by_number (first_passed f bytes none).formed 21 (last_number_lem true q)
+      update_full q = by_number (first_passed f bytes none).formed 21 (last_number true q)
 
       -- no number
       pub update_done : too_short ≡ false → update s bytes slice ≡ accepted s update_state (changes_of f b) slice
       unfolding judged first
-      update_done q = by_number (first_passed f bytes none).formed 0 (last_number_lem false q)
+      update_done q = by_number (first_passed f bytes none).formed 0 (last_number false q)
 
 -- ## A start
 

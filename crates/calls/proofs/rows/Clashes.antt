@@ -37,7 +37,7 @@ use Rattle.calls.specs.declared.notes.Scope.{Scope}
 use Rattle.calls.specs.Setting.{asked, forest}
 use Rattle.calls.specs.Codes.{slot_at, id_at, differs}
 use Rattle.calls.specs.Says.{listed_slot, goes_word, differ_word, Told, COMPARED}
-use Rattle.calls.proofs.notes.Places.{slot_present, slot_id_lem}
+use Rattle.calls.proofs.notes.Places.{slot_present, slot_id}
 use Rattle.update_focus.proofs.Numbers.{forest_length}
 use Rattle.base.specs.Bytes.{list_of}
 use Rattle.base.proofs.Columns.{list_of_each}
@@ -179,7 +179,7 @@ module _ {state bytes : List ℕ} {c : Scope} {notes : List ℕ} (told : Told CO
         ap (λ (m : ℕ). eqb m 1) (told.written 9 (omega arith) (get_or notes (LISTED_SLOTS + i) 0) clash_within)
         ∙ bit_is _
         ∙ ap (λ (k : ℕ). gone s b (id_at s k)) slot_is
-        ∙ ap (gone s b) (slot_id_lem s x (omega (arith, clash_within, slot_is, forest_length state)))
+        ∙ ap (gone s b) (slot_id s x (omega (arith, clash_within, slot_is, forest_length state)))
         ∙ sym (clash_is s b (listed_at b i) ∙ rw other (and_right _))
 
   -- by the notes

@@ -40,7 +40,7 @@ use Rattle.calls.specs.Layout.{FATES}
 use Rattle.calls.specs.Codes.{id_at, slot_at}
 use Rattle.calls.specs.Says.{Told, PLANNED, goes_word}
 use Rattle.calls.proofs.Outcome.Codes.{gone_absent}
-use Rattle.calls.proofs.notes.Places.{slot_present, slot_id_lem}
+use Rattle.calls.proofs.notes.Places.{slot_present, slot_id}
 use Rattle.update_focus.proofs.Numbers.{forest_length}
 use Rattle.base.proofs.Tests.{bit_is}
 use Rattle.base.proofs.Cases.{by_order}
@@ -142,7 +142,7 @@ marked_gone_lem {state} {bytes} {c} {notes} told x = by_order (slot_at (forest s
         rw (lt-ltb (slot_at (forest state) x) (slots_of state) h)
         (ap (λ (w : ℕ). eqb w 1) (told.written 9 (omega arith) (slot_at (forest state) x) h)
         ∙ bit_is (gone (forest state) (asked bytes c) (id_at (forest state) (slot_at (forest state) x)))
-        ∙ ap (gone (forest state) (asked bytes c)) (slot_id_lem (forest state) x (omega (arith, forest_length state))))
+        ∙ ap (gone (forest state) (asked bytes c)) (slot_id (forest state) x (omega (arith, forest_length state))))
 
     absent : slots_of state ≤ slot_at (forest state) x → marked_gone state notes x ≡ gone (forest state) (asked bytes c) x
     absent h =

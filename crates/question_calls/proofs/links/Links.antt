@@ -44,10 +44,10 @@ ids_met p i (c ∷ cs) = ap (λ (xs : List FullNodeId). in_tree p c ∷ xs) (ids
 abbrev roots_of : Option SubtreeState → List FullNodeId
 roots_of o = elim o [ none ↦ [] | some u ↦ u.root ∷ [] ]
 
-abbrev met_at_lem : FullNodeId → Option SubtreeState → List Met
-met_at_lem x o = elim o [ none ↦ [] | some u ↦ met_under x 0 u.root ∷ [] ]
+abbrev met_at : FullNodeId → Option SubtreeState → List Met
+met_at x o = elim o [ none ↦ [] | some u ↦ met_under x 0 u.root ∷ [] ]
 
-ids_graft : (x : FullNodeId) (o : Option SubtreeState) → map (λ m. m.id) (met_at_lem x o) ≡ roots_of o
+ids_graft : (x : FullNodeId) (o : Option SubtreeState) → map (λ m. m.id) (met_at x o) ≡ roots_of o
 unfolding met_under
 ids_graft x none = refl
 ids_graft x (some u) = refl
@@ -135,18 +135,18 @@ module _ (s : List ℕ) (h : Sound s) (i : ℕ) (there : i < slots_of s) where
       go : (b : Bool)
           → map (λ (m : Met). m.id) (elim (if b then some (shape_in s i).graft else none) as (λ _. List Met) [
             | none ↦ children_met x 0 (children_in s x.node (shape_in s i))
-            | some t ↦ met_at_lem x (subtree_of f t)
+            | some t ↦ met_at x (subtree_of f t)
           ]) ≡ (if b then roots_of (subtree_of f (shape_in s i).graft) else map (in_tree x) (children_in s x.node (shape_in s i)))
       go false = ids_met x 0 (children_in s x.node (shape_in s i))
       go true = ids_graft x (subtree_of f (shape_in s i).graft)
 
   module _ (d : ShapeRow) (read : d ≡ shape_in s i) where
     -- child k of a node that grafts nothing
-    abbrev kid_at_lem : ℕ → FullNodeId
-    kid_at_lem k = in_tree x (record { 0 = child s x.node.0 (d.first_child + k) })
+    abbrev kid_at : ℕ → FullNodeId
+    kid_at k = in_tree x (record { 0 = child s x.node.0 (d.first_child + k) })
 
     -- the children of a node that grafts nothing, and of a graft
-    kids_plain : bit 8 d.flags ≡ false → child_ids f x ≡ list_of d.child_count kid_at_lem
+    kids_plain : bit 8 d.flags ≡ false → child_ids f x ≡ list_of d.child_count kid_at
     unfolding children_in
     kids_plain e = slot_kids ∙ ap kids (sym read) ∙ rw e (map_list_of (in_tree x) d.child_count (λ k. record { 0 = child s x.node.0 (d.first_child + k) }))
 
@@ -155,7 +155,7 @@ module _ (s : List ℕ) (h : Sound s) (i : ℕ) (there : i < slots_of s) where
 
     -- how many there are
     pub count_plain : bit 8 d.flags ≡ false → d.child_count ≡ length (child_ids f x)
-    count_plain e = sym (ap length (kids_plain e) ∙ length_list_of d.child_count kid_at_lem)
+    count_plain e = sym (ap length (kids_plain e) ∙ length_list_of d.child_count kid_at)
 
     -- the one at a place
     pub kid_plain : bit 8 d.flags ≡ false → (y : FullNodeId) (k : ℕ) (c : NodeId) → y ≡ x
@@ -163,7 +163,7 @@ module _ (s : List ℕ) (h : Sound s) (i : ℕ) (there : i < slots_of s) where
         → record { tree = y.tree; node = c } ≡ get_or (child_ids f x) k x
     kid_plain e y k c p q l =
         let within : k < d.child_count = rw (← count_plain e) at l in
-        rw (q, p) (sym (ap (λ (xs : List FullNodeId). get_or xs k x) (kids_plain e) ∙ list_of_at d.child_count k kid_at_lem x within))
+        rw (q, p) (sym (ap (λ (xs : List FullNodeId). get_or xs k x) (kids_plain e) ∙ list_of_at d.child_count k kid_at x within))
 
     module _ (e : bit 8 d.flags ≡ true) (r : FoundTree) (q : ends_of r ≡ subtree_of f d.graft) where
       -- a graft whose tree does not exist has no child

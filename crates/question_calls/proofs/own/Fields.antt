@@ -47,9 +47,9 @@ module _ (s : List ℕ) (i : ℕ) where
     unfolding optional_rect bounds? body_in shape_in
     own_bounds b r e = rw (← is, b, e)
 
-    pub no_transform_lem : bit 32 w ≡ false → affine.None ≡ optional_affine (transform? (body_in s i))
+    pub no_transform : bit 32 w ≡ false → affine.None ≡ optional_affine (transform? (body_in s i))
     unfolding optional_affine transform? body_in shape_in
-    no_transform_lem b = rw (← is, b)
+    no_transform b = rw (← is, b)
 
     pub own_transform : bit 32 w ≡ true → (r : Affine) → r ≡ transform_in s i → affine.Given r ≡ optional_affine (transform? (body_in s i))
     unfolding optional_affine transform? body_in shape_in

@@ -24,7 +24,7 @@ use Rattle.state_lookup.proofs.Found.{present_slot}
 use Rattle.state_lookup.proofs.Order.{ordered_is}
 use Rattle.state_focus.specs.declared.FoundNode.{FoundNode}
 use Rattle.state_focus.specs.declared.FoundNode.TheVariants as node
-use Rattle.state_focus.specs.Focus.{found_of_lem}
+use Rattle.state_focus.specs.Focus.{found_of}
 use Rattle.questions.specs.Filters.{active_descendant_at, focused_node, is_focused}
 use Rattle.question_calls.specs.Slots.{Sound, slot_id}
 use Rattle.question_calls.proofs.links.Slots.{slot_id_some, slot_id_none, slot_id_at, slot_shape, slot_found, slot_same, slot_of_present}
@@ -89,27 +89,27 @@ module _ (s : List ℕ) (n : ℕ) (past : n ≡ slots_of s) where
   unfolding focused_node view
   host_lost e = none_focused (rw (eq-eqb (host_of s) 0 e, focused_node) refl)
 
-  module _ (host : host_of s ≡ 0 → ⊥) (r : FoundNode) (effective : found_of_lem r ≡ effective_focus (view s).forest) where
-    focused_by : focused_node (view s) ≡ by_focus (view s).forest.nodes (found_of_lem r)
+  module _ (host : host_of s ≡ 0 → ⊥) (r : FoundNode) (effective : found_of r ≡ effective_focus (view s).forest) where
+    focused_by : focused_node (view s) ≡ by_focus (view s).forest.nodes (found_of r)
     unfolding focused_node view
     focused_by = rw (ne_eqb (host_of s) 0 host, focused_node, effective) refl
 
     -- without an effective focus
     pub focus_none : r ≡ node.Nothing → Focused s n
-    unfolding found_of_lem
+    unfolding found_of
     focus_none q = none_focused (focused_by ∙ rw q refl)
 
     module _ (h : Sound s) (e : FullNodeId) (q : r ≡ node.At e) (i : ℕ) (found : SlotOf s e i) where
       -- the effective focus is present
       pub focus_slot : (i < slots_of s) × (id_in s i ≡ e)
-      unfolding found_of_lem
+      unfolding found_of
       focus_slot =
           let z = focus_of_sound (view s).forest (sound_parts (view s).forest h).focus in
           let same : e ≡ z.focus = some-injective e z.focus (sym (rw q refl) ∙ effective ∙ z.effective) in
           slot_id_at s i e (slot_of_present s h e i found (rw same z.there))
 
       focused_slot : focused_node (view s) ≡ by_descendant (id_in s i) (active_descendant_at (view s).forest.nodes (id_in s i))
-      unfolding found_of_lem
+      unfolding found_of
       focused_slot = focused_by ∙ rw (q, focus_slot.1) refl
 
       module _ (a : ℕ) (active : i < slots_of s → slot_id s a ≡ active_descendant_at (view s).forest.nodes (id_in s i)) where

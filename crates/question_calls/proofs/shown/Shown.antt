@@ -237,8 +237,8 @@ module _ (side : Side) (s : List ℕ) (h : Sound s) where
       siblings_orphan l past = orphan x (sym parent_is ∙ slot_id_none s p l) ∙ sym (listed_nil r past)
 
       module _ (there : p < slots_of s) (c : ℕ) (first : slot_id s c ≡ filtered_child_on Following filter f (id_in s p)) where
-        parent_at_lem : filtered_parent filter f x ≡ some (id_in s p)
-        parent_at_lem = sym parent_is ∙ slot_id_some s p there
+        parent_at : filtered_parent filter f x ≡ some (id_in s p)
+        parent_at = sym parent_is ∙ slot_id_some s p there
 
         first_is : slot_id s c ≡ first_filtered_child filter f (id_in s p)
         unfolding filtered_child_on
@@ -246,8 +246,8 @@ module _ (side : Side) (s : List ℕ) (h : Sound s) where
 
         -- the nearest included one has no filtered child
         pub siblings_childless : slots_of s ≤ c → slots_of s ≤ r.slot → filtered_siblings filter side f x ≡ listed r
-        siblings_childless l past = childless x (id_in s p) parent_at_lem (sym first_is ∙ slot_id_none s c l) ∙ sym (listed_nil r past)
+        siblings_childless l past = childless x (id_in s p) parent_at (sym first_is ∙ slot_id_none s c l) ∙ sym (listed_nil r past)
 
         -- else they are what is listed of what is ahead
         pub siblings_listed : c < slots_of s → ListsAhead filter side s up.level r f x → filtered_siblings filter side f x ≡ listed r
-        siblings_listed l e = parented x (id_in s p) (id_in s c) up.level parent_at_lem (sym first_is ∙ slot_id_some s c l) climbed.levels ∙ e
+        siblings_listed l e = parented x (id_in s p) (id_in s c) up.level parent_at (sym first_is ∙ slot_id_some s c l) climbed.levels ∙ e

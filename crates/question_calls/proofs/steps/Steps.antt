@@ -20,7 +20,7 @@ use Rattle.questions.proofs.Links.{parent_link, parentless_link, ancestors_few}
 use Rattle.questions.proofs.Ahead.{ahead_aside, ahead_into, ahead_up, ahead_end, ahead_top}
 use Rattle.question_calls.specs.Slots.{Sound, slot_id}
 use Rattle.question_calls.proofs.links.Slots.{slot_id_some, slot_id_none, slot_shape, slot_present}
-use Rattle.question_calls.specs.Places.{met_from, one_more_lem}
+use Rattle.question_calls.specs.Places.{met_from, one_more}
 
 head_none : {A : Type 0} (xs : List A) → head? xs ≡ none → xs ≡ []
 head_none [] e = refl
@@ -69,14 +69,14 @@ module _ (side : Side) (s : List ℕ) where
           ∙ ap (λ (j : ℕ). ahead side (view s).forest j (id_in s i)) (sym one)
 
     -- one level more than there can be changes nothing
-    level_enough : next < slots_of s → ahead side (view s).forest (one_more_lem level) (id_in s next) ≡ ahead side (view s).forest (suc level) (id_in s next)
-    unfolding one_more_lem ahead view
+    level_enough : next < slots_of s → ahead side (view s).forest (one_more level) (id_in s next) ≡ ahead side (view s).forest (suc level) (id_in s next)
+    unfolding one_more ahead view
     level_enough h = go (dec_lt level 320)
       where
         few : length (ancestors (view s).forest (id_in s next)) < slots_of s
         few = rw length_list_of at (ancestors_few (view s).forest (slot_shape s sound) (id_in s next) (slot_present s sound next h))
 
-        go : Dec (level < 320) → ahead side (view s).forest (one_more_lem level) (id_in s next) ≡ ahead side (view s).forest (suc level) (id_in s next)
+        go : Dec (level < 320) → ahead side (view s).forest (one_more level) (id_in s next) ≡ ahead side (view s).forest (suc level) (id_in s next)
         go (yes l) = rw (lt-ltb level 320 l) refl
         go (no l) =
             let enough : length (ancestors (view s).forest (id_in s next)) ≤ level = omega (arith, few) in
@@ -86,10 +86,10 @@ module _ (side : Side) (s : List ℕ) where
 
     -- down to the first child on this side
     pub step_into : slot_id s next ≡ head? (turned side (child_ids (view s).forest (id_in s i))) → next < slots_of s
-        → met_from side s (record { slot = next; level = one_more_lem level })
+        → met_from side s (record { slot = next; level = one_more level })
         ≡ turned side (child_ids (view s).forest (id_in s i)) ++ ahead side (view s).forest level (id_in s i)
     step_into e h =
-        met_at next (one_more_lem level) h
+        met_at next (one_more level) h
         ∙ ap (λ (ys : List FullNodeId). id_in s next ∷ ys) (level_enough h)
         ∙ sym (ahead_into side (view s).forest (slot_shape s sound) level (id_in s i) (id_in s next) (slot_present s sound i there) (sym e ∙ slot_id_some s next h)).rest
 

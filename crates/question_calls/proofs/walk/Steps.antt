@@ -17,7 +17,7 @@ use Rattle.state.specs.Sound.{sound}
 use Rattle.state_array.specs.View.{id_in, slots_of, view}
 use Rattle.state_focus.specs.declared.FoundNode.{FoundNode}
 use Rattle.state_focus.specs.declared.FoundNode.TheVariants as found
-use Rattle.state_focus.specs.Focus.{found_of_lem}
+use Rattle.state_focus.specs.Focus.{found_of}
 use Rattle.questions.specs.declared.Side.{Side}
 use Rattle.questions.specs.declared.Filter.{Filter}
 use Rattle.questions.specs.declared.Walk.{Walk}
@@ -125,48 +125,48 @@ module _ (v : State) (w : Walk) where
   unfolding stepped_of next_of stepped found_node
   step_refused n e h = rw (← e, after_refused none (get_elem? (walk_list (seen v) w) w.count) n h) refl
 
-  module _ (z : walk_number v.forest w ≡ 0) (r : FoundNode) (e : found_of_lem r ≡ get_elem? (walk_list (seen v) w) w.count) where
-    by_place : (o : Option FullNodeId) → found_of_lem r ≡ o → next_of v w ≡ stepped 0 w o
+  module _ (z : walk_number v.forest w ≡ 0) (r : FoundNode) (e : found_of r ≡ get_elem? (walk_list (seen v) w) w.count) where
+    by_place : (o : Option FullNodeId) → found_of r ≡ o → next_of v w ≡ stepped 0 w o
     unfolding next_of after
     by_place o q = rw (z, sym e ∙ q) refl
 
     -- the end
     pub step_end : r ≡ found.Nothing → handed_out w w.count 0 r ≡ stepped_of (next_of v w)
-    unfolding stepped_of stepped found_node found_of_lem
-    step_end q = rw (by_place none (ap found_of_lem q), q) refl
+    unfolding stepped_of stepped found_node found_of
+    step_end q = rw (by_place none (ap found_of q), q) refl
 
     -- the next sibling
     pub step_found : (x : FullNodeId) (count : ℕ) → r ≡ found.At x → count ≡ w.count + 1 → handed_out w count 0 r ≡ stepped_of (next_of v w)
-    unfolding stepped_of stepped found_node found_of_lem
-    step_found x count q k = rw (by_place (some x) (ap found_of_lem q), q, k, add-one w.count) refl
+    unfolding stepped_of stepped found_node found_of
+    step_found x count q k = rw (by_place (some x) (ap found_of q), q, k, add-one w.count) refl
 
     -- there the count is a small number
     pub step_room : (x : FullNodeId) → length (walk_list (seen v) w) ≤ 256 → r ≡ found.At x → w.count < 256
-    unfolding found_of_lem
-    step_room x few q = omega (arith, few, (take_more (walk_list (seen v) w) w.count x (sym e ∙ ap found_of_lem q)).1)
+    unfolding found_of
+    step_room x few q = omega (arith, few, (take_more (walk_list (seen v) w) w.count x (sym e ∙ ap found_of q)).1)
 
 -- the walk about the node in its slot
 pub finds_asked : (s : List ℕ) (i : ℕ) (w : Walk) (r : FoundNode) → id_in s i ≡ w.node → FindsAt s i w.side w.filter w.count r
-    → found_of_lem r ≡ get_elem? (walk_list (seen (view s)) w) w.count
+    → found_of r ≡ get_elem? (walk_list (seen (view s)) w) w.count
 finds_asked s i w r e q =
     q ∙ ap (λ (x : FullNodeId). get_elem? (walk_list (seen (view s)) (record { node = x; side = w.side; filter = w.filter; count = w.count })) w.count) e
 
 -- ## The node in a slot, the sibling at a place
 
-pub slot_nothing : (s : List ℕ) (k n : ℕ) (o : Option FullNodeId) → n ≡ slots_of s → n ≤ k → slot_id s k ≡ o → found_of_lem found.Nothing ≡ o
-unfolding found_of_lem
+pub slot_nothing : (s : List ℕ) (k n : ℕ) (o : Option FullNodeId) → n ≡ slots_of s → n ≤ k → slot_id s k ≡ o → found_of found.Nothing ≡ o
+unfolding found_of
 slot_nothing s k n o e h q = sym (slot_id_none s k (omega arith)) ∙ q
 
-pub slot_found : (s : List ℕ) (k n : ℕ) (x : FullNodeId) (o : Option FullNodeId) → n ≡ slots_of s → k < n → x ≡ id_in s k → slot_id s k ≡ o → found_of_lem (found.At x) ≡ o
-unfolding found_of_lem
+pub slot_found : (s : List ℕ) (k n : ℕ) (x : FullNodeId) (o : Option FullNodeId) → n ≡ slots_of s → k < n → x ≡ id_in s k → slot_id s k ≡ o → found_of (found.At x) ≡ o
+unfolding found_of
 slot_found s k n x o e h p q = ap some p ∙ sym (slot_id_some s k (omega arith)) ∙ q
 
-pub place_nothing : (xs : List FullNodeId) (k : ℕ) → length xs ≤ k → found_of_lem found.Nothing ≡ get_elem? xs k
-unfolding found_of_lem
+pub place_nothing : (xs : List FullNodeId) (k : ℕ) → length xs ≤ k → found_of found.Nothing ≡ get_elem? xs k
+unfolding found_of
 place_nothing xs k h = sym (place_out xs k h)
 
-pub place_found : (xs : List FullNodeId) (k : ℕ) (x y : FullNodeId) → x ≡ y → get_elem? xs k ≡ some y → found_of_lem (found.At x) ≡ get_elem? xs k
-unfolding found_of_lem
+pub place_found : (xs : List FullNodeId) (k : ℕ) (x y : FullNodeId) → x ≡ y → get_elem? xs k ≡ some y → found_of (found.At x) ≡ get_elem? xs k
+unfolding found_of
 place_found xs k x y e q = ap some e ∙ sym q
 
 -- a place of the list that starts at r
@@ -178,9 +178,9 @@ module _ (s : List ℕ) (i side filter count : ℕ) (r : FoundNode) (on : Side) 
   abbrev walk : Walk
   walk = record { node = id_in s i; side = side; filter = filter; count = count }
 
-  pub finds_plain : filter ≡ 0 → found_of_lem r ≡ get_elem? (siblings on (view s).forest (id_in s i)) count → FindsAt s i side filter count r
+  pub finds_plain : filter ≡ 0 → found_of r ≡ get_elem? (siblings on (view s).forest (id_in s i)) count → FindsAt s i side filter count r
   finds_plain z q = q ∙ ap (λ (l : List FullNodeId). get_elem? l count) (sym (list_plain (seen (view s)) walk on e z))
 
   pub finds_filtered : (under : Filter) → filter_choice filter ≡ some (some under)
-      → found_of_lem r ≡ get_elem? (filtered_siblings (filter_of under (seen (view s))) on (view s).forest (id_in s i)) count → FindsAt s i side filter count r
+      → found_of r ≡ get_elem? (filtered_siblings (filter_of under (seen (view s))) on (view s).forest (id_in s i)) count → FindsAt s i side filter count r
   finds_filtered under c q = q ∙ ap (λ (l : List FullNodeId). get_elem? l count) (sym (list_filtered (seen (view s)) walk on e under c))

@@ -2,7 +2,7 @@
 ghost use Rattle.std.specs.Prelude.{◌≡◌};
 ghost use Rattle.state.specs.Down.{root_of};
 ghost use Rattle.state_array.specs.View.{view};
-ghost use Rattle.state_focus.specs.Focus.{found_of_lem};
+ghost use Rattle.state_focus.specs.Focus.{found_of};
 ghost use Rattle.node_answers.specs.Answers.{optional_tree, optional_index, found_tree};
 ghost use Rattle.node_answers.specs.TreeState.{focus_answer, root_answer, tree_id_at, tree_index_at, tree_ends, tree_id_answer, tree_index_answer, tree_ends_answer, counts_answer};
 
@@ -117,7 +117,7 @@ pub fn counts(state: &State) -> CountsAnswer
 
 // ROOT's root.
 fn found_root(state: &State) -> FoundNode
-    ensures { found_of_lem result ≡ root_of (view state.now).forest }
+    ensures { found_of result ≡ root_of (view state.now).forest }
 {
     let FoundTree::At(e) = state_lookup::tree_of(state, TreeId { high: 0, low: 0 }) else {
         return FoundNode::Nothing;

@@ -4,7 +4,7 @@ use Prim.Native.Nat.{◌<◌}
 use lib.ListN.{length}
 use Rattle.base.proofs.Regions.{fills_none}
 use Rattle.state_array.specs.Stored.{link_row}
-use Rattle.update_bodies.proofs.Bodies.{floats_fit_lem}
+use Rattle.update_bodies.proofs.Bodies.{floats_fit}
 use Rattle.update_bodies.proofs.Same.{bytes_all}
 use Rattle.calls.specs.Links.{link_word}
 use Rattle.state_array.proofs.Filled.{node_more}
@@ -33,7 +33,7 @@ loop-r-preserved c =
       l.invariant.1,
       omega arith,
       node_more _ l.r (omega arith) _ l.invariant.3 (c.id_of-x.ensures ∙ id_there c.requires among) (c.link_of-l.ensures ∙ ap link_row (link_there c.requires among))
-          (body_there c.requires among c.body_of-body.ensures (floats_fit_lem c.body_of-body.result _ c.body_of-body.type_inv) (bytes_all c.args.batch.now (λ k. omega (arith, c.type_inv.batch k)))) c.put_id.ensures c.put_link.ensures c.put_body.ensures,
+          (body_there c.requires among c.body_of-body.ensures (floats_fit c.body_of-body.result _ c.body_of-body.type_inv) (bytes_all c.args.batch.now (λ k. omega (arith, c.type_inv.batch k)))) c.put_id.ensures c.put_link.ensures c.put_body.ensures,
     )
 
 pub returns : goal.returns

@@ -1,7 +1,7 @@
 use mathlib.Core.Path.{refl}
 use native.Mathlib.Omega.{arith}
 use borrow.Author.Tests.{lt-ltb, le-ltb}
-use Rattle.question_calls.specs.Places.{one_more_lem}
+use Rattle.question_calls.specs.Places.{one_more}
 use borrow.Author.Rules.{rules}
 use Rattle.question_calls.proofs.steps.one_more.Goals as goal
 
@@ -9,9 +9,9 @@ pub overflow_add-result : goal.overflow_add-result
 overflow_add-result c = search rules
 
 pub returns-then-level-lt-SLOTS : goal.returns-then-level-lt-SLOTS
-unfolding one_more_lem
+unfolding one_more
 returns-then-level-lt-SLOTS c = rw (lt-ltb _ _ c.if-level-lt-SLOTS.true) (omega arith)
 
 pub returns-else-level-lt-SLOTS : goal.returns-else-level-lt-SLOTS
-unfolding one_more_lem
+unfolding one_more
 returns-else-level-lt-SLOTS c = rw (le-ltb _ _ c.if-level-lt-SLOTS.false) refl

@@ -1,6 +1,6 @@
 -- `node::tree_state::found_ends` meets its contract: a law for each way out. Assumes nothing.
 use native.Mathlib.Omega.{arith}
-use Rattle.node_answers.proofs.TreeState.{no_ends, unborn_ends, ends_are_lem}
+use Rattle.node_answers.proofs.TreeState.{no_ends, unborn_ends, ends_are}
 use borrow.Author.Rules.{rules}
 use Rattle.question_calls.proofs.node.tree_state.found_ends.Goals as goal
 
@@ -17,4 +17,4 @@ returns-then-t-eq0 c =
 pub returns : goal.returns
 returns c =
     let a = c.args in
-    ends_are_lem a.state.now a.index (omega (arith, c.trees.ensures)) _ c.tree_at-t.ensures c.if-t-eq0.false
+    ends_are a.state.now a.index (omega (arith, c.trees.ensures)) _ c.tree_at-t.ensures c.if-t-eq0.false
