@@ -1,6 +1,5 @@
 -- `geometry_box::are_apart` meets its contract: in each arm the boxes are their constructors, of which `apart` computes. Assumes nothing.
 use Rattle.geometry_box.specs.Boxes.{is_empty, apart}
-use borrow.Author.Rules.{rules}
 use Rattle.geometry_box.proofs.are_apart.Goals as goal
 
 pub returns-in-Box-c : goal.returns-in-Box-c

@@ -1,7 +1,6 @@
 -- `geometry_box::are_finite` meets its contract: one test for each point. Assumes nothing.
 use Rattle.base.specs.Tests.{◌&&◌}
 use Rattle.geometry_box.specs.Boxes.{finite_points}
-use borrow.Author.Rules.{rules}
 use Rattle.geometry_box.proofs.are_finite.Goals as goal
 
 pub returns : goal.returns

@@ -1,6 +1,5 @@
 -- `geometry_box::box_of` meets its contract: none where the test of the corners fails. Assumes nothing.
 use Rattle.geometry_box.specs.Boxes.{box_of}
-use borrow.Author.Rules.{rules}
 use Rattle.geometry_box.proofs.box_of.Goals as goal
 
 pub returns-then-are_finite : goal.returns-then-are_finite

@@ -1,6 +1,5 @@
 -- `geometry_box::box_of_points` meets its contract. Assumes nothing.
 use Rattle.geometry_box.specs.Boxes.{box_of_points}
-use borrow.Author.Rules.{rules}
 use Rattle.geometry_box.proofs.box_of_points.Goals as goal
 
 pub returns : goal.returns

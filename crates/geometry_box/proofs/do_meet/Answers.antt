@@ -1,6 +1,5 @@
 -- `geometry_box::do_meet` meets its contract: in each arm the boxes are their constructors, of which `meet` computes. Assumes nothing.
 use Rattle.geometry_box.specs.Boxes.{is_empty, meet}
-use borrow.Author.Rules.{rules}
 use Rattle.geometry_box.proofs.do_meet.Goals as goal
 
 pub returns-in-Box-c : goal.returns-in-Box-c

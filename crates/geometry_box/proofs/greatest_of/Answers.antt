@@ -1,6 +1,5 @@
 -- `geometry_box::greatest_of` meets its contract. Assumes nothing.
 use Rattle.geometry_box.specs.Boxes.{greatest_of}
-use borrow.Author.Rules.{rules}
 use Rattle.geometry_box.proofs.greatest_of.Goals as goal
 
 pub returns : goal.returns

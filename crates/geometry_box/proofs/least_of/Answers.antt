@@ -1,6 +1,5 @@
 -- `geometry_box::least_of` meets its contract. Assumes nothing.
 use Rattle.geometry_box.specs.Boxes.{least_of}
-use borrow.Author.Rules.{rules}
 use Rattle.geometry_box.proofs.least_of.Goals as goal
 
 pub returns : goal.returns

@@ -1,6 +1,5 @@
 -- `geometry_box::overlap` meets its contract: each arm returns what the test picks. Assumes nothing.
 use Rattle.geometry_box.specs.Boxes.{cut_at_zero, overlap}
-use borrow.Author.Rules.{rules}
 use Rattle.geometry_box.proofs.overlap.Goals as goal
 
 pub returns-then-length : goal.returns-then-length

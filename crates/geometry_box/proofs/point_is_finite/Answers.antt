@@ -1,7 +1,6 @@
 -- `geometry_box::point_is_finite` meets its contract: one test for each number. Assumes nothing.
 use Rattle.base.specs.Tests.{◌&&◌}
 use Rattle.geometry_box.specs.Boxes.{finite_point}
-use borrow.Author.Rules.{rules}
 use Rattle.geometry_box.proofs.point_is_finite.Goals as goal
 
 pub returns : goal.returns

@@ -3,7 +3,6 @@
 use mathlib.Core.Path.{sym}
 use Rattle.base.proofs.Bytes.{le_add, le_past}
 use native.Mathlib.Omega.{arith}
-use borrow.Author.Rules.{rules}
 use Rattle.record_wire.proofs.u64_at.Goals as goal
 
 pub returns-then-bytes-at : goal.returns-then-bytes-at

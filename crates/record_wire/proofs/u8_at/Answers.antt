@@ -1,7 +1,6 @@
 -- `record_wire::u8_at` meets its contract: one byte is itself, and past the end there are zeros. Assumes nothing.
 use mathlib.Core.Path.{sym}
 use Rattle.base.proofs.Bytes.{le_one, le_past}
-use borrow.Author.Rules.{rules}
 use Rattle.record_wire.proofs.u8_at.Goals as goal
 
 pub returns-then-at-bytes : goal.returns-then-at-bytes
