@@ -4,7 +4,6 @@ use mathlib.Core.List.{List, [], ◌∷◌}
 use mathlib.Core.Path.{◌≡◌, refl}
 use Prim.Native.Nat.{ℕ}
 use lib.Ieee.{of_bits, to_bits, eq}
-use lib.ListN.{length}
 use Rattle.base.specs.Tests.{◌&&◌}
 use Rattle.base.specs.Tables.{first}
 use Rattle.base.specs.Floats.{zero_bytes}

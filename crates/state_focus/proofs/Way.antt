@@ -1,5 +1,5 @@
 -- The way of the focus through the grafts and to the active descendant, one law for each way on and out of the code. Assumes nothing.
-use mathlib.Core.Bool.{Bool, true, false, not}
+use mathlib.Core.Bool.{Bool, true, false}
 use mathlib.Core.List.{List}
 use mathlib.Core.Option.{Option, none, some}
 use mathlib.Core.Path.{◌≡◌, sym, ap, ◌∙◌}
@@ -11,7 +11,6 @@ use borrow.Author.Tests.{lt-ltb, le-ltb, eq-eqb, ne_eqb}
 use Rattle.base.specs.Tests.{if◌then◌else◌}
 use Rattle.base.specs.Bytes.{bit}
 use Rattle.base.specs.Search.{First}
-use Rattle.base.proofs.Tests.{not_true, not_false}
 use Rattle.base.proofs.Bytes.{length_list_of}
 use Rattle.ids.specs.Ids.{ROOT}
 use Rattle.ids.specs.declared.NodeId.{NodeId}

@@ -14,7 +14,7 @@ use Rattle.base.specs.Tests.{◌&&◌, is_some, is_nil, any, all, distinct, give
 use Rattle.base.specs.Bytes.{bit, all_below, list_of}
 use Rattle.base.proofs.Cases.{by_test, by_option, by_last}
 use Rattle.base.proofs.Scan.{Passed, scan_start, scan_more, scan_fails, scan_end}
-use Rattle.base.proofs.Tests.{both, iff, and_right, not_true, not_false, call_true, call_false, clash, refuted}
+use Rattle.base.proofs.Tests.{both, iff, and_right, call_true, call_false, clash, refuted}
 use Rattle.base.proofs.Lists.{first_given_some, all_not, any_given}
 use Rattle.base.proofs.Indexed.{all_below_each, all_below_cong, all_indexed, any_indexed, given_indexed, given_some, given_none, distinct_last}
 use Rattle.ids.specs.Ids.{same_tree}

@@ -1,7 +1,6 @@
 -- `record_layout::fields_offence` meets its contract: the rows are the definition's, six zero bytes as two numbers. Assumes nothing.
 use Rattle.base.specs.Tests.{◌&&◌}
 use Rattle.record_layout.proofs.Noted.{fields_noted}
-use borrow.Author.Rules.{rules}
 use Rattle.record_layout.proofs.fields_offence.Goals as goal
 
 pub returns : goal.returns

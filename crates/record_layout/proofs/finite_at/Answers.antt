@@ -1,6 +1,5 @@
 -- `record_layout::finite_at` meets its contract. Assumes nothing.
 use Rattle.base.proofs.Floats.{float_finite}
-use borrow.Author.Rules.{rules}
 use Rattle.record_layout.proofs.finite_at.Goals as goal
 
 pub returns : goal.returns

@@ -1,6 +1,5 @@
 -- `record_layout::header_offence` meets its contract: the rows are the definition's, eight zero bytes as one number. Assumes nothing.
 use Rattle.record_layout.proofs.Noted.{header_noted}
-use borrow.Author.Rules.{rules}
 use Rattle.record_layout.proofs.header_offence.Goals as goal
 
 pub returns : goal.returns

@@ -4,12 +4,12 @@ use mathlib.Core.Bool.{true, false}
 use mathlib.Core.List.{List}
 use mathlib.Core.Option.{Option, none}
 use mathlib.Core.Path.{◌≡◌, sym, ap, ◌∙◌}
-use Prim.Native.Nat.{ℕ, ◌+◌, ◌*◌, ◌-◌, ◌≤◌, ◌<◌}
+use Prim.Native.Nat.{ℕ, ◌+◌, ◌≤◌, ◌<◌}
 use lib.Dec.{eqb}
 use borrow.Author.Tests.{eq-eqb, ne_eqb}
 use Rattle.base.specs.Tests.{is_none}
 use Rattle.base.proofs.Bytes.{sum_none, sum_more}
-use Rattle.base.proofs.Scan.{Passed, scan_start, scan_more}
+use Rattle.base.proofs.Scan.{scan_start, scan_more}
 use Rattle.record.specs.Layout.{node_count, entry_count, label_bytes, record_at, child_count, label_length}
 use Rattle.record.specs.Parse.{data_of, children_before, labels_before}
 use Rattle.record_rules.specs.Rules as rules

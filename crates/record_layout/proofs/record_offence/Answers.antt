@@ -1,6 +1,5 @@
 -- `record_layout::record_offence` meets its contract: the rows are the definition's. Assumes nothing.
 use Rattle.record_layout.proofs.Noted.{record_noted}
-use borrow.Author.Rules.{rules}
 use Rattle.record_layout.proofs.record_offence.Goals as goal
 
 pub returns : goal.returns

@@ -1,7 +1,6 @@
 -- `record_layout::zero_at` meets its contract. Assumes nothing.
 use mathlib.Core.Path.{refl}
 use Rattle.base.proofs.Floats.{float_zero}
-use borrow.Author.Rules.{rules}
 use Rattle.record_layout.proofs.zero_at.Goals as goal
 
 pub returns : goal.returns

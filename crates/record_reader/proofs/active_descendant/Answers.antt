@@ -2,7 +2,6 @@
 use mathlib.Core.Path.{refl, ap, ◌∙◌}
 use Rattle.ids.specs.declared.NodeId.{NodeId}
 use Rattle.record_reader.proofs.Reader.{field_is}
-use borrow.Author.Rules.{rules}
 use Rattle.record_reader.proofs.active_descendant.Goals as goal
 
 pub returns : goal.returns

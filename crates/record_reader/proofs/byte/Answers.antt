@@ -1,7 +1,6 @@
 -- `record_reader::byte` meets its contract: the number within the record where there is one, 0 past the last node. Assumes nothing.
 use mathlib.Core.Path.{sym, ◌∙◌}
 use Rattle.record_reader.proofs.Reader.{field_here, field_past}
-use borrow.Author.Rules.{rules}
 use Rattle.record_reader.proofs.byte.Goals as goal
 
 pub returns-then-u16_at-i : goal.returns-then-u16_at-i

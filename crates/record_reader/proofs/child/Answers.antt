@@ -6,7 +6,6 @@ use Rattle.ids.specs.declared.NodeId.{NodeId}
 use Rattle.record.specs.Layout.{entry_at}
 use Rattle.record_reader.specs.Reader.{field_at}
 use Rattle.record_reader.proofs.Reader.{child_here, child_past}
-use borrow.Author.Rules.{rules}
 use Rattle.record_reader.proofs.child.Goals as goal
 
 pub returns-then-half-k : goal.returns-then-half-k

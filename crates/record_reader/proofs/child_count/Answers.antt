@@ -1,7 +1,6 @@
 -- `record_reader::child_count` meets its contract: the record's count is the length of the listed node's children. Assumes nothing.
 use mathlib.Core.Path.{◌∙◌}
 use Rattle.record_reader.proofs.Reader.{children_count}
-use borrow.Author.Rules.{rules}
 use Rattle.record_reader.proofs.child_count.Goals as goal
 
 pub returns : goal.returns

@@ -4,7 +4,6 @@ use Rattle.base.specs.Bytes.{le}
 use Rattle.ids.specs.declared.NodeId.{NodeId}
 use Rattle.record.specs.Layout.{entry_at}
 use Rattle.record_reader.proofs.Reader.{entry_here, entry_past}
-use borrow.Author.Rules.{rules}
 use Rattle.record_reader.proofs.child_entry.Goals as goal
 
 pub returns-then-u16_at-j : goal.returns-then-u16_at-j

@@ -1,7 +1,6 @@
 -- `record_reader::flags` meets its contract: the record's number is the listed node's. Assumes nothing.
 use mathlib.Core.Path.{refl, ◌∙◌}
 use Rattle.record_reader.proofs.Reader.{field_is}
-use borrow.Author.Rules.{rules}
 use Rattle.record_reader.proofs.flags.Goals as goal
 
 pub returns : goal.returns

@@ -1,7 +1,6 @@
 -- `record_reader::graft` meets its contract: the record's two numbers are the listed node's. Assumes nothing.
 use mathlib.Core.Path.{refl, ◌∙◌}
 use Rattle.record_reader.proofs.Reader.{field_is}
-use borrow.Author.Rules.{rules}
 use Rattle.record_reader.proofs.graft.Goals as goal
 
 pub returns : goal.returns

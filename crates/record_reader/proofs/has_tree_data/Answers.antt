@@ -1,7 +1,6 @@
 -- `record_reader::has_tree_data` meets its contract: the bit says whether there is a root. Assumes nothing.
 use native.Mathlib.Nat.{div-one}
 use Rattle.record_reader.proofs.Reader.{root_there}
-use borrow.Author.Rules.{rules}
 use Rattle.record_reader.proofs.has_tree_data.Goals as goal
 
 pub returns : goal.returns

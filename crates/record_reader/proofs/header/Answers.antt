@@ -1,5 +1,4 @@
 -- `record_reader::header` meets its contract: the calls' equations join the fields. Assumes nothing.
-use borrow.Author.Rules.{rules}
 use Rattle.record_reader.proofs.header.Goals as goal
 
 pub returns : goal.returns

@@ -5,7 +5,6 @@ use lib.ListN.{length}
 use Rattle.record.specs.Layout.{record_at, labels_at, label_start, label_length}
 use Rattle.record.specs.Batch.{Listed}
 use Rattle.record_reader.proofs.Reader.{listed_past, label_is}
-use borrow.Author.Rules.{rules}
 use Rattle.record_reader.proofs.label.Goals as goal
 
 pub returns-then-nodes-i : goal.returns-then-nodes-i

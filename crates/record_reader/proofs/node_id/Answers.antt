@@ -3,7 +3,6 @@ use mathlib.Core.Path.{refl, ap, ◌∙◌}
 use native.Mathlib.Nat.{add-zero}
 use Rattle.ids.specs.declared.NodeId.{NodeId}
 use Rattle.record_reader.proofs.Reader.{field_is}
-use borrow.Author.Rules.{rules}
 use Rattle.record_reader.proofs.node_id.Goals as goal
 
 pub returns : goal.returns

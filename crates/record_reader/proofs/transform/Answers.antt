@@ -1,7 +1,6 @@
 -- `record_reader::transform` meets its contract: each f64 of the record is the listed node's. Assumes nothing.
 use mathlib.Core.Path.{refl}
 use Rattle.record_reader.proofs.Reader.{float_is}
-use borrow.Author.Rules.{rules}
 use Rattle.record_reader.proofs.transform.Goals as goal
 
 pub returns : goal.returns

@@ -2,7 +2,6 @@
 use mathlib.Core.Path.{sym, ap, ◌∙◌}
 use Rattle.ids.specs.declared.NodeId.{NodeId}
 use Rattle.record_reader.proofs.Reader.{root_given, root_missing}
-use borrow.Author.Rules.{rules}
 use Rattle.record_reader.proofs.tree_root.Goals as goal
 
 pub returns-then-has_tree_data : goal.returns-then-has_tree_data

@@ -3,7 +3,6 @@ use mathlib.Core.Path.{refl, ap}
 use Prim.Native.Nat.{◌+◌}
 use Rattle.record_reader.specs.declared.NodeRecord.{NodeRecord}
 use Rattle.record_view.proofs.View.{end_small}
-use borrow.Author.Rules.{rules}
 use native.Mathlib.Omega.{arith}
 use Rattle.record_view.proofs.children_end.Goals as goal
 

@@ -1,6 +1,5 @@
 -- `state_array::body_at` meets its contract: each field is read, and the label is cut. Assumes nothing.
 use Rattle.state_array.specs.Stored.{body_words}
-use borrow.Author.Rules.{rules}
 use Rattle.state_array.proofs.body_at.Goals as goal
 
 pub returns : goal.returns

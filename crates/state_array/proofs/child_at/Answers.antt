@@ -1,7 +1,6 @@
 -- `state_array::child_at` meets its contract: past the last entry stands the own number. Assumes nothing.
 use Prim.Native.Nat.{◌+◌}
 use native.Mathlib.Omega.{arith}
-use borrow.Author.Rules.{rules}
 use borrow.Author.Tests.{lt-ltb, le-ltb}
 use Rattle.state_array.specs.Layout.{ENTRIES, child}
 use Rattle.state_array.proofs.child_at.Goals as goal

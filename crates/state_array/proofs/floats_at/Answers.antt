@@ -1,7 +1,6 @@
 -- `state_array::floats_at` meets its contract: ten patterns. Assumes nothing.
 use Rattle.base.specs.Bytes.{list_of}
 use Rattle.state_array.specs.Stored.{float_words}
-use borrow.Author.Rules.{rules}
 use Rattle.state_array.proofs.floats_at.Goals as goal
 
 pub returns : goal.returns

@@ -5,7 +5,6 @@ use native.Mathlib.Nat.{mod-one, min-zero}
 use native.Mathlib.Omega.{arith}
 use Rattle.state_array.specs.Layout.{LABEL_LENGTH, LABEL, word}
 use Rattle.state_array.proofs.Bodies.{label_cut}
-use borrow.Author.Rules.{rules}
 use Rattle.state_array.proofs.label_word.Goals as goal
 
 pub returns-then-length-from : goal.returns-then-length-from

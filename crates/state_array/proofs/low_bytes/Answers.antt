@@ -5,7 +5,6 @@ use native.Mathlib.Nat.{one-mul, mod-eq_of_lt}
 use native.Mathlib.Omega.{arith}
 use lib.Pow.{pow_pos, pow-lt}
 use Rattle.state_array.proofs.Labels.{shift_bytes}
-use borrow.Author.Rules.{rules}
 use Rattle.state_array.proofs.low_bytes.Goals as goal
 
 -- what the shift gives

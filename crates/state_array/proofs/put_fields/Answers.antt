@@ -5,7 +5,6 @@ use Rattle.state_array.specs.Layout.{CHILD_COUNT, LABEL, FLOATS}
 use Rattle.state_array.specs.Stored.{count_words}
 use Rattle.state_array.specs.Put.{words_put}
 use Rattle.state_array.proofs.Put.{data_put}
-use borrow.Author.Rules.{rules}
 use Rattle.state_array.proofs.put_fields.Goals as goal
 
 pub returns : goal.returns

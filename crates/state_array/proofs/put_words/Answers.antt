@@ -1,11 +1,7 @@
 -- `state_array::put_words` meets its contract. The words before k are in their places. Assumes nothing.
 use mathlib.Core.Path.{◌≡◌}
-use Prim.Native.Nat.{◌+◌, ◌-◌, ◌≤◌}
 use lib.ListN.{length}
-use Rattle.state_array.specs.Layout.{place}
-use Rattle.state_array.specs.Put.{puts}
 use Rattle.state_array.proofs.Put.{puts_none, puts_more}
-use borrow.Author.Rules.{rules}
 use native.Mathlib.Omega.{arith}
 use Rattle.state_array.proofs.put_words.Goals as goal
 

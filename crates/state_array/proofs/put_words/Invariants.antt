@@ -4,9 +4,6 @@ use Prim.Native.Nat.{◌+◌, ◌-◌, ◌≤◌}
 use lib.ListN.{length}
 use Rattle.state_array.specs.Layout.{place}
 use Rattle.state_array.specs.Put.{puts}
-use Rattle.state_array.proofs.Put.{puts_none, puts_more}
-use borrow.Author.Rules.{rules}
-use native.Mathlib.Omega.{arith}
 use Rattle.state_array.proofs.put_words.Given as goal
 
 abbrev pub invariant-loop-k : goal.invariant-loop-k

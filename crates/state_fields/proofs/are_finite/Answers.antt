@@ -1,9 +1,5 @@
 -- `state_fields::are_finite` meets its contract: each word passed is a finite number's pattern. Assumes nothing.
-use Prim.Native.Nat.{◌+◌, ◌-◌}
-use borrow.Author.Rules.{rules}
-use Rattle.base.specs.Floats.{is_finite}
-use Rattle.base.proofs.Scan.{Passed, scan}
-use Rattle.state_array.specs.View.{float_in}
+use Rattle.base.proofs.Scan.{scan}
 use Rattle.state_fields.proofs.are_finite.Goals as goal
 
 pub loop-k-init : goal.loop-k-init

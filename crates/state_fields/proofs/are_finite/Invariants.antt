@@ -1,8 +1,7 @@
 -- `state_fields::are_finite` meets its contract: each word passed is a finite number's pattern. Assumes nothing.
 use Prim.Native.Nat.{◌+◌, ◌-◌}
-use borrow.Author.Rules.{rules}
 use Rattle.base.specs.Floats.{is_finite}
-use Rattle.base.proofs.Scan.{Passed, scan}
+use Rattle.base.proofs.Scan.{Passed}
 use Rattle.state_array.specs.View.{float_in}
 use Rattle.state_fields.proofs.are_finite.Given as goal
 

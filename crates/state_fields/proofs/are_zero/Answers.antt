@@ -1,9 +1,5 @@
 -- `state_fields::are_zero` meets its contract: each word passed is 0. Assumes nothing.
-use Prim.Native.Nat.{◌+◌, ◌-◌}
-use borrow.Author.Rules.{rules}
-use Rattle.base.specs.Floats.{zero_bytes}
-use Rattle.base.proofs.Scan.{Passed, scan}
-use Rattle.state_array.specs.View.{float_in}
+use Rattle.base.proofs.Scan.{scan}
 use Rattle.state_fields.proofs.Fields.{word_zero, word_nonzero}
 use Rattle.state_fields.proofs.are_zero.Goals as goal
 

@@ -1,9 +1,5 @@
 -- `state_fields::fields_are_ok` meets its contract: each slot passed obeys the rules. Assumes nothing.
-use Prim.Native.Nat.{◌-◌}
-use borrow.Author.Rules.{rules}
-use Rattle.base.proofs.Scan.{Passed, scan}
-use Rattle.record.specs.Batch.{fields_ok}
-use Rattle.state_array.specs.View.{body_in}
+use Rattle.base.proofs.Scan.{scan}
 use Rattle.state_fields.proofs.Fields.{fields_indexed}
 use Rattle.state_fields.proofs.fields_are_ok.Goals as goal
 

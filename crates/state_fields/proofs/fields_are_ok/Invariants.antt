@@ -1,10 +1,8 @@
 -- `state_fields::fields_are_ok` meets its contract: each slot passed obeys the rules. Assumes nothing.
 use Prim.Native.Nat.{◌-◌}
-use borrow.Author.Rules.{rules}
-use Rattle.base.proofs.Scan.{Passed, scan}
+use Rattle.base.proofs.Scan.{Passed}
 use Rattle.record.specs.Batch.{fields_ok}
 use Rattle.state_array.specs.View.{body_in}
-use Rattle.state_fields.proofs.Fields.{fields_indexed}
 use Rattle.state_fields.proofs.fields_are_ok.Given as goal
 
 abbrev pub invariant-loop-i : goal.invariant-loop-i

@@ -1,7 +1,6 @@
 -- `state_fields::fields_ok_at` meets its contract: one test for each rule. Assumes nothing.
 use Rattle.base.specs.Tests.{◌&&◌}
 use Rattle.state_fields.proofs.Fields.{fields_read}
-use borrow.Author.Rules.{rules}
 use Rattle.state_fields.proofs.fields_ok_at.Goals as goal
 
 pub returns : goal.returns

@@ -1,11 +1,8 @@
 -- `state_focus::through_grafts` meets its contract: what the way leads to from here is what it leads to from x. Assumes nothing.
 use mathlib.Core.Path.{◌≡◌}
 use Prim.Native.Nat.{◌+◌}
-use borrow.Author.Rules.{rules}
 use Rattle.state.specs.Focus.{through_grafts}
 use Rattle.state_array.specs.View.{trees_of, view}
-use Rattle.state_focus.specs.Focus.{found_of}
-use Rattle.state_focus.proofs.Way.{way_absent, way_plain, way_lost, way_spent, way_on}
 use Rattle.state_focus.proofs.through_grafts.Given as goal
 
 abbrev pub invariant-loop-at : goal.invariant-loop-at

@@ -1,9 +1,7 @@
 -- `state_lookup::bisected` meets its contract: where the ids ascend, slots below `low` stand before the id, and those past what is left do not. Assumes nothing.
 use borrow.Author.Rules.{rules}
-use mathlib.Core.Logic.{⊎_elim}
 use native.Mathlib.Omega.{arith}
-use Rattle.state_array.specs.View.{id_in}
-use Rattle.state_lookup.proofs.Order.{Bisected, bisect_start, bisect_low, bisect_high, slot_here, slot_none}
+use Rattle.state_lookup.proofs.Order.{bisect_start, bisect_low, bisect_high, slot_here, slot_none}
 use Rattle.state_lookup.proofs.bisected.Goals as goal
 use Rattle.state_lookup.proofs.bisected.Goals.{then-is_before, else-is_before}
 

@@ -1,9 +1,6 @@
 -- `state_lookup::bisected` meets its contract: where the ids ascend, slots below `low` stand before the id, and those past what is left do not. Assumes nothing.
-use borrow.Author.Rules.{rules}
-use mathlib.Core.Logic.{⊎_elim}
-use native.Mathlib.Omega.{arith}
 use Rattle.state_array.specs.View.{id_in}
-use Rattle.state_lookup.proofs.Order.{Bisected, bisect_start, bisect_low, bisect_high, slot_here, slot_none}
+use Rattle.state_lookup.proofs.Order.{Bisected}
 use Rattle.state_lookup.proofs.bisected.Given as goal
 
 abbrev pub invariant-loop-left : goal.invariant-loop-left

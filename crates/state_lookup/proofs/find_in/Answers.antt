@@ -1,8 +1,5 @@
 -- `state_lookup::find_in` meets its contract: no slot passed has the id. Assumes nothing.
-use Prim.Native.Nat.{◌-◌}
-use borrow.Author.Rules.{rules}
-use Rattle.base.proofs.Scan.{Missed, scan}
-use Rattle.state_lookup.specs.Lookup.{stands_at}
+use Rattle.base.proofs.Scan.{scan}
 use Rattle.state_lookup.proofs.find_in.Goals as goal
 
 pub loop-i-init : goal.loop-i-init

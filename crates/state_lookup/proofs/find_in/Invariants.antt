@@ -1,7 +1,6 @@
 -- `state_lookup::find_in` meets its contract: no slot passed has the id. Assumes nothing.
 use Prim.Native.Nat.{◌-◌}
-use borrow.Author.Rules.{rules}
-use Rattle.base.proofs.Scan.{Missed, scan}
+use Rattle.base.proofs.Scan.{Missed}
 use Rattle.state_lookup.specs.Lookup.{stands_at}
 use Rattle.state_lookup.proofs.find_in.Given as goal
 

@@ -1,9 +1,5 @@
 -- `state_lookup::find_tree` meets its contract: no number passed has the tree id. Assumes nothing.
-use Prim.Native.Nat.{◌-◌}
-use borrow.Author.Rules.{rules}
-use Rattle.base.proofs.Scan.{Missed, scan}
-use Rattle.ids.specs.Ids.{same_tree}
-use Rattle.state_array.specs.View.{tree_in}
+use Rattle.base.proofs.Scan.{scan}
 use Rattle.state_lookup.proofs.find_tree.Goals as goal
 
 pub loop-k-init : goal.loop-k-init

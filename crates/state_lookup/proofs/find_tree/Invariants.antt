@@ -1,7 +1,6 @@
 -- `state_lookup::find_tree` meets its contract: no number passed has the tree id. Assumes nothing.
 use Prim.Native.Nat.{◌-◌}
-use borrow.Author.Rules.{rules}
-use Rattle.base.proofs.Scan.{Missed, scan}
+use Rattle.base.proofs.Scan.{Missed}
 use Rattle.ids.specs.Ids.{same_tree}
 use Rattle.state_array.specs.View.{tree_in}
 use Rattle.state_lookup.proofs.find_tree.Given as goal

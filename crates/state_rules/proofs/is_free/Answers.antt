@@ -1,9 +1,6 @@
 -- `state_rules::is_free` meets its contract: each node passed does not graft the tree. Assumes nothing.
-use mathlib.Core.Bool.{not}
-use Prim.Native.Nat.{◌-◌}
-use Rattle.base.proofs.Scan.{Passed, scan}
-use Rattle.state_rules.specs.Parts.{grafts_tree, none_grafts}
-use borrow.Author.Rules.{rules}
+use Rattle.base.proofs.Scan.{scan}
+use Rattle.state_rules.specs.Parts.{none_grafts}
 use Rattle.state_rules.proofs.is_free.Goals as goal
 
 pub loop-i-init : goal.loop-i-init

@@ -1,9 +1,8 @@
 -- `state_rules::is_free` meets its contract: each node passed does not graft the tree. Assumes nothing.
 use mathlib.Core.Bool.{not}
 use Prim.Native.Nat.{◌-◌}
-use Rattle.base.proofs.Scan.{Passed, scan}
-use Rattle.state_rules.specs.Parts.{grafts_tree, none_grafts}
-use borrow.Author.Rules.{rules}
+use Rattle.base.proofs.Scan.{Passed}
+use Rattle.state_rules.specs.Parts.{grafts_tree}
 use Rattle.state_rules.proofs.is_free.Given as goal
 
 abbrev pub invariant-loop-i : goal.invariant-loop-i

@@ -1,6 +1,5 @@
 -- `filters::common_filter_knowing` meets its contract: it asks no parent, or what is told of the node is so. Assumes nothing.
 use native.Mathlib.Omega.{arith}
-use borrow.Author.Rules.{rules}
 use Rattle.question_calls.proofs.filters.common_filter_knowing.Goals as goal
 
 pub returns-then-slots-i : goal.returns-then-slots-i

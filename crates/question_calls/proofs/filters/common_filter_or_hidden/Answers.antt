@@ -2,7 +2,6 @@
 use mathlib.Core.Path.{sym, ◌∙◌}
 use native.Mathlib.Omega.{arith}
 use Rattle.question_calls.proofs.filters.Common.{common_focused, common_hidden}
-use borrow.Author.Rules.{rules}
 use Rattle.question_calls.proofs.filters.common_filter_or_hidden.Goals as goal
 
 pub returns-then-i-focused : goal.returns-then-i-focused

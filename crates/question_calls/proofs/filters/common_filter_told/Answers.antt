@@ -1,6 +1,5 @@
 -- `filters::common_filter_told` meets its contract: by the first test that holds. Assumes nothing.
 use mathlib.Core.Path.{sym, ◌∙◌}
-use borrow.Author.Rules.{rules}
 use Rattle.question_calls.proofs.filters.Common.{common_focused, common_hidden, common_transparent}
 use Rattle.question_calls.proofs.filters.Near.{told_unhidden, told_dropped, told_clipped, told_included}
 use Rattle.question_calls.proofs.filters.common_filter_told.Goals as goal

@@ -1,7 +1,6 @@
 -- `filters::common_filter_with_root_exception` meets its contract: ROOT's root, or another. Assumes nothing.
 use mathlib.Core.Path.{sym, ◌∙◌}
 use Rattle.question_calls.proofs.filters.Common.{exception_root, exception_other}
-use borrow.Author.Rules.{rules}
 use Rattle.question_calls.proofs.filters.common_filter_with_root_exception.Goals as goal
 
 pub returns-then-is_root : goal.returns-then-is_root

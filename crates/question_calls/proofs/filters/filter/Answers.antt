@@ -2,7 +2,6 @@
 use mathlib.Core.Path.{◌∙◌, ap}
 use Rattle.questions.specs.Filters.{filter_of}
 use Rattle.node_answers.proofs.Filter.{answer_refused, answer_result}
-use borrow.Author.Rules.{rules}
 use Rattle.question_calls.proofs.filters.filter.Goals as goal
 
 pub returns-then-number-ne0 : goal.returns-then-number-ne0

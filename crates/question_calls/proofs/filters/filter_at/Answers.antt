@@ -1,6 +1,5 @@
 -- `filters::filter_at` meets its contract: case by case. Assumes nothing.
 use Rattle.questions.specs.Filters.{filter_of}
-use borrow.Author.Rules.{rules}
 use Rattle.question_calls.proofs.filters.filter_at.Goals as goal
 
 pub returns-in-Common : goal.returns-in-Common

@@ -1,6 +1,5 @@
 -- `filters::filter_knowing` meets its contract: case by case. Assumes nothing.
 use mathlib.Core.Path.{sym, ◌∙◌}
-use borrow.Author.Rules.{rules}
 use Rattle.questions.specs.Filters.{filter_of}
 use Rattle.question_calls.proofs.filters.Common.{exception_root, exception_other}
 use Rattle.question_calls.proofs.filters.filter_knowing.Goals as goal

@@ -1,7 +1,6 @@
 -- `filters::has_root_exception` meets its contract: case by case. Assumes nothing.
 use mathlib.Core.Path.{refl}
 use Rattle.question_calls.specs.Filters.{has_root_exception}
-use borrow.Author.Rules.{rules}
 use Rattle.question_calls.proofs.filters.has_root_exception.Goals as goal
 
 pub returns-in-Common : goal.returns-in-Common

@@ -2,7 +2,6 @@
 use mathlib.Core.Path.{sym, ◌∙◌}
 use Rattle.base.proofs.Tests.{call_true, call_false}
 use Rattle.question_calls.proofs.filters.Clipped.{clipped_none, clipped_open, clipped_inside, clipped_next, clipped_last}
-use borrow.Author.Rules.{rules}
 use Rattle.question_calls.proofs.filters.is_clipped.Goals as goal
 
 pub returns-then-slots-p : goal.returns-then-slots-p

@@ -1,7 +1,6 @@
 -- `filters::is_exclude_node` meets its contract: case by case. Assumes nothing.
 use mathlib.Core.Path.{refl}
 use Rattle.question_calls.specs.Filters.{is_exclude_node}
-use borrow.Author.Rules.{rules}
 use Rattle.question_calls.proofs.filters.is_exclude_node.Goals as goal
 
 pub returns-in-Include : goal.returns-in-Include

@@ -2,7 +2,6 @@
 use mathlib.Core.Path.{◌∙◌, ap}
 use Rattle.geometry_box.specs.Boxes.{meet}
 use Rattle.question_calls.proofs.filters.Clipped.{nearest_none, nearest_some}
-use borrow.Author.Rules.{rules}
 use Rattle.question_calls.proofs.filters.is_first_sibling_in_parent_bbox.Goals as goal
 
 pub returns-then-slots-sibling : goal.returns-then-slots-sibling

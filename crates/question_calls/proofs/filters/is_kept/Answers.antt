@@ -1,7 +1,6 @@
 -- `filters::is_kept` meets its contract: with the exception or without it. Assumes nothing.
 use mathlib.Core.Bool.{true, false, or-false}
 use mathlib.Core.Path.{◌≡◌, refl, sym}
-use borrow.Author.Rules.{rules}
 use Rattle.base.proofs.Tests.{call_false, call_true}
 use Rattle.base.specs.Tests.{◌&&◌}
 use Rattle.question_calls.specs.Filters.{is_kept}

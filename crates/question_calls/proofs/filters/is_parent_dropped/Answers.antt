@@ -1,6 +1,5 @@
 -- `filters::is_parent_dropped` meets its contract: no parent, one that is known, or one that is asked. Assumes nothing.
 use mathlib.Core.Path.{◌∙◌, ap}
-use borrow.Author.Rules.{rules}
 use Rattle.questions.specs.Filters.{is_exclude_subtree}
 use Rattle.question_calls.proofs.filters.Near.{dropped_top, dropped_up, dropped_known}
 use Rattle.question_calls.proofs.filters.is_parent_dropped.Goals as goal

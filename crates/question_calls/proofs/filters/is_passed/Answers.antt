@@ -1,6 +1,5 @@
 -- `filters::is_passed` meets its contract: with the exception or without it. Assumes nothing.
 use mathlib.Core.Path.{◌∙◌, ap}
-use borrow.Author.Rules.{rules}
 use Rattle.base.specs.Tests.{◌&&◌}
 use Rattle.base.proofs.Tests.{call_false, call_true}
 use Rattle.question_calls.specs.Filters.{is_exclude_node}

@@ -1,7 +1,6 @@
 -- `filters::is_plain` meets its contract: case by case. Assumes nothing.
 use mathlib.Core.Path.{refl}
 use Rattle.question_calls.specs.Filters.{is_plain}
-use borrow.Author.Rules.{rules}
 use Rattle.question_calls.proofs.filters.is_plain.Goals as goal
 
 pub returns-in-Common : goal.returns-in-Common

@@ -1,7 +1,6 @@
 -- `filters::is_root` meets its contract: ROOT's root, if ROOT exists. Assumes nothing.
 use mathlib.Core.Path.{◌∙◌}
 use Rattle.question_calls.proofs.filters.Common.{root_none, root_some}
-use borrow.Author.Rules.{rules}
 use Rattle.question_calls.proofs.filters.is_root.Goals as goal
 
 pub returns-in-At : goal.returns-in-At

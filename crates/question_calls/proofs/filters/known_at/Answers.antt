@@ -1,6 +1,5 @@
 -- `filters::known_at` meets its contract: nothing is known, or the node was asked. Assumes nothing.
 use mathlib.Core.Path.{◌∙◌, ap}
-use borrow.Author.Rules.{rules}
 use Rattle.questions.specs.Filters.{is_exclude_subtree}
 use Rattle.question_calls.proofs.filters.known_at.Goals as goal
 

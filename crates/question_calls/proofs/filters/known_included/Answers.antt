@@ -1,6 +1,5 @@
 -- `filters::known_included` meets its contract: a node that is included is not dropped. Assumes nothing.
 use mathlib.Core.Path.{sym, ◌∙◌}
-use borrow.Author.Rules.{rules}
 use Rattle.question_calls.proofs.filters.Near.{included_undropped}
 use Rattle.question_calls.proofs.filters.known_included.Goals as goal
 

@@ -1,5 +1,4 @@
 -- `iterators::deepest_first_filtered_child` meets its contract: the child on its side. Assumes nothing.
-use borrow.Author.Rules.{rules}
 use Rattle.question_calls.specs.Shown.{deepest_on}
 use Rattle.question_calls.proofs.iterators.deepest_first_filtered_child.Goals as goal
 

@@ -1,7 +1,6 @@
 -- `iterators::filtered_child` meets its contract: 1 and 22, or the node in the slot that is found. Assumes nothing.
 use mathlib.Core.Path.{◌∙◌}
 use native.Mathlib.Omega.{arith}
-use borrow.Author.Rules.{rules}
 use Rattle.questions.specs.Filters.{filter_of}
 use Rattle.question_calls.specs.Shown.{filtered_child_on}
 use Rattle.node_answers.proofs.Answers.{node_refused}

@@ -1,6 +1,5 @@
 -- `iterators::filtered_children` meets its contract: 1 and 22, or the list from where it starts. Assumes nothing.
 use native.Mathlib.Omega.{arith}
-use borrow.Author.Rules.{rules}
 use Rattle.questions.specs.Filters.{filter_of}
 use Rattle.questions.specs.Walks.{filtered_children}
 use Rattle.node_answers.proofs.Answers.{list_refused}

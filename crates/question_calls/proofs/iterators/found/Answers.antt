@@ -1,6 +1,5 @@
 -- `iterators::found` meets its contract. Assumes nothing.
 use mathlib.Core.Path.{◌∙◌}
-use borrow.Author.Rules.{rules}
 use Rattle.question_calls.proofs.iterators.Lists.{found_none, found_some}
 use Rattle.question_calls.proofs.iterators.found.Goals as goal
 

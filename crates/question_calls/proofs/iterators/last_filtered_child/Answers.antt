@@ -1,5 +1,4 @@
 -- `iterators::last_filtered_child` meets its contract: the child on its side. Assumes nothing.
-use borrow.Author.Rules.{rules}
 use Rattle.question_calls.specs.Shown.{filtered_child_on}
 use Rattle.question_calls.proofs.iterators.last_filtered_child.Goals as goal
 

@@ -1,6 +1,5 @@
 -- `iterators::list_from` meets its contract: nothing is listed, or the buffer holds the list. Assumes nothing.
 use native.Mathlib.Omega.{arith}
-use borrow.Author.Rules.{rules}
 use Rattle.questions.specs.Filters.{filter_of}
 use Rattle.question_calls.proofs.shown.Shown.{listed_nil}
 use Rattle.question_calls.proofs.iterators.Lists.{puts_nothing, puts_collected}

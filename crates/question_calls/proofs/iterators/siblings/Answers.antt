@@ -2,7 +2,6 @@
 use mathlib.Core.Path.{sym, ap, ◌∙◌}
 use native.Mathlib.Omega.{arith}
 use lib.ListN.{length}
-use borrow.Author.Rules.{rules}
 use Rattle.ids.specs.Ids.{id_words}
 use Rattle.ids.specs.declared.FullNodeId.{FullNodeId}
 use Rattle.ids.proofs.Ids.{id_words_length}

@@ -1,6 +1,5 @@
 -- `links::hidden_up` meets its contract: one climb. Assumes nothing.
 use mathlib.Core.Path.{sym, ◌∙◌}
-use native.Mathlib.Omega.{arith}
 use Rattle.question_calls.proofs.links.Up.{hidden_own, fewer, hidden_top, hidden_more}
 use Rattle.question_calls.proofs.links.+hidden_up.Goals as goal
 

@@ -1,6 +1,5 @@
 -- `links::bounding_box` meets its contract: a node without bounds, and one with bounds. Assumes nothing.
 use mathlib.Core.Path.{sym, ◌∙◌}
-use borrow.Author.Rules.{rules}
 use Rattle.question_calls.proofs.links.Up.{box_own, box_none}
 use Rattle.question_calls.proofs.links.bounding_box.Goals as goal
 

@@ -1,5 +1,4 @@
 -- `links::child_count` meets its contract: the row's count, and a graft's one child or none. Assumes nothing.
-use borrow.Author.Rules.{rules}
 use Rattle.base.proofs.Tests.{call_true, call_false}
 use Rattle.question_calls.proofs.links.Links.{count_plain, count_root, count_lost}
 use Rattle.question_calls.proofs.links.child_count.Goals as goal

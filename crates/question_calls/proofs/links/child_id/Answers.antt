@@ -1,6 +1,5 @@
 -- `links::child_id` meets its contract: a child entry, the root of a grafted tree, and a graft without one. Assumes nothing.
 use native.Mathlib.Omega.{arith}
-use borrow.Author.Rules.{rules}
 use Rattle.base.proofs.Tests.{call_true, call_false}
 use Rattle.question_calls.proofs.links.Links.{kid_plain, kid_root, count_lost}
 use Rattle.question_calls.proofs.links.child_id.Goals as goal

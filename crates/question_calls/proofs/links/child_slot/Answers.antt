@@ -1,5 +1,4 @@
 -- `links::child_slot` meets its contract: past the last child, and a child. Assumes nothing.
-use borrow.Author.Rules.{rules}
 use Rattle.question_calls.proofs.links.Siblings.{kid_past, kid_at}
 use Rattle.question_calls.proofs.links.child_slot.Goals as goal
 

@@ -1,6 +1,5 @@
 -- `links::direct_transform` meets its contract: by the flags. Assumes nothing.
 use mathlib.Core.Path.{sym, ◌∙◌}
-use borrow.Author.Rules.{rules}
 use Rattle.question_calls.proofs.links.Up.{direct_own, direct_none}
 use Rattle.question_calls.proofs.links.direct_transform.Goals as goal
 

@@ -1,6 +1,5 @@
 -- `links::following_slot` meets its contract: a node without a parent, the last child, and another. Assumes nothing.
 use native.Mathlib.Omega.{arith}
-use borrow.Author.Rules.{rules}
 use Rattle.question_calls.proofs.links.Siblings.{sibling_none, following_none, following_at}
 use Rattle.questions.specs.declared.Side.TheVariants.{Following}
 use Rattle.question_calls.proofs.links.following_slot.Goals as goal

@@ -1,5 +1,4 @@
 -- `links::is_hidden` meets its contract: there are fewer ancestors than slots. Assumes nothing.
-use borrow.Author.Rules.{rules}
 use Rattle.question_calls.proofs.links.Up.{few_ancestors}
 use Rattle.question_calls.proofs.links.is_hidden.Goals as goal
 

@@ -2,7 +2,6 @@
 use Prim.Native.Nat.{◌+◌, ◌-◌}
 use mathlib.Core.Path.{◌≡◌}
 use native.Mathlib.Omega.{arith}
-use borrow.Author.Rules.{rules}
 use Rattle.question_calls.proofs.links.Siblings.{last_past, last_kid}
 use Rattle.question_calls.proofs.links.last_child_slot.Goals as goal
 

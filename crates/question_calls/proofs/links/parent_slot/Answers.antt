@@ -1,5 +1,4 @@
 -- `links::parent_slot` meets its contract: a node without a link, and one whose parent is found. Assumes nothing.
-use borrow.Author.Rules.{rules}
 use Rattle.question_calls.proofs.links.Links.{parent_none, parent_some}
 use Rattle.question_calls.proofs.links.parent_slot.Goals as goal
 

@@ -2,7 +2,6 @@
 use mathlib.Core.Path.{◌≡◌}
 use Prim.Native.Nat.{◌+◌, ◌-◌}
 use native.Mathlib.Omega.{arith}
-use borrow.Author.Rules.{rules}
 use Rattle.question_calls.proofs.links.Siblings.{sibling_none, preceding_none, preceding_at}
 use Rattle.questions.specs.declared.Side.TheVariants.{Preceding}
 use Rattle.question_calls.proofs.links.preceding_slot.Goals as goal

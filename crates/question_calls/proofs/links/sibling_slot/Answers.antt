@@ -1,5 +1,4 @@
 -- `links::sibling_slot` meets its contract, side by side. Assumes nothing.
-use borrow.Author.Rules.{rules}
 use Rattle.question_calls.proofs.links.sibling_slot.Goals as goal
 
 pub returns-in-Following : goal.returns-in-Following

@@ -1,14 +1,12 @@
 -- `links::transform_of` meets its contract: what is left to climb from here makes the whole. The measure is the room. Assumes nothing.
-use mathlib.Core.Path.{◌≡◌, refl, sym, ◌∙◌}
+use mathlib.Core.Path.{◌≡◌}
 use Prim.Native.Nat.{◌<◌}
-use native.Mathlib.Omega.{arith}
 use lib.ListN.{length}
-use borrow.Author.Rules.{rules}
 use Rattle.state_array.specs.View.{id_in, slots_of, view}
 use Rattle.questions.specs.Links.{ancestors}
 use Rattle.questions.specs.Boxes.{transform}
 use Rattle.question_calls.specs.Slots.{Sound}
-use Rattle.question_calls.proofs.links.Up.{few_ancestors, fewer, chain_from, chain_past, chain_above, chain_on}
+use Rattle.question_calls.proofs.links.Up.{chain_from}
 use Rattle.question_calls.proofs.links.transform_of.Given as goal
 
 abbrev pub invariant-loop-p : goal.invariant-loop-p

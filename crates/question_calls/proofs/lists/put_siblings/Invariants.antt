@@ -1,15 +1,13 @@
 -- `lists::put_siblings` meets its contract: the siblings passed are written. Assumes nothing.
 use mathlib.Core.List.{List}
-use mathlib.Core.Path.{◌≡◌, refl}
+use mathlib.Core.Path.{◌≡◌}
 use Prim.Native.Nat.{ℕ, ◌-◌, ◌≤◌}
-use native.Mathlib.Omega.{arith}
-use borrow.Author.Rules.{rules}
 use Rattle.state_array.specs.View.{id_in, view}
 use Rattle.questions.specs.Links.{siblings}
 use Rattle.ids.specs.declared.FullNodeId.{FullNodeId}
 use Rattle.questions.specs.declared.Side.{Side}
 use Rattle.question_calls.specs.Lists.{RunOf}
-use Rattle.question_calls.proofs.lists.Lists.{CollectedTo, collected_none, collected_length, collected_room, collected_more, collected_all}
+use Rattle.question_calls.proofs.lists.Lists.{CollectedTo}
 use Rattle.question_calls.proofs.lists.put_siblings.Given as goal
 
 -- the list

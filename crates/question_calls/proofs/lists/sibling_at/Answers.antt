@@ -1,7 +1,6 @@
 -- `lists::sibling_at` meets its contract: the child at the sibling's place. Assumes nothing.
 use mathlib.Core.Path.{refl}
 use native.Mathlib.Omega.{arith}
-use borrow.Author.Rules.{rules}
 use Rattle.question_calls.proofs.lists.Lists.{run_room, run_at}
 use Rattle.question_calls.proofs.lists.sibling_at.Goals as goal
 

@@ -1,14 +1,8 @@
 -- `lists::siblings_run` meets its contract: without a link there is no sibling; else they stand beside the node's place. Assumes nothing.
-use mathlib.Core.Path.{◌≡◌, refl, sym, ap, ◌∙◌}
-use Prim.Native.Nat.{ℕ, ◌<◌}
+use mathlib.Core.Path.{refl, sym, ap, ◌∙◌}
 use native.Mathlib.Omega.{arith}
-use borrow.Author.Rules.{rules}
-use Rattle.state_array.specs.declared.LinkRow.{LinkRow}
-use Rattle.state_array.specs.View.{id_in, view}
 use Rattle.questions.specs.declared.Side.{Side}
 use Rattle.questions.specs.Ahead.{count_beside}
-use Rattle.questions.specs.Links.{siblings}
-use Rattle.question_calls.specs.Lists.{RunOf}
 use Rattle.question_calls.proofs.lists.Lists.{run_none, run_parent, run_index, run_linked}
 use Rattle.question_calls.proofs.lists.siblings_run.Goals as goal
 

@@ -1,6 +1,5 @@
 -- `lists::store` meets its contract: two stores. Assumes nothing.
 use native.Mathlib.Omega.{arith}
-use borrow.Author.Rules.{rules}
 use lib.ListN.{length-set}
 use Rattle.question_calls.proofs.lists.store.Goals as goal
 

@@ -4,7 +4,6 @@ use Rattle.state_array.specs.View.{view}
 use Rattle.questions.specs.Boxes.{bounding_box}
 use Rattle.question_calls.proofs.node_asked.Asks.{of_asked}
 use Rattle.node_answers.proofs.Links.{box_refused, box_given}
-use borrow.Author.Rules.{rules}
 use Rattle.question_calls.proofs.node.bounding_box.Goals as goal
 
 pub returns-then-node-ne0 : goal.returns-then-node-ne0

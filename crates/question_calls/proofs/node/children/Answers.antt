@@ -10,7 +10,6 @@ use Rattle.questions.specs.Answers.{written}
 use Rattle.questions.specs.Links.{child_ids}
 use Rattle.question_calls.proofs.node_asked.Asks.{asked_here, of_asked}
 use Rattle.node_answers.proofs.Answers.{list_refused, list_short, list_written}
-use borrow.Author.Rules.{rules}
 use Rattle.question_calls.proofs.node.children.Goals as goal
 
 pub returns-then-node-ne0 : goal.returns-then-node-ne0

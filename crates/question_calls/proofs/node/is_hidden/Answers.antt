@@ -4,7 +4,6 @@ use Rattle.state_array.specs.View.{view}
 use Rattle.questions.specs.Links.{is_hidden}
 use Rattle.question_calls.proofs.node_asked.Asks.{of_asked}
 use Rattle.node_answers.proofs.Links.{hidden_refused, hidden_given}
-use borrow.Author.Rules.{rules}
 use Rattle.question_calls.proofs.node.is_hidden.Goals as goal
 
 pub returns-then-node-ne0 : goal.returns-then-node-ne0

@@ -7,7 +7,6 @@ use Rattle.state_array.specs.View.{view}
 use Rattle.questions.specs.Answers.{written}
 use Rattle.node_answers.proofs.Answers.{list_refused, list_short, list_written}
 use Rattle.question_calls.proofs.own.Fields.{label_long, label_is}
-use borrow.Author.Rules.{rules}
 use Rattle.question_calls.proofs.node.label.Goals as goal
 
 pub returns-then-node-ne0 : goal.returns-then-node-ne0

@@ -6,7 +6,6 @@ use Rattle.question_calls.specs.Slots.{slot_id}
 use Rattle.node_answers.specs.Links.{parent_answer}
 use Rattle.question_calls.proofs.node_asked.Asks.{of_asked}
 use Rattle.node_answers.proofs.Answers.{node_refused, node_given}
-use borrow.Author.Rules.{rules}
 use Rattle.question_calls.proofs.node.parent.Goals as goal
 
 pub returns-then-node-ne0 : goal.returns-then-node-ne0

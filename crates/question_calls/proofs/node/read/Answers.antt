@@ -2,7 +2,6 @@
 use mathlib.Core.Path.{sym, ◌∙◌}
 use Rattle.question_calls.proofs.node_asked.Asks.{asked_here}
 use Rattle.question_calls.proofs.own.Fields.{reading_refused, reading_given}
-use borrow.Author.Rules.{rules}
 use Rattle.question_calls.proofs.node.read.Goals as goal
 
 pub returns-then-node-ne0 : goal.returns-then-node-ne0

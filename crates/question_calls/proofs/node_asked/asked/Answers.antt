@@ -1,7 +1,6 @@
 -- `node_asked::asked` meets its contract: a law for each way out. Assumes nothing.
 use mathlib.Core.Path.{refl}
 use native.Mathlib.Omega.{arith}
-use borrow.Author.Rules.{rules}
 use Rattle.base.proofs.Tests.{call_false, call_true}
 use Rattle.question_calls.proofs.node_asked.Asks.{asks_unsound, asks_absent, asks_there}
 use Rattle.question_calls.proofs.node_asked.asked.Goals as goal

@@ -1,7 +1,6 @@
 -- `own::active_descendant` meets its contract: a law for each way out. Assumes nothing.
 use Rattle.base.proofs.Tests.{call_false, call_true}
 use Rattle.question_calls.proofs.own.Fields.{no_descendant, own_descendant}
-use borrow.Author.Rules.{rules}
 use Rattle.question_calls.proofs.own.active_descendant.Goals as goal
 
 pub returns-then-not-flag : goal.returns-then-not-flag

@@ -1,7 +1,6 @@
 -- `own::graft` meets its contract: a law for each way out. Assumes nothing.
 use Rattle.base.proofs.Tests.{call_false, call_true}
 use Rattle.question_calls.proofs.own.Fields.{no_graft, own_graft}
-use borrow.Author.Rules.{rules}
 use Rattle.question_calls.proofs.own.graft.Goals as goal
 
 pub returns-then-not-is_graft : goal.returns-then-not-is_graft

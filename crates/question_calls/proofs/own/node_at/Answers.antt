@@ -4,7 +4,6 @@ use mathlib.Core.Path.{sym, ap, ◌∙◌}
 use native.Mathlib.Omega.{arith}
 use Rattle.state_focus.specs.Focus.{found_of}
 use Rattle.question_calls.proofs.links.Slots.{slot_id_none, slot_id_some}
-use borrow.Author.Rules.{rules}
 use Rattle.question_calls.proofs.own.node_at.Goals as goal
 
 pub returns-then-slots-i : goal.returns-then-slots-i

@@ -1,13 +1,10 @@
 -- `own::put_children` meets its contract: the ids passed are written. Assumes nothing.
-use mathlib.Core.List.{List}
-use mathlib.Core.Path.{◌≡◌, refl, sym, ap, ◌∙◌}
-use Prim.Native.Nat.{ℕ, ◌+◌, ◌*◌, ◌≤◌, ◌<◌, ◌-◌}
-use native.Mathlib.Omega.{arith}
-use lib.ListN.{length, set, length-set}
+use mathlib.Core.Path.{◌≡◌}
+use Prim.Native.Nat.{◌*◌, ◌≤◌, ◌-◌}
+use lib.ListN.{length}
 use Rattle.state_array.specs.View.{id_in, view}
 use Rattle.questions.specs.Links.{child_ids}
-use Rattle.questions.proofs.Answers.{written_ids, ids_none, ids_more, ids_all}
-use borrow.Author.Rules.{rules}
+use Rattle.questions.proofs.Answers.{written_ids}
 use Rattle.question_calls.proofs.own.put_children.Given as goal
 
 abbrev pub invariant-loop-k : goal.invariant-loop-k

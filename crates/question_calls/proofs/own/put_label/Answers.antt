@@ -1,6 +1,6 @@
 -- `own::put_label` meets its contract: the bytes passed are written. Assumes nothing.
 use mathlib.Core.Path.{◌≡◌, sym, ap, ◌∙◌}
-use Prim.Native.Nat.{ℕ, ◌≤◌, ◌-◌}
+use Prim.Native.Nat.{ℕ}
 use native.Mathlib.Omega.{arith}
 use lib.ListN.{length}
 use Rattle.base.specs.Bytes.{list_of}
@@ -9,7 +9,6 @@ use Rattle.state_array.specs.View.{label_byte, label_in}
 use Rattle.questions.specs.Answers.{written}
 use Rattle.questions.proofs.Answers.{written_none, written_more, written_length}
 use Rattle.question_calls.proofs.own.Fields.{label_long}
-use borrow.Author.Rules.{rules}
 use Rattle.question_calls.proofs.own.put_label.Goals as goal
 
 pub loop-j-init : goal.loop-j-init

@@ -1,15 +1,10 @@
 -- `own::put_label` meets its contract: the bytes passed are written. Assumes nothing.
-use mathlib.Core.Path.{◌≡◌, sym, ap, ◌∙◌}
-use Prim.Native.Nat.{ℕ, ◌≤◌, ◌-◌}
-use native.Mathlib.Omega.{arith}
+use mathlib.Core.Path.{◌≡◌}
+use Prim.Native.Nat.{◌≤◌, ◌-◌}
 use lib.ListN.{length}
 use Rattle.base.specs.Bytes.{list_of}
-use Rattle.state_array.specs.Layout.{word, LABEL_LENGTH}
 use Rattle.state_array.specs.View.{label_byte, label_in}
 use Rattle.questions.specs.Answers.{written}
-use Rattle.questions.proofs.Answers.{written_none, written_more, written_length}
-use Rattle.question_calls.proofs.own.Fields.{label_long}
-use borrow.Author.Rules.{rules}
 use Rattle.question_calls.proofs.own.put_label.Given as goal
 
 abbrev pub invariant-loop-j : goal.invariant-loop-j

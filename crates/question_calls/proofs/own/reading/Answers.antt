@@ -2,7 +2,6 @@
 use native.Mathlib.Omega.{arith}
 use Rattle.state_array.specs.View.{id_in}
 use Rattle.question_calls.proofs.own.Fields.{role_small, read_is}
-use borrow.Author.Rules.{rules}
 use Rattle.question_calls.proofs.own.reading.Goals as goal
 
 pub overflow_cast-result : goal.overflow_cast-result

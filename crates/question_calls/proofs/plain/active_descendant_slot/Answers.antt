@@ -1,5 +1,4 @@
 -- `plain::active_descendant_slot` meets its contract: a node that names none, and one that names another. Assumes nothing.
-use borrow.Author.Rules.{rules}
 use Rattle.question_calls.proofs.plain.Focus.{active_none, active_found}
 use Rattle.question_calls.proofs.plain.active_descendant_slot.Goals as goal
 

@@ -1,6 +1,5 @@
 -- `plain::common_filter_without_parent_checks` meets its contract: the inherited flag is asked. Assumes nothing.
 use mathlib.Core.Path.{sym, ◌∙◌}
-use borrow.Author.Rules.{rules}
 use Rattle.question_calls.proofs.plain.Own.{checks_by_flag}
 use Rattle.question_calls.proofs.plain.Rows.{by_focused, by_hidden, by_transparent, by_plain}
 use Rattle.question_calls.proofs.plain.common_filter_without_parent_checks.Goals as goal

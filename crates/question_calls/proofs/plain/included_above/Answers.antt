@@ -1,15 +1,9 @@
 -- `plain::included_above` meets its contract: what is found of the ancestors that are left is what is found of all. The measure is how
 -- many are left. Assumes nothing.
-use mathlib.Core.Bool.{false}
-use mathlib.Core.Path.{◌≡◌, sym, ap, ◌∙◌}
-use Prim.Native.Nat.{◌+◌, ◌≤◌, ◌<◌}
+use mathlib.Core.Path.{sym, ap, ◌∙◌}
 use native.Mathlib.Omega.{arith}
 use lib.ListN.{length}
-use borrow.Author.Rules.{rules}
-use Rattle.state_array.specs.View.{id_in, slots_of, view}
-use Rattle.questions.specs.Links.{is_hidden}
-use Rattle.question_calls.proofs.plain.Above.{up_next, up_few, Climbed, climbed_start, climbed_end, climbed_found, climbed_on}
-use Rattle.question_calls.specs.Plain.{up_from}
+use Rattle.question_calls.proofs.plain.Above.{up_next, up_few, climbed_start, climbed_end, climbed_found, climbed_on}
 use Rattle.question_calls.proofs.plain.included_above.Goals as goal
 
 pub loop-p-init : goal.loop-p-init

@@ -1,6 +1,5 @@
 -- `plain::is_include` meets its contract, case by case. Assumes nothing.
 use mathlib.Core.Path.{refl}
-use borrow.Author.Rules.{rules}
 use Rattle.question_calls.specs.Plain.{is_include}
 use Rattle.question_calls.proofs.plain.is_include.Goals as goal
 

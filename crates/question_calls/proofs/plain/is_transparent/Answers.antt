@@ -1,5 +1,4 @@
 -- `plain::is_transparent` meets its contract: a bit of the flags, or one of two roles. Assumes nothing.
-use borrow.Author.Rules.{rules}
 use Rattle.question_calls.proofs.plain.Rows.{transparent_at}
 use Rattle.question_calls.proofs.plain.is_transparent.Goals as goal
 

@@ -1,5 +1,4 @@
 -- `plain::neighbour` meets its contract: the first node of what is listed. Assumes nothing.
-use borrow.Author.Rules.{rules}
 use Rattle.question_calls.specs.Plain.{own_filter, shown_ahead}
 use Rattle.question_calls.proofs.plain.Listed.{listed_head}
 use Rattle.question_calls.proofs.plain.neighbour.Goals as goal

@@ -1,6 +1,5 @@
 -- `plain::own_filter_at` meets its contract: the node's own flag is asked. Assumes nothing.
 use mathlib.Core.Path.{sym, ◌∙◌}
-use borrow.Author.Rules.{rules}
 use Rattle.question_calls.proofs.plain.Own.{own_by_flag}
 use Rattle.question_calls.proofs.plain.Rows.{by_focused, by_hidden, by_transparent, by_plain}
 use Rattle.question_calls.proofs.plain.own_filter_at.Goals as goal

@@ -1,13 +1,7 @@
 -- `plain::shown_from` meets its contract: what is listed from here is what is listed from where it began. The measure is how many nodes
 -- can still be met. Assumes nothing.
-use mathlib.Core.List.{flat_map}
-use mathlib.Core.Path.{◌≡◌, refl, sym, ◌∙◌}
-use borrow.Author.Rules.{rules}
-use Rattle.state_array.specs.View.{slots_of, view}
-use Rattle.questions.specs.Walks.{shown}
-use Rattle.questions.proofs.Shown.{mass}
-use Rattle.question_calls.specs.Places.{met_from}
-use Rattle.question_calls.specs.Plain.{seen_at, own_filter}
+use mathlib.Core.Path.{refl, sym, ◌∙◌}
+use Rattle.question_calls.specs.Plain.{own_filter}
 use Rattle.question_calls.proofs.plain.Listed.{listed_end, listed_here, listed_on, listed_less}
 use Rattle.question_calls.proofs.plain.shown_from.Goals as goal
 

@@ -1,5 +1,4 @@
 -- `plain::unlisted` meets its contract, case by case. Assumes nothing.
-use borrow.Author.Rules.{rules}
 use Rattle.question_calls.specs.Plain.{unlisted}
 use Rattle.question_calls.proofs.plain.unlisted.Goals as goal
 

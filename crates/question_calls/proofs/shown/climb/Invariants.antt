@@ -1,17 +1,13 @@
 -- `shown::climb` meets its contract: the ancestors that are left are those after the ones passed. The measure is how many are left.
 -- Assumes nothing.
-use mathlib.Core.Path.{◌≡◌, refl, ap}
+use mathlib.Core.Path.{◌≡◌}
 use Prim.Native.Nat.{◌+◌, ◌≤◌, ◌<◌}
-use native.Mathlib.Omega.{arith}
 use lib.ListN.{length}
-use borrow.Author.Rules.{rules}
-use Rattle.base.proofs.Tests.{call_false, call_true}
 use Rattle.state_array.specs.View.{id_in, slots_of}
 use Rattle.questions.specs.Filters.{filter_of}
 use Rattle.question_calls.specs.Slots.{Sound}
-use Rattle.question_calls.proofs.plain.Above.{up_next, up_few}
 use Rattle.question_calls.specs.Plain.{seen_at, up_from}
-use Rattle.question_calls.proofs.shown.Above.{Climbing, climbing_start, climbing_stops, climbing_on, climbing_end}
+use Rattle.question_calls.proofs.shown.Above.{Climbing}
 use Rattle.question_calls.proofs.shown.climb.Given as goal
 
 abbrev pub invariant-loop-p : goal.invariant-loop-p

@@ -1,21 +1,13 @@
 -- `shown::collect` meets its contract: what is listed from here on is what is left of the list. The measure is how long it is. Assumes
 -- nothing.
-use mathlib.Core.List.{List}
-use mathlib.Core.Path.{◌≡◌, refl, ap, ◌∙◌}
+use mathlib.Core.Path.{refl, ap, ◌∙◌}
 use Prim.Native.Nat.{ℕ}
 use native.Mathlib.Numerals.{add-one}
 use native.Mathlib.Omega.{arith}
 use lib.ListN.{length, drop, length-drop}
-use borrow.Author.Rules.{rules}
-use Rattle.state_array.specs.View.{slots_of}
 use Rattle.questions.specs.Filters.{filter_of}
 use Rattle.questions.proofs.Places.{at_some}
-use Rattle.ids.specs.declared.FullNodeId.{FullNodeId}
-use Rattle.questions.specs.declared.Filter.{Filter}
-use Rattle.questions.specs.declared.Side.{Side}
-use Rattle.question_calls.specs.declared.steps.Place.{Place}
-use Rattle.question_calls.specs.Plain.{seen_at, listed_from}
-use Rattle.question_calls.proofs.lists.Lists.{CollectedTo, collected_none, collected_length, collected_room, collected_more, collected_all}
+use Rattle.question_calls.proofs.lists.Lists.{collected_none, collected_length, collected_room, collected_more, collected_all}
 use Rattle.question_calls.proofs.shown.Shown.{listed_nil, listed_open, listed_cons, list_few}
 use Rattle.question_calls.proofs.shown.collect.Invariants.{list}
 use Rattle.question_calls.proofs.shown.collect.Goals as goal

@@ -1,16 +1,7 @@
 -- `shown::deepest_child` meets its contract: the deepest from the node is the deepest from here, or the node here. The measure is how
 -- many levels are left. Assumes nothing.
-use mathlib.Core.Path.{◌≡◌}
-use Prim.Native.Nat.{◌-◌, ◌<◌}
-use lib.ListN.{length}
-use borrow.Author.Rules.{rules}
-use Rattle.state_array.specs.View.{id_in, slots_of, view}
 use Rattle.questions.specs.Filters.{filter_of}
-use Rattle.questions.specs.Links.{ancestors}
-use Rattle.question_calls.specs.Slots.{Sound}
-use Rattle.question_calls.specs.Filters.{Included}
-use Rattle.question_calls.specs.Plain.{seen_at}
-use Rattle.question_calls.proofs.shown.Shown.{DeepestFrom, deepest_nothing, deepest_start, deepest_end, deepest_on_lem, deepest_less}
+use Rattle.question_calls.proofs.shown.Shown.{deepest_nothing, deepest_start, deepest_end, deepest_on_lem, deepest_less}
 use Rattle.question_calls.proofs.shown.deepest_child.Goals as goal
 
 pub returns-then-n-deepest : goal.returns-then-n-deepest

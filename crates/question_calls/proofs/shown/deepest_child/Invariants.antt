@@ -3,14 +3,13 @@
 use mathlib.Core.Path.{◌≡◌}
 use Prim.Native.Nat.{◌-◌, ◌<◌}
 use lib.ListN.{length}
-use borrow.Author.Rules.{rules}
 use Rattle.state_array.specs.View.{id_in, slots_of, view}
 use Rattle.questions.specs.Filters.{filter_of}
 use Rattle.questions.specs.Links.{ancestors}
 use Rattle.question_calls.specs.Slots.{Sound}
 use Rattle.question_calls.specs.Filters.{Included}
 use Rattle.question_calls.specs.Plain.{seen_at}
-use Rattle.question_calls.proofs.shown.Shown.{DeepestFrom, deepest_nothing, deepest_start, deepest_end, deepest_on_lem, deepest_less}
+use Rattle.question_calls.proofs.shown.Shown.{DeepestFrom}
 use Rattle.question_calls.proofs.shown.deepest_child.Given as goal
 
 abbrev pub invariant-loop-filter : goal.invariant-loop-filter

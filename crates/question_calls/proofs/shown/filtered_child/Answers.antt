@@ -1,7 +1,6 @@
 -- `shown::filtered_child` meets its contract: the first node of the list. Assumes nothing.
 use Rattle.questions.specs.Filters.{filter_of}
 use Rattle.question_calls.proofs.shown.Shown.{child_found}
-use borrow.Author.Rules.{rules}
 use Rattle.question_calls.proofs.shown.filtered_child.Goals as goal
 
 pub returns : goal.returns

@@ -2,7 +2,6 @@
 use mathlib.Core.Path.{sym, ◌∙◌}
 use Rattle.questions.specs.Filters.{filter_of}
 use Rattle.question_calls.proofs.shown.Above.{parent_from}
-use borrow.Author.Rules.{rules}
 use Rattle.question_calls.proofs.shown.filtered_parent.Goals as goal
 
 pub returns : goal.returns

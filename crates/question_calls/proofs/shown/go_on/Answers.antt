@@ -1,5 +1,4 @@
 -- `shown::go_on` meets its contract: into the node, or past it. Assumes nothing.
-use borrow.Author.Rules.{rules}
 use Rattle.question_calls.specs.Shown.{met_after}
 use Rattle.question_calls.proofs.shown.go_on.Goals as goal
 

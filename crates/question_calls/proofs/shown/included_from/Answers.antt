@@ -1,13 +1,10 @@
 -- `shown::included_from` meets its contract: what is found of the ancestors that are left is what is found of all. The measure is
 -- how many are left. Assumes nothing.
-use mathlib.Core.Path.{◌≡◌, refl, sym, ap, ◌∙◌}
+use mathlib.Core.Path.{refl, sym, ap, ◌∙◌}
 use native.Mathlib.Omega.{arith}
 use lib.ListN.{length}
-use borrow.Author.Rules.{rules}
-use Rattle.state_array.specs.View.{slots_of}
 use Rattle.questions.specs.Filters.{without_parent_checks}
 use Rattle.question_calls.proofs.plain.Above.{up_next}
-use Rattle.question_calls.specs.Plain.{seen_at, first_included, up_from}
 use Rattle.question_calls.proofs.filters.Near.{included_here, included_on, included_end}
 use Rattle.question_calls.proofs.shown.included_from.Goals as goal
 

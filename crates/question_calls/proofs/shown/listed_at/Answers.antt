@@ -2,10 +2,8 @@
 use mathlib.Core.Path.{◌≡◌, refl, sym, ap, ◌∙◌}
 use native.Mathlib.Omega.{arith}
 use lib.ListN.{get_elem?}
-use borrow.Author.Rules.{rules}
-use Rattle.state_array.specs.View.{slots_of}
 use Rattle.questions.specs.Filters.{filter_of}
-use Rattle.question_calls.specs.Plain.{seen_at, listed_from}
+use Rattle.question_calls.specs.Plain.{listed_from}
 use Rattle.question_calls.proofs.shown.Shown.{at_first, at_end, at_next}
 use Rattle.question_calls.proofs.shown.listed_at.Goals as goal
 

@@ -1,12 +1,9 @@
 -- `shown::listed_at` meets its contract: the node at a place of the list is the one so much further from here. Assumes nothing.
-use mathlib.Core.Path.{◌≡◌, refl, sym, ap, ◌∙◌}
-use native.Mathlib.Omega.{arith}
+use mathlib.Core.Path.{◌≡◌}
 use lib.ListN.{get_elem?}
-use borrow.Author.Rules.{rules}
 use Rattle.state_array.specs.View.{slots_of}
 use Rattle.questions.specs.Filters.{filter_of}
 use Rattle.question_calls.specs.Plain.{seen_at, listed_from}
-use Rattle.question_calls.proofs.shown.Shown.{at_first, at_end, at_next}
 use Rattle.question_calls.proofs.shown.listed_at.Given as goal
 
 abbrev pub invariant-loop-left : goal.invariant-loop-left

@@ -2,7 +2,6 @@
 use mathlib.Core.Bool.{Bool}
 use mathlib.Core.Path.{sym, ap, ◌∙◌}
 use native.Mathlib.Omega.{arith}
-use borrow.Author.Rules.{rules}
 use Rattle.questions.specs.Filters.{filter_of}
 use Rattle.question_calls.specs.Plain.{seen_at, first_included, up_from}
 use Rattle.question_calls.specs.Filters.{excepted_filter}
@@ -11,8 +10,11 @@ use Rattle.question_calls.proofs.shown.nearest.Goals as goal
 
 pub returns-then-is_plain : goal.returns-then-is_plain
 returns-then-is_plain c =
-    let a = c.args in record { included_value = c.included_from.ensures
-          ∙ ap (λ f. first_included f (up_from a.state.now a.i)) (plain_filter _ _ (sym c.is_plain.ensures ∙ c.if-is_plain.true)); knows = λ l. absurd (omega (arith, c.slots.ensures)) }
+    let a = c.args in record {
+      included_value = c.included_from.ensures
+          ∙ ap (λ f. first_included f (up_from a.state.now a.i)) (plain_filter _ _ (sym c.is_plain.ensures ∙ c.if-is_plain.true));
+      knows = λ l. absurd (omega (arith, c.slots.ensures));
+    }
 
 pub returns : goal.returns
 returns c =

@@ -2,7 +2,6 @@
 use mathlib.Core.List.{flat_map}
 use mathlib.Core.Path.{sym, ap, ◌∙◌}
 use Rattle.question_calls.proofs.shown.Shown.{met_children}
-use borrow.Author.Rules.{rules}
 use Rattle.question_calls.proofs.shown.shown_child.Goals as goal
 
 pub returns : goal.returns

@@ -1,15 +1,8 @@
 -- `shown::shown_from` meets its contract: what is listed from here is what is listed from where it began. The measure is how many
 -- nodes can still be met. Assumes nothing.
-use mathlib.Core.List.{flat_map}
-use mathlib.Core.Path.{◌≡◌, refl, sym, ◌∙◌}
+use mathlib.Core.Path.{refl, sym, ◌∙◌}
 use native.Mathlib.Omega.{arith}
-use borrow.Author.Rules.{rules}
-use Rattle.state_array.specs.View.{id_in, slots_of, view}
 use Rattle.questions.specs.Filters.{filter_of}
-use Rattle.questions.specs.Walks.{shown}
-use Rattle.questions.proofs.Shown.{mass}
-use Rattle.question_calls.specs.Places.{met_from}
-use Rattle.question_calls.specs.Plain.{seen_at, unlisted}
 use Rattle.question_calls.proofs.plain.Above.{include_is}
 use Rattle.question_calls.proofs.plain.Listed.{listed_end, listed_here, listed_on, listed_less}
 use Rattle.question_calls.proofs.shown.Shown.{met_unlisted}

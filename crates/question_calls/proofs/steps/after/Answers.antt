@@ -1,9 +1,5 @@
 -- `steps::after` meets its contract: what is ahead from here is what is ahead of the node it began at. Assumes nothing.
 use mathlib.Core.Path.{◌≡◌, refl, ◌∙◌}
-use Prim.Native.Nat.{◌<◌}
-use Rattle.state_array.specs.View.{id_in, slots_of, view}
-use Rattle.questions.specs.Ahead.{ahead}
-use Rattle.question_calls.specs.Slots.{Sound}
 use Rattle.question_calls.proofs.steps.Steps.{met_end, step_aside, step_end, step_top, step_up}
 use borrow.Author.Rules.{rules}
 use native.Mathlib.Omega.{arith}

@@ -4,7 +4,6 @@ use Prim.Native.Nat.{ℕ}
 use native.Mathlib.Omega.{arith}
 use Rattle.question_calls.specs.Places.{met_from}
 use Rattle.question_calls.proofs.steps.Steps.{step_into, step_childless}
-use borrow.Author.Rules.{rules}
 use Rattle.question_calls.proofs.steps.into.Goals as goal
 
 pub returns-then-child-slots : goal.returns-then-child-slots

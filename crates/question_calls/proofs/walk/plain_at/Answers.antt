@@ -1,6 +1,5 @@
 -- `walk::plain_at` meets its contract: the sibling at its place. Assumes nothing.
 use native.Mathlib.Omega.{arith}
-use borrow.Author.Rules.{rules}
 use Rattle.state_array.specs.View.{id_in, view}
 use Rattle.questions.specs.Links.{siblings}
 use Rattle.question_calls.proofs.walk.Steps.{place_nothing, place_found}

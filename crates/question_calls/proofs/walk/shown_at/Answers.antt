@@ -1,5 +1,4 @@
 -- `walk::shown_at` meets its contract: the node at a place of the list. Assumes nothing.
-use borrow.Author.Rules.{rules}
 use Rattle.question_calls.proofs.walk.Steps.{slot_nothing, slot_found, listed_place}
 use Rattle.question_calls.proofs.walk.shown_at.Goals as goal
 

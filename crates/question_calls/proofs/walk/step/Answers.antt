@@ -2,7 +2,6 @@
 use mathlib.Core.Path.{◌≡◌, sym, ap, ◌∙◌}
 use Prim.Native.Nat.{ℕ}
 use native.Mathlib.Omega.{arith}
-use borrow.Author.Rules.{rules}
 use Rattle.state_array.specs.View.{view}
 use Rattle.state.specs.State.{Forest}
 use Rattle.questions.specs.Answers.{ask_number}

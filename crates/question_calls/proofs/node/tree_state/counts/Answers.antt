@@ -4,7 +4,6 @@ use Rattle.base.proofs.Tests.{call_false, call_true}
 use Rattle.base.proofs.Bytes.{length_list_of}
 use Rattle.state_array.specs.View.{node_in, entry_in, slots_of, trees_of, view}
 use Rattle.node_answers.proofs.TreeState.{counts_unsound, counts_sound}
-use borrow.Author.Rules.{rules}
 use Rattle.question_calls.proofs.node.tree_state.counts.Goals as goal
 
 pub returns-then-not-sound : goal.returns-then-not-sound

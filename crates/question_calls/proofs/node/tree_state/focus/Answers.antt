@@ -7,7 +7,6 @@ use Rattle.state_array.specs.View.{view}
 use Rattle.node_answers.specs.TreeState.{focus_answer}
 use Rattle.questions.proofs.Answers.{state_number_unsound, state_number_sound}
 use Rattle.node_answers.proofs.Answers.{node_refused, node_given}
-use borrow.Author.Rules.{rules}
 use Rattle.question_calls.proofs.node.tree_state.focus.Goals as goal
 
 pub returns-then-not-sound : goal.returns-then-not-sound

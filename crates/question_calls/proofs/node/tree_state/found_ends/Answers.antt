@@ -1,7 +1,6 @@
 -- `node::tree_state::found_ends` meets its contract: a law for each way out. Assumes nothing.
 use native.Mathlib.Omega.{arith}
 use Rattle.node_answers.proofs.TreeState.{no_ends, unborn_ends, ends_are}
-use borrow.Author.Rules.{rules}
 use Rattle.question_calls.proofs.node.tree_state.found_ends.Goals as goal
 
 pub returns-then-trees-k : goal.returns-then-trees-k

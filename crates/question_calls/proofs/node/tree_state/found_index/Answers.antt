@@ -1,7 +1,6 @@
 -- `node::tree_state::found_index` meets its contract: a law for each way out. Assumes nothing.
 use native.Mathlib.Omega.{arith}
 use Rattle.node_answers.proofs.TreeState.{no_index, index_is}
-use borrow.Author.Rules.{rules}
 use Rattle.question_calls.proofs.node.tree_state.found_index.Goals as goal
 
 pub returns-then-trees-k : goal.returns-then-trees-k

@@ -2,7 +2,6 @@
 use Rattle.base.proofs.Tests.{call_false, call_true}
 use Rattle.state_array.specs.View.{view}
 use Rattle.node_answers.proofs.TreeState.{tree_ends_unsound, tree_ends_sound}
-use borrow.Author.Rules.{rules}
 use Rattle.question_calls.proofs.node.tree_state.tree_ends.Goals as goal
 
 pub returns-then-not-sound : goal.returns-then-not-sound
