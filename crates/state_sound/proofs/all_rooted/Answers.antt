@@ -1,8 +1,6 @@
 -- `state_sound::all_rooted` meets its contract: each tree passed is rooted. Assumes nothing.
-use Prim.Native.Nat.{◌-◌}
-use Rattle.base.proofs.Scan.{Passed, scan}
-use Rattle.state_rules.specs.Parts.{rooted_in, all_rooted}
-use borrow.Author.Rules.{rules}
+use Rattle.base.proofs.Scan.{scan}
+use Rattle.state_rules.specs.Parts.{all_rooted}
 use Rattle.state_sound.proofs.all_rooted.Goals as goal
 
 pub loop-k-init : goal.loop-k-init

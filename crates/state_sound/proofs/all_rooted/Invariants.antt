@@ -1,8 +1,7 @@
 -- `state_sound::all_rooted` meets its contract: each tree passed is rooted. Assumes nothing.
 use Prim.Native.Nat.{◌-◌}
-use Rattle.base.proofs.Scan.{Passed, scan}
-use Rattle.state_rules.specs.Parts.{rooted_in, all_rooted}
-use borrow.Author.Rules.{rules}
+use Rattle.base.proofs.Scan.{Passed}
+use Rattle.state_rules.specs.Parts.{rooted_in}
 use Rattle.state_sound.proofs.all_rooted.Given as goal
 
 abbrev pub invariant-loop-k : goal.invariant-loop-k

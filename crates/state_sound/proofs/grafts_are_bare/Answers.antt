@@ -1,9 +1,6 @@
 -- `state_sound::grafts_are_bare` meets its contract: each node passed is bare. Assumes nothing.
-use Prim.Native.Nat.{◌-◌}
-use Rattle.base.proofs.Scan.{Passed, scan}
-use Rattle.state_rules.specs.Parts.{bare_in}
+use Rattle.base.proofs.Scan.{scan}
 use Rattle.state_rules.proofs.Grafts.{all_bare}
-use borrow.Author.Rules.{rules}
 use Rattle.state_sound.proofs.grafts_are_bare.Goals as goal
 
 pub loop-i-init : goal.loop-i-init

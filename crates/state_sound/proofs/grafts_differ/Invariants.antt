@@ -1,7 +1,6 @@
 -- `state_sound::grafts_differ` meets its contract: each graft passed is new, and has its mark. Assumes nothing.
 use Prim.Native.Nat.{◌-◌}
-use borrow.Author.Rules.{rules}
-use Rattle.state_rules.proofs.Grafts.{Marking, marking_start, marking_none, marking_more, marking_fails, marking_end}
+use Rattle.state_rules.proofs.Grafts.{Marking}
 use Rattle.state_sound.proofs.grafts_differ.Given as goal
 
 abbrev pub invariant-loop-i : goal.invariant-loop-i

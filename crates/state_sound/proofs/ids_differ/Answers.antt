@@ -1,9 +1,6 @@
 -- `state_sound::ids_differ` meets its contract: the id of each tree passed stands nowhere before it. Assumes nothing.
-use mathlib.Core.Bool.{not}
-use Prim.Native.Nat.{◌-◌}
-use borrow.Author.Rules.{rules}
-use Rattle.base.proofs.Scan.{Passed, scan}
-use Rattle.state_rules.proofs.Trees.{old_id, one_id_by, old_found, new_found}
+use Rattle.base.proofs.Scan.{scan}
+use Rattle.state_rules.proofs.Trees.{one_id_by, old_found, new_found}
 use Rattle.state_sound.proofs.ids_differ.Goals as goal
 
 pub loop-k-init : goal.loop-k-init

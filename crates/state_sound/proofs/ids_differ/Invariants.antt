@@ -1,9 +1,8 @@
 -- `state_sound::ids_differ` meets its contract: the id of each tree passed stands nowhere before it. Assumes nothing.
 use mathlib.Core.Bool.{not}
 use Prim.Native.Nat.{◌-◌}
-use borrow.Author.Rules.{rules}
-use Rattle.base.proofs.Scan.{Passed, scan}
-use Rattle.state_rules.proofs.Trees.{old_id, one_id_by, old_found, new_found}
+use Rattle.base.proofs.Scan.{Passed}
+use Rattle.state_rules.proofs.Trees.{old_id}
 use Rattle.state_sound.proofs.ids_differ.Given as goal
 
 abbrev pub invariant-loop-k : goal.invariant-loop-k

@@ -2,7 +2,6 @@
 use Rattle.base.specs.Tests.{◌&&◌}
 use Rattle.state_sound.specs.Parts.{sound_grafts}
 use Rattle.state_rules.proofs.Trees.{rooted_is}
-use borrow.Author.Rules.{rules}
 use Rattle.state_sound.proofs.trees_are_sound.Goals as goal
 
 pub returns : goal.returns

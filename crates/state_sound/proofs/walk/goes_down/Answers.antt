@@ -1,10 +1,8 @@
 -- `state_sound::walk::goes_down` meets its contract: the laws of `Going`, one for each way on and out. Assumes nothing.
-use mathlib.Core.Path.{◌≡◌, refl}
-use Prim.Native.Nat.{◌+◌, ◌*◌}
+use mathlib.Core.Path.{refl}
 use native.Mathlib.Omega.{arith}
-use lib.ListN.{length}
 use borrow.Author.Rules.{rules}
-use Rattle.state_sound.proofs.Walks.{Going, some_room, next_small, going_start, going_end, going_back, going_stopped, going_on}
+use Rattle.state_sound.proofs.Walks.{some_room, next_small, going_start, going_end, going_back, going_stopped, going_on}
 use Rattle.state_sound.proofs.walk.goes_down.Goals as goal
 
 pub loop-depth-init : goal.loop-depth-init
@@ -47,12 +45,11 @@ pub loop-depth-smaller : goal.loop-depth-smaller
 loop-depth-smaller c = omega (arith, some_room)
 
 pub loop-depth-preserved : goal.loop-depth-preserved
-loop-depth-preserved c =
-    (
-      search rules,
-      going_on c.loop-depth.invariant.1 c.loop-depth-test.true c.kid_at.ensures c.in-At.is c.met_at-near.ensures
-          c.if-n-near.false,
-    )
+loop-depth-preserved c = (
+  search rules,
+  going_on c.loop-depth.invariant.1 c.loop-depth-test.true c.kid_at.ensures c.in-At.is c.met_at-near.ensures
+      c.if-n-near.false,
+)
 
 pub returns : goal.returns
 returns c = search (rules, going_end)
