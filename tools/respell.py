@@ -1,12 +1,13 @@
 #!/usr/bin/env python3
 """Spells this repository's own definitions and lemmas in snake case, once, over what the kit's port.py left.
 
-usage: tools/respell.py [--check]     at the top of the repository
+usage: tools/respell.py [--check | --operators]     at the top of the repository
 
 The names are those that the .antt files below crates/ declare. A name in camel case or with a dash gets underscores. Where a definition and a lemma
 that one file cites would have one name then (`rootOf` and `root-of`), the lemma gets `_lem` after it. Rust names, words in strings, names that the kit makes (`loop-i-kept`)
 and quoted text stay. In comments a name with a dash turns inside backquotes alone, since it may be plain words.
 Files of crates/ turn: code, definitions, proofs, edits. The table goes to docs/PORT-NAMES.tsv; --check prints it and writes nothing.
+Then the conjunction `&&` of base/Tests becomes `and` and its `if` gives way to the library's, as a reader takes both for the library's; --operators does that alone.
 """
 
 import os
@@ -122,14 +123,12 @@ def turn_antt(text, turned):
 
 def turn_rust(text, turned):
     """Clauses and ghost items; strings stay. A dash stands between spaces in code, so a dashed name is none of Rust's."""
-    lines = []
-    for line in text.split("\n"):
-        m = re.search(r"(^|\s)//", line)
-        code, prose = (line[:m.start()], line[m.start():]) if m else (line, "")
-        parts = re.split(r'("(?:[^"\\]|\\.)*")', code)
-        parts[::2] = [turn_words(p, turned) for p in parts[::2]]
-        lines.append("".join(parts) + turn_prose(prose, turned))
-    return "\n".join(lines)
+    out, at = [], 0
+    for m in re.finditer(r'(?<![\w\'])b?"(?:[^"\\]|\\.)*"|//[^\n]*', text, re.S):
+        said = m.group(0)
+        out += [turn_words(text[at:m.start()], turned), turn_prose(said, turned) if said.startswith("//") else said]
+        at = m.end()
+    return "".join(out + [turn_words(text[at:], turned)])
 
 
 def turn_edit(text, turned):
@@ -149,7 +148,76 @@ def lent(text, turned):
     return {a: b for a, b in turned.items() if a not in theirs} if theirs else turned
 
 
+# ## Operators of the repository's own that are spelled as the library's
+
+TESTS = re.compile(r"((?:ghost )?use) Rattle\.base\.specs\.Tests\.\{([^}]*)\}(;?)\n")
+PRELUDE = re.compile(r"((?:ghost )?use Rattle\.std\.specs\.Prelude\.\{)([^}]*)\}")
+IF = "if◌then◌else◌"
+
+
+def with_own_and(text):
+    """The conjunction that does not unfold by itself is `and`: `&&` is the library's, which does."""
+    text = re.sub(r"(?<!\.)◌&&◌", "◌and◌", text)
+    return re.sub(r"(?<![^\s(])&&(?![^\s)])", "and", text)
+
+
+def with_std_if(text):
+    """`if` is the library's, which is the same choice by a test."""
+    m = TESTS.search(text)
+    names = [w.strip() for w in m.group(2).split(",") if w.strip()]
+    names.remove(IF)
+    kept = f"{m.group(1)} Rattle.base.specs.Tests.{{{', '.join(names)}}}{m.group(3)}\n" if names else ""
+    had = PRELUDE.search(text)
+    if had:
+        text = text[: m.start()] + kept + text[m.end() :]
+        had = PRELUDE.search(text)
+        return text[: had.start()] + f"{had.group(1)}{had.group(2)}, {IF}}}" + text[had.end() :]
+    return text[: m.start()] + f"{m.group(1)} Rattle.std.specs.Prelude.{{{IF}}}{m.group(3)}\n" + kept + text[m.end() :]
+
+
+# The worked cases' own sign, a fact and the others.
+PAIRED = ["update/proofs/Cases", "questions/proofs/Computed", "questions/proofs/FilterCases", "questions/proofs/WalkCases"]
+
+
+def turn_operators():
+    own = set()
+    for path in (f"crates/{name}.antt" for name in PAIRED):
+        old = read(path)
+        text = re.sub(r"(?m)^((?:(?! --).)*)", lambda m: re.sub(r"(?<![^\s◌])and(?![^\s◌])", "also", m.group(1)) if not m.group(1).startswith("--") else m.group(1), old)
+        if "◌also◌" not in old:
+            write(path, text)
+    for path in texts((".antt", ".rt")):
+        old = text = read(path)
+        named = [w.strip() for m in TESTS.finditer(text) for w in m.group(2).split(",")]
+        if path == "crates/base/specs/Tests.antt":
+            named = ["◌&&◌"]
+            text = re.sub(r"infix 5 if◌.*?= y\n\n", "", text, flags=re.S).replace("-- a choice by a test\n", "")
+            text = PRELUDE.sub(lambda m: f"{m.group(1)}{m.group(2)}, {IF}}}", text, count=1)
+        if IF in named:
+            text = with_std_if(text)
+        if "◌&&◌" in named:
+            text = with_own_and(text)
+            own.add(path)
+        if text != old:
+            write(path, text)
+    for path in texts((".edit",)):
+        old = text = read(path)
+        file = re.search(r"(?m)^file: (\S+)", text)
+        if file and os.path.normpath(os.path.join(os.path.dirname(path), "..", file.group(1))) in own:
+            text = with_own_and(text)
+        if text != old:
+            write(path, text)
+
+
+def write(path, text):
+    with open(path, "w", encoding="utf-8") as f:
+        f.write(text)
+
+
 def main():
+    if "--operators" in sys.argv:
+        turn_operators()
+        return
     check = "--check" in sys.argv
     turned = table(declared())
     if check:
@@ -166,8 +234,8 @@ def main():
             mine.update({name: name + "_lem" for name in LOCAL.get(path, [])})
             new = turn(old, mine)
             if new != old:
-                with open(path, "w", encoding="utf-8") as f:
-                    f.write(new)
+                write(path, new)
+    turn_operators()
 
 
 if __name__ == "__main__":

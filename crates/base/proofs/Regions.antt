@@ -11,7 +11,7 @@ use lib.ListN.{length, get_or, set, replicate, length-set, replicate-append-repl
 use lib.Seq.{get_or-set_same, get_or-set_other, set_comm, set-append_left, ext_get_or}
 use borrow.Author.Tests.{leb-true, lt-ltb, le-ltb}
 use Rattle.base.proofs.Cases.{by_order}
-use Rattle.base.specs.Tests.{if◌then◌else◌}
+use Rattle.std.specs.Prelude.{if◌then◌else◌}
 use Rattle.base.specs.Bytes.{list_of}
 use Rattle.base.proofs.Tests.{both}
 use Rattle.base.proofs.Bytes.{length_list_of, list_of_at}

@@ -1,7 +1,7 @@
 -- Regions of one array of words: what a loop leaves that fills them, and the image that parts laid one after another make.
 -- Assumes nothing.
-use Rattle.std.specs.Prelude.{Bool, true, List, [], ◌∷◌, ◌++◌, ℕ, zero, suc, ◌+◌, leb, ltb, set}
-use Rattle.base.specs.Tests.{◌&&◌, if◌then◌else◌}
+use Rattle.std.specs.Prelude.{Bool, true, List, [], ◌∷◌, ◌++◌, ℕ, zero, suc, ◌+◌, leb, ltb, set, if◌then◌else◌}
+use Rattle.base.specs.Tests.{◌and◌}
 use Rattle.base.specs.Bytes.{list_of}
 
 -- ## Filling
@@ -32,7 +32,7 @@ row (g ∷ gs) i s = row gs i (set s (g.start + i) (g.word i))
 -- the regions ascend from `from` on, each with room for `room` words
 abbrev pub laid : ℕ → ℕ → List Region → Bool
 laid from room [] = true
-laid from room (g ∷ gs) = leb from g.start && laid (g.start + room) room gs
+laid from room (g ∷ gs) = leb from g.start and laid (g.start + room) room gs
 
 -- ## Images
 

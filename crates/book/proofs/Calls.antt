@@ -5,7 +5,8 @@ use mathlib.Core.Option.{Option, none, some, none-ne-some}
 use mathlib.Core.Path.{◌≡◌, refl, sym, ap, ◌∙◌, subst}
 use Prim.Native.Nat.{ℕ, zero, suc}
 use native.Mathlib.Omega.{arith}
-use Rattle.base.specs.Tests.{◌&&◌, if◌then◌else◌, is_some, all, has}
+use Rattle.std.specs.Prelude.{if◌then◌else◌}
+use Rattle.base.specs.Tests.{◌and◌, is_some, all, has}
 use Rattle.base.proofs.Tests.{both, not_false, not_true}
 use Rattle.base.specs.Tables.{first}
 use Rattle.base.proofs.Tables.{first_zero, first_found_zero}
@@ -44,7 +45,7 @@ pub record Held (s : Forest) (k : Book) : Type 0 where
 
 -- without tree data the batch's tree exists: ROOT always, any other by row 7
 tree_exists : (s : Forest) (b : Batch) → Passed s b → Root s → b.root ≡ none → is_some (subtree_of s b.tree) ≡ true
-unfolding with_tree_data root_of ◌&&◌
+unfolding with_tree_data root_of ◌and◌
 tree_exists s b p r e = go (same_tree b.tree ROOT) refl
   where
     root_exists : (o : Option SubtreeState) → (elim o as (λ _. Option FullNodeId) [ none ↦ none | some u ↦ some u.root ]) ≡ some r.root → is_some o ≡ true
@@ -54,8 +55,8 @@ tree_exists s b p r e = go (same_tree b.tree ROOT) refl
     go : (c : Bool) → same_tree b.tree ROOT ≡ c → is_some (subtree_of s b.tree) ≡ true
     go true q = ap (λ (t : TreeId). is_some (subtree_of s t)) (same_tree→≡ b.tree ROOT q) ∙ root_exists (subtree_of s ROOT) r.is_the_root
     go false q =
-        not_false (subst (λ (c : Bool). not c && not (is_some (subtree_of s b.tree)) ≡ false) q
-        (subst (λ (o : Option NodeId). not (is_some o) && not (same_tree b.tree ROOT) && not (is_some (subtree_of s b.tree)) ≡ false) e p.row7))
+        not_false (subst (λ (c : Bool). not c and not (is_some (subtree_of s b.tree)) ≡ false) q
+        (subst (λ (o : Option NodeId). not (is_some o) and not (same_tree b.tree ROOT) and not (is_some (subtree_of s b.tree)) ≡ false) e p.row7))
 
 module _ (s : Forest) (b : Batch) where
   held_batch : (k : Book) → Held s k → all (λ l. fields_ok l.body) b.nodes ≡ true → batch_number s b ≡ 0
@@ -151,8 +152,8 @@ leaves_call s k (host h) i = leaves_host s k h i
 
 -- ## An accepted batch's nodes are counted
 
-both_ways : (before after : Bool) → after ≡ ((before || (after && not before)) && not (before && not after))
-unfolding ◌&&◌
+both_ways : (before after : Bool) → after ≡ ((before || (after and not before)) and not (before and not after))
+unfolding ◌and◌
 both_ways true true = refl
 both_ways true false = refl
 both_ways false true = refl
@@ -165,9 +166,9 @@ counted_accepted s b slice s' q = record {
   nodes_after = λ x.
       ap (λ (f : Forest). present f.nodes x) q
       ∙ both_ways (present s.forest.nodes x) (present (outcome s.forest b).nodes x)
-      ∙ ap (λ (c : Bool). (present s.forest.nodes x || c) && not (present s.forest.nodes x && not (present (outcome s.forest b).nodes x)))
+      ∙ ap (λ (c : Bool). (present s.forest.nodes x || c) and not (present s.forest.nodes x and not (present (outcome s.forest b).nodes x)))
       (sym (has_added s.forest b x))
-      ∙ ap (λ (c : Bool). (present s.forest.nodes x || has same_id (added s.forest (outcome s.forest b)) x) && not c) (sym (has_removed s.forest b x));
+      ∙ ap (λ (c : Bool). (present s.forest.nodes x || has same_id (added s.forest (outcome s.forest b)) x) and not c) (sym (has_removed s.forest b x));
   added_new = λ x e. not_true (both (sym (has_added s.forest b x) ∙ e)).1;
   removed_old = λ x e. (both (sym (has_removed s.forest b x) ∙ e)).0;
 }

@@ -3,7 +3,7 @@
 use mathlib.Core.List.{[], ◌∷◌}
 use mathlib.Core.Option.{none, some}
 use mathlib.Core.Path.{◌≡◌, refl}
-use Rattle.base.specs.Tests.{◌&&◌}
+use Rattle.base.specs.Tests.{◌and◌}
 use Rattle.ids.specs.Ids.{ROOT, same_tree, same_index, same_node, same_id, before}
 use Rattle.record.specs.Batch.{graft?, Batch}
 use Rattle.record.specs.ExampleNodes.{node, T, parent, leaf, grafts, lists, batch_for, batch}
@@ -12,7 +12,7 @@ use Rattle.book.specs.Book.{entry_of, enter, enter_all, strike, line_after, line
 
 -- `unfolding computed` unfolds the definitions of the book
 computed : Unit {0}
-unfolding ◌&&◌ same_tree same_index same_node same_id before graft? entry_of enter enter_all strike line_after lines_after number_in new_line enter_batch opened_by is_entered tree_of_line trees_of_lines
+unfolding ◌and◌ same_tree same_index same_node same_id before graft? entry_of enter enter_all strike line_after lines_after number_in new_line enter_batch opened_by is_entered tree_of_line trees_of_lines
 computed = tt
 
 -- S, with root 1 over 2 and 3

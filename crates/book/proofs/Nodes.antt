@@ -3,7 +3,8 @@ use mathlib.Core.Bool.{Bool, true, false, not, ◌||◌}
 use mathlib.Core.List.{List, [], ◌∷◌, map}
 use mathlib.Core.Option.{none}
 use mathlib.Core.Path.{◌≡◌, refl, sym, ap, ◌∙◌, fun_ext}
-use Rattle.base.specs.Tests.{if◌then◌else◌, keep, has}
+use Rattle.std.specs.Prelude.{if◌then◌else◌}
+use Rattle.base.specs.Tests.{keep, has}
 use Rattle.base.proofs.Tests.{both, same_list→≡, map_keep}
 use borrow.Author.Tests.{eqb-true}
 use Rattle.ids.specs.Ids.{same_node, same_id, before}

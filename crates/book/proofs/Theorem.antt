@@ -5,7 +5,7 @@ use mathlib.Core.Option.{Option, none, some}
 use mathlib.Core.Path.{◌≡◌, refl, sym, ap, ◌∙◌, subst}
 use Prim.Native.Nat.{ℕ, zero, suc}
 use native.Mathlib.Omega.{arith}
-use Rattle.base.specs.Tests.{◌&&◌, is_none, all}
+use Rattle.base.specs.Tests.{◌and◌, is_none, all}
 use Rattle.base.proofs.Tests.{both, not_false}
 use Rattle.base.proofs.Tables.{first_zero, first_found_zero}
 use Rattle.ids.specs.Ids.{ROOT, same_tree}
@@ -73,11 +73,11 @@ strike_none (k ∷ ks) = ap {B = List Entry} (λ l. k ∷ l) (strike_none ks)
 
 module _ (b : Batch) (for-ROOT : b.tree ≡ ROOT) (r : NodeId) (has-root : b.root ≡ some r) where
   first_number : tree_number (seed b) (without_tree_data b) ≡ record { 0 = 0 }
-  unfolding tree_number seed without_tree_data same_tree ◌&&◌
+  unfolding tree_number seed without_tree_data same_tree ◌and◌
   first_number = rw for-ROOT refl
 
   first_trees : (outcome (seed b) (without_tree_data b)).trees ≡ record { id = ROOT; subtree = some (record { root = r; focus = b.focus }) } ∷ []
-  unfolding outcome entries_after entry_after subtree_here new_entry known tree_number seed without_tree_data same_tree ◌&&◌
+  unfolding outcome entries_after entry_after subtree_here new_entry known tree_number seed without_tree_data same_tree ◌and◌
   first_trees = rw (for-ROOT, has-root) refl
 
   none_removed : strike (removed (seed b) (outcome (seed b) (without_tree_data b))) (enter_all (record { 0 = 0 }) b.nodes []) ≡ enter_all (record { 0 = 0 }) b.nodes []

@@ -9,7 +9,8 @@ use native.Mathlib.Nat.{add-zero, add-suc, suc-add, zero-add}
 use lib.Dec.{eqb}
 use lib.ListN.{length}
 use borrow.Author.Tests.{eqb-true}
-use Rattle.base.specs.Tests.{◌&&◌, if◌then◌else◌, is_some, has, position}
+use Rattle.std.specs.Prelude.{if◌then◌else◌}
+use Rattle.base.specs.Tests.{◌and◌, is_some, has, position}
 use Rattle.base.proofs.Tests.{both, joined}
 use Rattle.ids.specs.Ids.{same_tree, same_index}
 use Rattle.ids.specs.declared.TreeId.{TreeId}
@@ -108,19 +109,19 @@ has_number id k (u ∷ es) e = go (same_tree id u.id) e (has_number id (suc k) e
 module _ (s : Forest) (b : Batch) where
   -- in another tree nothing comes
   elsewhere : (x : FullNodeId) → same_index x.tree (tree_number s b) ≡ false
-      → is_entered (map entry_of_node (outcome s b).nodes) x ≡ (is_entered (map entry_of_node s.nodes) x && not (gone s b x))
+      → is_entered (map entry_of_node (outcome s b).nodes) x ≡ (is_entered (map entry_of_node s.nodes) x and not (gone s b x))
   unfolding written
   elsewhere x e =
       entered_present (outcome s b).nodes x
       ∙ present_outcome s b x
-      ∙ ap (λ (c : Bool). c && not (gone s b x))
+      ∙ ap (λ (c : Bool). c and not (gone s b x))
       (has_elsewhere (tree_number s b) b.nodes s.nodes x e ∙ sym (present_has s.nodes x) ∙ sym (entered_present s.nodes x))
 
   -- another tree stays while its root is entered
   subtree_other : (i : ℕ) (focus : NodeId) → eqb i (tree_number s b).0 ≡ false → (o : Option NodeId)
       → subtree_elsewhere s b i (tree_of_line (map entry_of_node s.nodes) i (record { id = b.tree; root = o; focus = focus })).subtree
       ≡ (tree_of_line (map entry_of_node (outcome s b).nodes) i (record { id = b.tree; root = o; focus = focus })).subtree
-  unfolding tree_of_line subtree_elsewhere same_index ◌&&◌
+  unfolding tree_of_line subtree_elsewhere same_index ◌and◌
   subtree_other i focus q none = refl
   subtree_other i focus q (some r) =
       keeps (is_entered (map entry_of_node s.nodes) x)
@@ -136,7 +137,7 @@ module _ (s : Forest) (b : Batch) where
       flips true = refl
       flips false = refl
 
-      keeps : (d : Bool) → ◌≡◌ {A = Option Subtree} (subtree_elsewhere s b i (if d then some u else none)) (if d && not (gone s b x) then some u else none)
+      keeps : (d : Bool) → ◌≡◌ {A = Option Subtree} (subtree_elsewhere s b i (if d then some u else none)) (if d and not (gone s b x) then some u else none)
       keeps true = flips (gone s b x)
       keeps false = refl
 

@@ -1,8 +1,8 @@
 -- Document 01's book: ids, each with its children and graft, and a root and a focus per tree number; what each call enters in it.
 -- Assumes nothing.
-use Rattle.std.specs.Prelude.{Bool, not, List, [], ◌∷◌, ◌++◌, map, ℕ, zero, suc, eqb}
+use Rattle.std.specs.Prelude.{Bool, not, List, [], ◌∷◌, ◌++◌, map, ℕ, zero, suc, eqb, if◌then◌else◌}
 use Rattle.std.proofs.Math.Option.{Option, none, some}
-use Rattle.base.specs.Tests.{if◌then◌else◌, any, keep, has, position}
+use Rattle.base.specs.Tests.{any, keep, has, position}
 use Rattle.ids.specs.Ids.{ROOT, same_tree, same_id, before}
 use Rattle.ids.specs.declared.TreeId.{TreeId}
 use Rattle.ids.specs.declared.TreeIndex.{TreeIndex}

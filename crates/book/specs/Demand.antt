@@ -3,7 +3,7 @@
 use Rattle.std.specs.Prelude.{Bool, true, false, not, ◌||◌, ◌≡◌, ℕ, suc, ◌+◌, ◌<◌, length}
 use mathlib.Core.List.{List, [], ◌∷◌, ◌++◌, map, Memᴰ}
 use Rattle.std.proofs.Math.Option.{none, some}
-use Rattle.base.specs.Tests.{◌&&◌, count, has}
+use Rattle.base.specs.Tests.{◌and◌, count, has}
 use Rattle.ids.specs.Ids.{same_id}
 use Rattle.ids.specs.declared.FullNodeId.{FullNodeId}
 use Rattle.state.specs.State.{Forest, State, present, graft_at, link_at}
@@ -63,7 +63,7 @@ pub record Agrees (s : Forest) (k : Book) : Type 0 where
 pub record Counted (s : Forest) (a : Answer) : Type 0 where
   -- the batch leaves exactly the nodes before it, with those in its added list joined and those in its removed list taken away
   pub nodes_after : (x : FullNodeId)
-      → present a.state.forest.nodes x ≡ ((present s.nodes x || has same_id a.changes.added x) && not (has same_id a.changes.removed x))
+      → present a.state.forest.nodes x ≡ ((present s.nodes x || has same_id a.changes.added x) and not (has same_id a.changes.removed x))
   -- nothing added was there before
   pub added_new : (x : FullNodeId) → has same_id a.changes.added x ≡ true → present s.nodes x ≡ false
   -- and nothing removed was not

@@ -1,7 +1,7 @@
 -- Demand 3 over the functions that a terminal links: any accepted start, any list of calls after it, and any chain of states in which each
 -- call's reply and the words that it leaves are such as its contract allows for the words that the last call left. Assumes nothing.
 use Rattle.std.specs.Prelude.{◌||◌, not, true, false, List, [], ◌∷◌, ◌++◌, map, ◌≡◌, ℕ, ◌+◌, ◌*◌, get_or}
-use Rattle.base.specs.Tests.{◌&&◌, has}
+use Rattle.base.specs.Tests.{◌and◌, has}
 use Rattle.base.specs.Bytes.{list_of}
 use Rattle.ids.specs.Ids.{same_id}
 use Rattle.ids.specs.declared.FullNodeId.{FullNodeId}
@@ -50,7 +50,7 @@ removed_in r slice = ids_in slice (2 * (r.lengths.added + r.lengths.updated)) r.
 -- a batch that led from s to t
 pub record CountedInSlice (s t : Forest) (r : Reply) (slice : List ℕ) : Type 0 where
   -- it leaves exactly the nodes before it, with those in its added list joined and those in its removed list taken away
-  pub nodes_after : (x : FullNodeId) → present t.nodes x ≡ ((present s.nodes x || has same_id (added_in r slice) x) && not (has same_id (removed_in r slice) x))
+  pub nodes_after : (x : FullNodeId) → present t.nodes x ≡ ((present s.nodes x || has same_id (added_in r slice) x) and not (has same_id (removed_in r slice) x))
   -- nothing added was there before
   pub added_new : (x : FullNodeId) → has same_id (added_in r slice) x ≡ true → present s.nodes x ≡ false
   -- and nothing removed was not

@@ -1,7 +1,6 @@
 -- What the climb to the node that lost its place answers, over the words of a state and of a batch, and the batch's scope. Assumes nothing.
-use Rattle.std.specs.Prelude.{Bool, List, ℕ, ltb, length}
+use Rattle.std.specs.Prelude.{Bool, List, ℕ, ltb, length, if◌then◌else◌}
 use Rattle.std.proofs.Math.Option.{Option, none}
-use Rattle.base.specs.Tests.{if◌then◌else◌}
 use Rattle.reasons.specs.Reasons.{Dropped}
 use Rattle.reasons_calls.specs.Outcome.{dropped_within}
 use Rattle.reasons_why.specs.Why.{found, dropped_node, dropped_by}

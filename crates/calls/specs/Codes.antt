@@ -1,8 +1,8 @@
 -- Codes of nodes: below 320 the slot of an old node, from 320 on a listed node. So the outcome's nodes, and where their data comes from,
 -- are told by one number each. Assumes nothing.
-use Rattle.std.specs.Prelude.{Bool, false, not, ◌≡◌, ℕ, ◌+◌, ◌-◌, ◌*◌, ◌≤◌, ◌<◌, ltb, length, get_or}
+use Rattle.std.specs.Prelude.{Bool, false, not, ◌≡◌, ℕ, ◌+◌, ◌-◌, ◌*◌, ◌≤◌, ◌<◌, ltb, length, get_or, if◌then◌else◌}
 use Rattle.std.proofs.Math.Option.{Option, none, some}
-use Rattle.base.specs.Tests.{◌&&◌, if◌then◌else◌, position}
+use Rattle.base.specs.Tests.{◌and◌, position}
 use Rattle.ids.specs.Ids.{same_id}
 use Rattle.ids.specs.declared.FullNodeId.{FullNodeId}
 use Rattle.record.specs.Batch.{NodeData, same_data, Listed, Batch}
@@ -65,7 +65,7 @@ module _ (s : Forest) (b : Batch) where
 
   -- where its data comes from: the batch where it is new or differs, else the old node
   unfoldable pub source_of : FullNodeId → ℕ
-  source_of x = if old s b x && not (listed s b x && differs (listed_at b (turn s b x))) then slot_at s x else SLOTS + turn s b x
+  source_of x = if old s b x and not (listed s b x and differs (listed_at b (turn s b x))) then slot_at s x else SLOTS + turn s b x
 
   -- what changed: 1 added, 2 updated, 4 relinked
   unfoldable pub change_of : FullNodeId → ℕ

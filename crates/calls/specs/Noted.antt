@@ -1,6 +1,5 @@
 -- What functions answer by the words of the notes alone. What it means for a state and a batch follows from `Told`. Assumes nothing.
-use Rattle.std.specs.Prelude.{Bool, false, List, ◌≡◌, ℕ, ◌+◌, ◌-◌, ◌<◌, eqb, ltb, get_or}
-use Rattle.base.specs.Tests.{if◌then◌else◌}
+use Rattle.std.specs.Prelude.{Bool, false, List, ◌≡◌, ℕ, ◌+◌, ◌-◌, ◌<◌, eqb, ltb, get_or, if◌then◌else◌}
 use Rattle.ids.specs.declared.FullNodeId.{FullNodeId}
 use Rattle.state_array.specs.Layout.{SLOTS}
 use Rattle.state_array.specs.View.{id_in}

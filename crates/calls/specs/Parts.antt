@@ -1,7 +1,7 @@
 -- What the helpers answer: rows 6 to 8 by themselves, the root that a batch leaves. Assumes nothing.
-use Rattle.std.specs.Prelude.{Bool, false, not, ◌≡◌, ℕ, ◌≤◌, ◌<◌, leb, length}
+use Rattle.std.specs.Prelude.{Bool, false, not, ◌≡◌, ℕ, ◌≤◌, ◌<◌, leb, length, if◌then◌else◌}
 use Rattle.std.proofs.Math.Option.{none, some}
-use Rattle.base.specs.Tests.{◌&&◌, if◌then◌else◌, is_none}
+use Rattle.base.specs.Tests.{◌and◌, is_none}
 use Rattle.base.specs.Search.{First}
 use Rattle.ids.specs.Ids.{ROOT, same_tree, same_node}
 use Rattle.record.specs.Batch.{Batch}
@@ -22,15 +22,15 @@ pub record ListedAgain (b : Batch) (r : Again) : Type 0 where
 module _ (s : Forest) (b : Batch) where
   -- row 6: tree data for a tree other than ROOT that no node grafts
   unfoldable pub ungrafted : Bool
-  ungrafted = with_tree_data s b && not (same_tree b.tree ROOT) && is_none (holder s.nodes b.tree)
+  ungrafted = with_tree_data s b and not (same_tree b.tree ROOT) and is_none (holder s.nodes b.tree)
 
   -- row 7: no tree data for a tree other than ROOT that does not exist
   unfoldable pub missing : Bool
-  missing = not (with_tree_data s b) && not (same_tree b.tree ROOT) && is_none (subtree_of s b.tree)
+  missing = not (with_tree_data s b) and not (same_tree b.tree ROOT) and is_none (subtree_of s b.tree)
 
   -- row 8: a tree without a number, where none is left
   unfoldable pub full : Bool
-  full = not (known s b) && leb 32 (length s.trees)
+  full = not (known s b) and leb 32 (length s.trees)
 
   -- the root as the batch leaves it
   abbrev pub RootAfter : Root → Type 0

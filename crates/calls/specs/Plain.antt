@@ -1,6 +1,5 @@
 -- What the functions of src/answers.rt and src/seeds.rt answer, and how the host flag is put. Assumes nothing.
-use Rattle.std.specs.Prelude.{List, ◌≡◌, ℕ, length}
-use Rattle.base.specs.Tests.{if◌then◌else◌}
+use Rattle.std.specs.Prelude.{List, ◌≡◌, ℕ, length, if◌then◌else◌}
 use Rattle.record.specs.Parse.{batch_of}
 use Rattle.state.specs.State.{State}
 use Rattle.state_array.specs.Layout.{WORDS}

@@ -1,6 +1,6 @@
 -- What the columns that are read out of a batch hold. Assumes nothing.
-use Rattle.std.specs.Prelude.{not, List, ◌≡◌, ℕ, suc, ◌+◌, ◌≤◌, ◌<◌, eqb, ltb, length, get_or}
-use Rattle.base.specs.Tests.{◌&&◌, if◌then◌else◌, is_some, same_option}
+use Rattle.std.specs.Prelude.{not, List, ◌≡◌, ℕ, suc, ◌+◌, ◌≤◌, ◌<◌, eqb, ltb, length, get_or, if◌then◌else◌}
+use Rattle.base.specs.Tests.{◌and◌, is_some, same_option}
 use Rattle.base.specs.Search.{First}
 use Rattle.ids.specs.Ids.{same_tree}
 use Rattle.ids.specs.declared.TreeIndex.{TreeIndex}
@@ -57,4 +57,4 @@ pub record Marked (from count to n : ℕ) (s t : List ℕ) : Type 0 where
 unfoldable pub claim_of : List ℕ → List ℕ → List ℕ → ℕ → ℕ
 claim_of state bytes notes i =
     flag (is_some (graft? (listed_at (batch_of bytes) i).body)
-    && not (same_option same_tree (graft? (listed_at (batch_of bytes) i).body) (graft_below state (get_or notes (LISTED_SLOTS + i) 0))))
+    and not (same_option same_tree (graft? (listed_at (batch_of bytes) i).body) (graft_below state (get_or notes (LISTED_SLOTS + i) 0))))

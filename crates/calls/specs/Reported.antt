@@ -1,7 +1,7 @@
 -- What is reported of the focus: its node before and after, and the extra ids. Assumes nothing.
-use Rattle.std.specs.Prelude.{List, ◌++◌, ◌≡◌, ℕ}
+use Rattle.std.specs.Prelude.{List, ◌++◌, ◌≡◌, ℕ, if◌then◌else◌}
 use Rattle.std.proofs.Math.Option.{Option, none}
-use Rattle.base.specs.Tests.{if◌then◌else◌, same_option}
+use Rattle.base.specs.Tests.{same_option}
 use Rattle.ids.specs.Ids.{same_id}
 use Rattle.ids.specs.declared.FullNodeId.{FullNodeId}
 use Rattle.state.specs.State.{State}

@@ -1,7 +1,7 @@
 -- What the notes of an update say of a forest s and a batch b: the table of their columns, and which of them are written. Assumes nothing.
-use Rattle.std.specs.Prelude.{List, [], ◌∷◌, ◌≡◌, ℕ, suc, ◌+◌, ◌<◌, eqb, ltb, length, get_or, take}
+use Rattle.std.specs.Prelude.{List, [], ◌∷◌, ◌≡◌, ℕ, suc, ◌+◌, ◌<◌, eqb, ltb, length, get_or, take, if◌then◌else◌}
 use Rattle.std.proofs.Math.Option.{Option, none, some}
-use Rattle.base.specs.Tests.{◌&&◌, if◌then◌else◌, is_some, same_option, has, position}
+use Rattle.base.specs.Tests.{◌and◌, is_some, same_option, has, position}
 use Rattle.base.specs.Search.{First}
 use Rattle.ids.specs.Ids.{same_tree, same_node}
 use Rattle.ids.specs.declared.TreeId.{TreeId}
@@ -31,7 +31,7 @@ turn_mark s b x = if listed s b x then suc (turn s b x) else 0
 -- one more than the place where a node is first named, 0 where it is not
 unfoldable pub naming_mark : Forest → Batch → FullNodeId → ℕ
 naming_mark s b x =
-    if mine s b x && has same_node (named_ids b.nodes) x.node then suc (position same_node (named_ids b.nodes) x.node) else 0
+    if mine s b x and has same_node (named_ids b.nodes) x.node then suc (position same_node (named_ids b.nodes) x.node) else 0
 
 -- ## Grafts in a state
 
@@ -41,7 +41,7 @@ graft_below state i = if ltb i (slots_of state) then graft_in state i else none
 
 -- the first of k listed nodes that claims the tree t, or k
 abbrev pub ClaimerIs : Batch → List ℕ → ℕ → TreeId → ℕ → Type 0
-ClaimerIs b notes k t r = First (λ i. eqb (get_or notes (CLAIMS + i) 0) 1 && same_tree (listed_at b i).body.graft t) k r
+ClaimerIs b notes k t r = First (λ i. eqb (get_or notes (CLAIMS + i) 0) 1 and same_tree (listed_at b i).body.graft t) k r
 
 -- the first of k listed nodes that claims the tree that a node grafted, or k
 pub record ClaimedFromIs (b : Batch) (notes : List ℕ) (k : ℕ) (graft : Option TreeId) (r : ℕ) : Type 0 where

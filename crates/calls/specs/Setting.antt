@@ -1,8 +1,8 @@
 -- What the phases of an update are given: a forest that passed number 1, or a start's, a batch that passed number 2, and its scope.
 -- Assumes nothing.
-use Rattle.std.specs.Prelude.{true, ◌||◌, List, ◌≡◌, ℕ, ◌≤◌, ltb, length}
+use Rattle.std.specs.Prelude.{true, ◌||◌, List, ◌≡◌, ℕ, ◌≤◌, ltb, length, if◌then◌else◌}
 use Rattle.std.proofs.Math.Option.{Option, none, some}
-use Rattle.base.specs.Tests.{if◌then◌else◌, all, distinct}
+use Rattle.base.specs.Tests.{all, distinct}
 use Rattle.ids.specs.Ids.{ROOT, same_tree, same_node}
 use Rattle.ids.specs.declared.FullNodeId.{FullNodeId}
 use Rattle.record.specs.Batch.{fields_ok, Batch, listed_ids, named_ids}

@@ -1,6 +1,6 @@
 -- Which slots a column of marks picks, and their ids in the lent slice. Assumes nothing.
-use Rattle.std.specs.Prelude.{not, List, map, ◌++◌, ◌≡◌, ℕ, ◌+◌, ◌*◌, ◌≤◌, ◌<◌, ltb, length, get_or, take, drop}
-use Rattle.base.specs.Tests.{if◌then◌else◌, keep}
+use Rattle.std.specs.Prelude.{not, List, map, ◌++◌, ◌≡◌, ℕ, ◌+◌, ◌*◌, ◌≤◌, ◌<◌, ltb, length, get_or, take, drop, if◌then◌else◌}
+use Rattle.base.specs.Tests.{keep}
 use Rattle.base.specs.Bytes.{bit, list_of}
 use Rattle.ids.specs.Ids.{id_words}
 use Rattle.ids.specs.declared.FullNodeId.{FullNodeId}

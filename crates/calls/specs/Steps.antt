@@ -1,7 +1,7 @@
 -- The pass a step at a time: where it stands, what is left of it, and what each step does. Assumes nothing.
-use Rattle.std.specs.Prelude.{Bool, true, false, ◌||◌, List, [], ◌∷◌, ◌++◌, ◌≡◌, ℕ, zero, suc, ◌+◌, ◌-◌, ◌≤◌, ◌<◌, eqb, ltb, length, get_or, take, drop, set}
+use Rattle.std.specs.Prelude.{Bool, true, false, ◌||◌, List, [], ◌∷◌, ◌++◌, ◌≡◌, ℕ, zero, suc, ◌+◌, ◌-◌, ◌≤◌, ◌<◌, eqb, ltb, length, get_or, take, drop, set, if◌then◌else◌}
 use Rattle.std.proofs.Math.Option.{none, some}
-use Rattle.base.specs.Tests.{◌&&◌, if◌then◌else◌, has, position}
+use Rattle.base.specs.Tests.{◌and◌, has, position}
 use Rattle.ids.specs.Ids.{same_tree, same_node}
 use Rattle.ids.specs.declared.TreeId.{TreeId}
 use Rattle.ids.specs.declared.NodeId.{NodeId}
@@ -112,7 +112,7 @@ Names s b i j r = Moves s b i j (record { i = i; j = j + 1; twice = r.twice; at 
 
 -- listed node m is done and claims the tree t
 unfoldable pub is_taken : Batch → List ℕ → List ℕ → TreeId → ℕ → Bool
-is_taken b notes done t m = eqb (get_or done m 0) 1 && eqb (get_or notes (CLAIMS + m) 0) 1 && same_tree (listed_at b m).body.graft t
+is_taken b notes done t m = eqb (get_or done m 0) 1 and eqb (get_or notes (CLAIMS + m) 0) 1 and same_tree (listed_at b m).body.graft t
 
 -- the nodes that are done are those placed so far, as far as claims go: each tree has the same claimer among both
 pub record Claimed (s : Forest) (b : Batch) (notes done : List ℕ) (placed : List Listed) : Type 0 where

@@ -1,7 +1,7 @@
 -- The table of trees after a batch. Assumes nothing.
-use Rattle.std.specs.Prelude.{Bool, List, ℕ, ◌+◌, eqb, ltb, get_or}
+use Rattle.std.specs.Prelude.{Bool, List, ℕ, ◌+◌, eqb, ltb, get_or, if◌then◌else◌}
 use Rattle.std.proofs.Math.Option.{none, some}
-use Rattle.base.specs.Tests.{◌&&◌, if◌then◌else◌}
+use Rattle.base.specs.Tests.{◌and◌}
 use Rattle.ids.specs.declared.TreeIndex.{TreeIndex}
 use Rattle.ids.specs.declared.FullNodeId.{FullNodeId}
 use Rattle.record.specs.Batch.{Batch}
@@ -31,4 +31,4 @@ trees_counted state k = if ltb k.0 (trees_of state) then trees_of state else tre
 
 -- whether the notes mark the node with an id as one that goes
 unfoldable pub marked_gone : List ℕ → List ℕ → FullNodeId → Bool
-marked_gone state notes x = ltb (slot_at (forest state) x) (slots_of state) && eqb (get_or notes (FATES + slot_at (forest state) x) 0) 1
+marked_gone state notes x = ltb (slot_at (forest state) x) (slots_of state) and eqb (get_or notes (FATES + slot_at (forest state) x) 0) 1

@@ -1,7 +1,6 @@
 -- The node that a child entry belongs to, 12's reason by the words of the notes, and a reason that has a number and nodes alone. Assumes nothing.
-use Rattle.std.specs.Prelude.{List, ℕ, ◌+◌, ltb, length, get_or}
+use Rattle.std.specs.Prelude.{List, ℕ, ◌+◌, ltb, length, get_or, if◌then◌else◌}
 use Rattle.std.proofs.Math.Option.{Option, none, some}
-use Rattle.base.specs.Tests.{if◌then◌else◌}
 use Rattle.ids.specs.Ids.{ROOT}
 use Rattle.ids.specs.declared.FullNodeId.{FullNodeId}
 use Rattle.record.specs.Batch.{Batch}

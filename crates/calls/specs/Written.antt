@@ -1,6 +1,5 @@
 -- The nodes after a batch, and where the children of each come from. Assumes nothing.
-use Rattle.std.specs.Prelude.{List, ℕ, ◌+◌, ◌-◌, ltb}
-use Rattle.base.specs.Tests.{if◌then◌else◌}
+use Rattle.std.specs.Prelude.{List, ℕ, ◌+◌, ◌-◌, ltb, if◌then◌else◌}
 use Rattle.ids.specs.declared.NodeId.{NodeId}
 use Rattle.record.specs.Parse.{batch_of}
 use Rattle.record_reader.specs.Reader.{listed_at}

@@ -1,7 +1,6 @@
 // The parent links after a batch, each worked out once.
 ghost use Rattle.std.proofs.Math.Option.{none, some};
-ghost use Rattle.std.specs.Prelude.{◌≡◌, suc, ◌+◌, ◌-◌, ◌≤◌, ◌<◌, ltb, get_or};
-ghost use Rattle.base.specs.Tests.{if◌then◌else◌};
+ghost use Rattle.std.specs.Prelude.{◌≡◌, suc, ◌+◌, ◌-◌, ◌≤◌, ◌<◌, ltb, get_or, if◌then◌else◌};
 ghost use Rattle.base.specs.Search.{First};
 ghost use Rattle.state_array.specs.Stored.{link_row};
 ghost use Rattle.state_array.specs.View.{slots_of, link_of};

@@ -1,6 +1,6 @@
 // What a batch reports: what changed of each node, the four change lists in the lent slice, the focus before and after with the extra ids.
 ghost use Rattle.std.specs.Prelude.{true, not, ◌++◌, ◌≡◌, ◌+◌, ◌*◌, ◌≤◌, ◌<◌, get_or};
-ghost use Rattle.base.specs.Tests.{◌&&◌, is_some, same_option, has};
+ghost use Rattle.base.specs.Tests.{◌and◌, is_some, same_option, has};
 ghost use Rattle.base.specs.Bytes.{bit};
 ghost use Rattle.ids.specs.Ids.{same_id};
 ghost use Rattle.state.specs.State.{same_link, parent_of};
@@ -112,7 +112,7 @@ fn data_differs(notes: &Notes, slot: usize) -> bool
 
 // Whether a node has another link; to none does not count.
 fn link_changed(was: LinkRow, next: LinkRow) -> bool
-    ensures { result ≡ (is_some (link_of next) && not (same_option same_link (link_of was) (link_of next))) }
+    ensures { result ≡ (is_some (link_of next) and not (same_option same_link (link_of was) (link_of next))) }
 {
     if next.linked == 0 {
         return false;

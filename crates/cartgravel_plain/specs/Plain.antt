@@ -1,9 +1,8 @@
 -- The answers of the questions as plain numbers and structs, for C: what is missing is 0. Assumes nothing.
-use Rattle.std.specs.Prelude.{true, not, [], ◌∷◌, ℕ, ◌+◌, Float}
+use Rattle.std.specs.Prelude.{true, not, [], ◌∷◌, ℕ, ◌+◌, Float, if◌then◌else◌}
 use Rattle.std.proofs.Math.Option.{Option, none, some}
 use Rattle.std.specs.Float.Ieee.{of_bits}
 use Rattle.std.specs.Float.{binary64}
-use Rattle.base.specs.Tests.{if◌then◌else◌}
 use Rattle.base.specs.Tables.{row, first}
 use Rattle.ids.specs.Ids.{ROOT}
 use Rattle.state.specs.State.{Forest}

@@ -2,8 +2,7 @@
 #![tactic(auto)]
 
 ghost use Rattle.std.proofs.Math.Option.{none};
-ghost use Rattle.std.specs.Prelude.{◌≡◌};
-ghost use Rattle.base.specs.Tests.{if◌then◌else◌};
+ghost use Rattle.std.specs.Prelude.{◌≡◌, if◌then◌else◌};
 ghost use Rattle.state_array.specs.View.{view};
 ghost use Rattle.node_answers.specs.Filter.{result_number};
 ghost use Rattle.node_answers.specs.Answers.{node_answer};

@@ -5,7 +5,7 @@ use mathlib.Core.List.{List, [], ◌∷◌, ◌++◌}
 use mathlib.Core.Path.{◌≡◌, refl, sym, ap, ◌∙◌}
 use lib.Dec.{eqb}
 use lib.Ieee.{Float, nan, inf, fin, binary64, unlike, add, mul}
-use Rattle.base.specs.Tests.{◌&&◌, all}
+use Rattle.base.specs.Tests.{◌and◌, all}
 use Rattle.base.specs.Floats.{is_finite}
 use Rattle.base.proofs.Tests.{both, joined, and_assoc, iff}
 use Rattle.geometry.specs.Geometry.{affine_test, finite_affine}
@@ -14,10 +14,10 @@ use Rattle.geometry.specs.declared.Affine.{Affine}
 use Rattle.geometry_box.specs.Boxes.{times, linear, shifted, image, product, chain, of_corners, way_of_linear, way_of_shifted, way_of_image, way_of_product, way_of_corners, way, box_under, finite_point, finite_points, box_of}
 
 -- a test of each element of two lists
-all_append : {A : Type 0} (p : A → Bool) (xs ys : List A) → all p (xs ++ ys) ≡ all p xs && all p ys
-unfolding ◌&&◌
+all_append : {A : Type 0} (p : A → Bool) (xs ys : List A) → all p (xs ++ ys) ≡ all p xs and all p ys
+unfolding ◌and◌
 all_append p [] ys = refl
-all_append p (x ∷ xs) ys = ap (λ (b : Bool). p x && b) (all_append p xs ys) ∙ sym (and_assoc (p x) (all p xs) (all p ys))
+all_append p (x ∷ xs) ys = ap (λ (b : Bool). p x and b) (all_append p xs ys) ∙ sym (and_assoc (p x) (all p xs) (all p ys))
 
 -- ## Sums and products
 

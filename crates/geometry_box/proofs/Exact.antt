@@ -11,7 +11,8 @@ use lib.ListN.{length}
 use lib.Ieee.{Float, binary64, lt, eq, of_bits, of_int, fits}
 use lib.Ieee.Exact.{HasValue}
 use lib.Ieee.Fits.{add-fits}
-use Rattle.base.specs.Tests.{◌&&◌, if◌then◌else◌}
+use Rattle.std.specs.Prelude.{if◌then◌else◌}
+use Rattle.base.specs.Tests.{◌and◌}
 use Rattle.base.specs.Floats.{same_value}
 use Rattle.base.proofs.Finite.{same_value_finite}
 use Rattle.geometry.specs.declared.Rect.{Rect}
@@ -131,7 +132,7 @@ same false z = refl
 
 -- the box of whole bounds under a transform that only shifts
 shift_box : {t : Affine} {r : Rect} {u v x0 y0 x1 y1 : ℤ} {k : ℕ} → Moves t u v k → Bounds r x0 y0 x1 y1 → 2 ^ 20 + k ≤ 2 ^ 53 → box_of t r ≡ exact_box x0 y0 x1 y1 u v
-unfolding box_of box_of_points finite_points finite_point image exact_box ◌&&◌
+unfolding box_of box_of_points finite_points finite_point image exact_box ◌and◌
 shift_box {t} {r} {u} {v} {x0} {y0} {x1} {y1} {k} m b h =
     let px = at_x b.left b.top in
     let py = at_y b.left b.top in

@@ -5,7 +5,7 @@ use mathlib.Core.Path.{◌≡◌, refl}
 use Prim.Native.Nat.{◌^◌}
 use lib.IntN.{ℤ, pos, negsuc}
 use lib.Ieee.{Float, nan, inf, neg, add, sub, mul, lt, eq, of_bits, of_int, binary64}
-use Rattle.base.specs.Tests.{◌&&◌}
+use Rattle.base.specs.Tests.{◌and◌}
 use Rattle.geometry.specs.declared.Rect.{Rect}
 use Rattle.geometry.specs.declared.Affine.{Affine}
 use Rattle.geometry_box.specs.declared.BoundingBox.{BoundingBox}
@@ -14,7 +14,7 @@ use Rattle.geometry_box.specs.Boxes.{nought, one, times, linear, shifted, image,
 
 -- all that these examples compute with
 computed : Unit {0}
-unfolding linear shifted image identity product chain least greatest with_plus_zero least_of greatest_of box_of_points way_of_linear way_of_shifted way_of_image way_of_product way_of_corners way box_under finite_point finite_points box_of cut_at_zero overlap is_empty apart ◌&&◌ neg add sub mul lt eq of_bits of_int
+unfolding linear shifted image identity product chain least greatest with_plus_zero least_of greatest_of box_of_points way_of_linear way_of_shifted way_of_image way_of_product way_of_corners way box_under finite_point finite_points box_of cut_at_zero overlap is_empty apart ◌and◌ neg add sub mul lt eq of_bits of_int
 computed = tt
 
 abbrev minus_zero : Float

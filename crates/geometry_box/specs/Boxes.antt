@@ -1,9 +1,9 @@
 -- Transforms and boxes: document 01, section "Boxes", in its order. Each operation is binary64's and rounds once, left to right.
 -- Assumes nothing.
-use Rattle.std.specs.Prelude.{Bool, false, not, List, [], ◌∷◌, ◌++◌, Float}
+use Rattle.std.specs.Prelude.{Bool, false, not, List, [], ◌∷◌, ◌++◌, Float, if◌then◌else◌}
 use Rattle.std.specs.Float.{binary64}
 use Rattle.std.specs.Float.Ieee.{add, sub, mul, lt, eq, of_bits}
-use Rattle.base.specs.Tests.{◌&&◌, if◌then◌else◌, all}
+use Rattle.base.specs.Tests.{◌and◌, all}
 use Rattle.base.specs.Floats.{is_finite}
 use Rattle.geometry.specs.declared.Rect.{Rect}
 use Rattle.geometry.specs.declared.Affine.{Affine}
@@ -136,10 +136,10 @@ box_under t ps r = if all is_finite (way t ps r) then of_corners box_of_points (
 
 -- both coordinates of a point are finite, and of four points
 unfoldable pub finite_point : Point → Bool
-finite_point p = is_finite p.x && is_finite p.y
+finite_point p = is_finite p.x and is_finite p.y
 
 unfoldable pub finite_points : Point → Point → Point → Point → Bool
-finite_points p q r s = finite_point p && finite_point q && finite_point r && finite_point s
+finite_points p q r s = finite_point p and finite_point q and finite_point r and finite_point s
 
 -- the box of the bounds r under t: none if one of the eight coordinates of the corners is not finite
 unfoldable pub box_of : Affine → Rect → BoundingBox

@@ -1,9 +1,8 @@
 -- Where transforms only shift, and all bounds and shifts are whole and at most 2 ^ 20 in size, the box is exact: document 01, section "Boxes".
 -- The words of that rule; proofs/Exact `exact_box_lem` is the rule. Assumes nothing.
-use Rattle.std.specs.Prelude.{Bool, true, false, List, [], ◌∷◌, ◌≡◌, ◌^◌, ◌≤◌, ltb, ℤ, pos, negsuc, nat_abs, ◌+ℤ◌, Float}
+use Rattle.std.specs.Prelude.{Bool, true, false, List, [], ◌∷◌, ◌≡◌, ◌^◌, ◌≤◌, ltb, ℤ, pos, negsuc, nat_abs, ◌+ℤ◌, Float, if◌then◌else◌}
 use Rattle.std.specs.Float.{binary64}
 use Rattle.std.specs.Float.Ieee.{of_int}
-use Rattle.base.specs.Tests.{if◌then◌else◌}
 use Rattle.base.specs.Floats.{same_value}
 use Rattle.geometry.specs.declared.Rect.{Rect}
 use Rattle.geometry.specs.declared.Affine.{Affine}

@@ -4,7 +4,7 @@ use mathlib.Core.List.{List, [], ◌∷◌}
 use mathlib.Core.Path.{◌≡◌, refl}
 use Prim.Native.Nat.{ℕ}
 use lib.Ieee.{of_bits, to_bits, eq}
-use Rattle.base.specs.Tests.{◌&&◌}
+use Rattle.base.specs.Tests.{◌and◌}
 use Rattle.base.specs.Tables.{first}
 use Rattle.base.specs.Floats.{zero_bytes}
 use Rattle.ids.specs.Ids.{ROOT, same_tree, same_index, same_node, same_id, before, id_words}
@@ -33,7 +33,7 @@ use Rattle.node_answers.specs.TreeState.{focus_answer, root_answer, tree_id_at, 
 
 -- `unfolding computed` unfolds every definition
 computed : Unit {0}
-unfolding ◌&&◌ first zero_bytes same_tree same_index same_node same_id before rect_test affine_test active_descendant? graft? bounds? transform? fields_ok
+unfolding ◌and◌ first zero_bytes same_tree same_index same_node same_id before rect_test affine_test active_descendant? graft? bounds? transform? fields_ok
     same_link ids_of find present graft_at link_at parent_at holder subtree_state subtree_from subtree_of met_under children_met below below_id down root_of
     way_down through_grafts effective_focus or_active_descendant state_focus met_once recorded graft_is_bare sound_links grafts_differ grafted all_grafted
     root_first one_id_each sound_trees ascending way_ends sound_shape focus_present sound of_bits to_bits eq ask_number state_number list_number after id_words

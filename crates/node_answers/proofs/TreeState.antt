@@ -7,7 +7,8 @@ use Prim.Native.Nat.{ℕ, ◌≤◌, ◌<◌}
 use lib.Dec.{eqb, ltb}
 use lib.ListN.{length, get_elem?}
 use borrow.Author.Tests.{lt-ltb, le-ltb, eq-eqb, ne_eqb}
-use Rattle.base.specs.Tests.{if◌then◌else◌, position}
+use Rattle.std.specs.Prelude.{if◌then◌else◌}
+use Rattle.base.specs.Tests.{position}
 use Rattle.base.specs.Bytes.{list_of}
 use Rattle.base.specs.Search.{First}
 use Rattle.base.proofs.Bytes.{length_list_of, list_of_at, map_list_of}

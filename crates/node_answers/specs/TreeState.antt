@@ -1,9 +1,9 @@
 -- What a question about the state as a whole answers: its focus, ROOT's root, its trees and its counts. Document 01 has no rule for this but
 -- module 4's focus. A tree that is not there is answered with 0 and none: 22 speaks of nodes alone. Assumes nothing.
-use Rattle.std.specs.Prelude.{false, map, ltb, length}
+use Rattle.std.specs.Prelude.{false, map, ltb, length, if◌then◌else◌}
 use Rattle.std.proofs.Math.Option.{Option, none, some}
 use Rattle.std.proofs.Math.ListN.{get_elem?}
-use Rattle.base.specs.Tests.{if◌then◌else◌, position}
+use Rattle.base.specs.Tests.{position}
 use Rattle.ids.specs.Ids.{same_tree}
 use Rattle.ids.specs.declared.TreeId.{TreeId}
 use Rattle.ids.specs.declared.TreeIndex.{TreeIndex}

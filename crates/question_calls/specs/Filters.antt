@@ -1,8 +1,8 @@
 -- What is known of a node that is not hidden, what the clip test asks beside it, and what is told of a node by those above it. Assumes nothing.
-use Rattle.std.specs.Prelude.{Bool, true, false, ◌||◌, ◌≡◌, ℕ, ◌≤◌, ◌<◌}
+use Rattle.std.specs.Prelude.{Bool, true, false, ◌||◌, ◌≡◌, ℕ, ◌≤◌, ◌<◌, if◌then◌else◌}
 use mathlib.Core.List.{List, head?}
 use Rattle.std.proofs.Math.Option.{none, some}
-use Rattle.base.specs.Tests.{◌&&◌, if◌then◌else◌, same_option}
+use Rattle.base.specs.Tests.{◌and◌, same_option}
 use Rattle.ids.specs.Ids.{same_id}
 use Rattle.ids.specs.declared.FullNodeId.{FullNodeId}
 use Rattle.geometry_box.specs.declared.BoundingBox.{BoundingBox}
@@ -72,7 +72,7 @@ excepted_filter excepted = if excepted then WithRootException else Common
 
 -- whether a node that `common_filter` says this of is included, ROOT's root being excepted or not
 unfoldable pub is_kept : Forest → Bool → FilterResult → FullNodeId → Bool
-is_kept f excepted result x = is_include result || (excepted && same_option same_id (root_of f) (some x))
+is_kept f excepted result x = is_include result || (excepted and same_option same_id (root_of f) (some x))
 
 -- the node's children stand in its place
 unfoldable pub is_exclude_node : FilterResult → Bool

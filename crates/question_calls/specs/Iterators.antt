@@ -1,7 +1,6 @@
 -- What the questions of module 8 answer: lists of ids in the lent slice, and single nodes. Assumes nothing.
-use Rattle.std.specs.Prelude.{List, ◌≡◌, ℕ, ltb, length}
+use Rattle.std.specs.Prelude.{List, ◌≡◌, ℕ, ltb, length, if◌then◌else◌}
 use Rattle.std.proofs.Math.Option.{Option}
-use Rattle.base.specs.Tests.{if◌then◌else◌}
 use Rattle.ids.specs.Ids.{id_words}
 use Rattle.ids.specs.declared.FullNodeId.{FullNodeId}
 use Rattle.state.specs.State.{Forest, State}

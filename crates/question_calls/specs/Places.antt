@@ -1,7 +1,6 @@
 -- What a walk meets from where it stands. Assumes nothing.
-use Rattle.std.specs.Prelude.{List, [], ◌∷◌, ℕ, suc, ltb}
+use Rattle.std.specs.Prelude.{List, [], ◌∷◌, ℕ, suc, ltb, if◌then◌else◌}
 use Rattle.std.proofs.Math.Option.{none, some}
-use Rattle.base.specs.Tests.{if◌then◌else◌}
 use Rattle.ids.specs.declared.FullNodeId.{FullNodeId}
 use Rattle.state_array.specs.Layout.{SLOTS}
 use Rattle.state_array.specs.View.{view}

@@ -1,8 +1,8 @@
 -- What the filters ask of a node by its slot, and what is found above it and beside it. Assumes nothing.
-use Rattle.std.specs.Prelude.{Bool, true, false, ◌≡◌, ℕ, length}
+use Rattle.std.specs.Prelude.{Bool, true, false, ◌≡◌, ℕ, length, if◌then◌else◌}
 use mathlib.Core.List.{List, [], ◌∷◌, ◌++◌, flat_map}
 use Rattle.std.proofs.Math.Option.{Option, none, some}
-use Rattle.base.specs.Tests.{if◌then◌else◌, first_given}
+use Rattle.base.specs.Tests.{first_given}
 use Rattle.ids.specs.declared.FullNodeId.{FullNodeId}
 use Rattle.state.specs.State.{Forest}
 use Rattle.state_array.specs.View.{view}

@@ -1,8 +1,7 @@
 -- What the functions over slots find under a filter. Assumes nothing.
-use Rattle.std.specs.Prelude.{Bool, ◌≡◌, ℕ, length}
+use Rattle.std.specs.Prelude.{Bool, ◌≡◌, ℕ, length, if◌then◌else◌}
 use mathlib.Core.List.{List, ◌++◌, flat_map}
 use Rattle.std.proofs.Math.Option.{Option}
-use Rattle.base.specs.Tests.{if◌then◌else◌}
 use Rattle.ids.specs.declared.FullNodeId.{FullNodeId}
 use Rattle.state.specs.State.{Forest}
 use Rattle.state_array.specs.View.{view}

@@ -1,7 +1,6 @@
 -- A node of the state in memory by its slot. Assumes nothing.
-use Rattle.std.specs.Prelude.{true, List, ◌≡◌, ℕ, ◌<◌, ltb}
+use Rattle.std.specs.Prelude.{true, List, ◌≡◌, ℕ, ◌<◌, ltb, if◌then◌else◌}
 use Rattle.std.proofs.Math.Option.{Option, none, some}
-use Rattle.base.specs.Tests.{if◌then◌else◌}
 use Rattle.ids.specs.declared.FullNodeId.{FullNodeId}
 use Rattle.state.specs.State.{Forest}
 use Rattle.state.specs.Sound.{sound}

@@ -1,7 +1,6 @@
 -- One call of a kept walk, as the code has it. Assumes nothing.
-use Rattle.std.specs.Prelude.{List, ◌≡◌, ℕ, ◌<◌, eqb, ltb}
+use Rattle.std.specs.Prelude.{List, ◌≡◌, ℕ, ◌<◌, eqb, ltb, if◌then◌else◌}
 use Rattle.std.proofs.Math.ListN.{get_elem?}
-use Rattle.base.specs.Tests.{if◌then◌else◌}
 use Rattle.state_array.specs.View.{id_in, view}
 use Rattle.state_focus.specs.declared.FoundNode.{FoundNode}
 use Rattle.state_focus.specs.Focus.{found_of}

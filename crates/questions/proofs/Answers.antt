@@ -10,7 +10,7 @@ use lib.Dec.{ltb}
 use lib.ListN.{length, get_or, take, drop, set, length-append, length-drop}
 use lib.Seq.{length-take-le, take-length, take-suc, drop-cons, append_snoc, set_at}
 use borrow.Author.Tests.{lt-ltb, le-ltb}
-use Rattle.base.specs.Tests.{◌&&◌}
+use Rattle.base.specs.Tests.{◌and◌}
 use Rattle.base.specs.Tables.{row, first}
 use Rattle.base.specs.Bytes.{list_of}
 use Rattle.base.proofs.Bytes.{length_list_of, list_of_more}
@@ -42,7 +42,7 @@ module _ (s : Forest) where
 
     module _ (e : ask_number s x ≡ 0) where
       number_left : list_number s x room wanted ≡ first (row 21 (ltb room wanted) ∷ [])
-      unfolding ask_number list_number ◌&&◌
+      unfolding ask_number list_number ◌and◌
       number_left = first_append_none (row 1 (not (sound s)) ∷ row 22 (not (present s.nodes x)) ∷ []) (row 21 (ltb room wanted) ∷ []) refl e
 
       -- the slice is too short

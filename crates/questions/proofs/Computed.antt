@@ -2,7 +2,7 @@
 -- Assumes nothing.
 use mathlib.Core.List.{flat_map}
 use lib.Ieee.{neg, add, sub, mul, lt, eq, of_bits, to_bits, of_int}
-use Rattle.base.specs.Tests.{◌&&◌}
+use Rattle.base.specs.Tests.{◌and◌}
 use Rattle.base.specs.Floats.{zero_bytes}
 use Rattle.ids.specs.Ids.{same_tree, same_index, same_node, same_id, before}
 use Rattle.geometry.specs.Geometry.{rect_test, affine_test}
@@ -25,7 +25,7 @@ use Rattle.questions.specs.Filters.{with_root_exception, filter_of}
 use Rattle.questions.specs.ExampleQuestions.{answer}
 
 unfoldable pub computed : Unit {0}
-unfolding flat_map neg add sub mul lt eq of_bits to_bits of_int ◌&&◌ zero_bytes same_tree same_index same_node same_id before rect_test affine_test linear
+unfolding flat_map neg add sub mul lt eq of_bits to_bits of_int ◌and◌ zero_bytes same_tree same_index same_node same_id before rect_test affine_test linear
     shifted image identity product chain least greatest with_plus_zero least_of greatest_of box_of_points way_of_linear way_of_shifted way_of_image way_of_product
     way_of_corners way box_under cut_at_zero overlap is_empty apart meet active_descendant? graft? bounds? transform? fields_ok same_link find present graft_at
     link_at parent_at holder subtree_state subtree_from subtree_of met_under children_met below below_id down root_of way_down through_grafts effective_focus
@@ -37,6 +37,6 @@ unfolding flat_map neg add sub mul lt eq of_bits to_bits of_int ◌&&◌ zero_by
 computed = tt
 
 -- one fact, and the others
-infixr 30 ◌and◌
-pub ◌and◌ : {A B : Type 0} → A → B → A × B
-x and xs = (x, xs)
+infixr 30 ◌also◌
+pub ◌also◌ : {A B : Type 0} → A → B → A × B
+x also xs = (x, xs)

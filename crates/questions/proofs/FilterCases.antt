@@ -6,7 +6,7 @@ use Rattle.questions.specs.FilterCases.{buttons_filtered, own_active_descendant,
 use Rattle.questions.specs.FilterCases.{text_run_with_child, roots_of_panes, active_descendant, absent_active_descendant, active_descendant_in_pane}
 use Rattle.questions.specs.FilterCases.{active_descendant_is_graft, below_clipped, no_boxes, neighbours, nested_neighbour, neighbour_above}
 use Rattle.questions.specs.FilterCases.{clipped_through_container, clipped_pane, no_width, not_aNumber, focus_outside, filter_cases}
-use Rattle.questions.proofs.Computed.{computed, ◌and◌}
+use Rattle.questions.proofs.Computed.{computed, ◌also◌}
 
 buttons_filtered_right : Right buttons_filtered
 unfolding computed buttons_filtered
@@ -98,8 +98,8 @@ focus_outside_right = (refl, (refl, (refl, tt)))
 
 pub filter_cases_lem : AllRight filter_cases
 filter_cases_lem =
-    buttons_filtered_right and own_active_descendant_right and hidden_focus_right and host_focus_lost_right and focus_in_hidden_right
-    and hidden_root_right and text_run_with_child_right and roots_of_panes_right and active_descendant_right and absent_active_descendant_right
-    and active_descendant_in_pane_right and active_descendant_is_graft_right and below_clipped_right and no_boxes_right and neighbours_right
-    and nested_neighbour_right and neighbour_above_right and clipped_through_container_right and clipped_pane_right and no_width_right
-    and not_a_number_right and focus_outside_right and tt
+    buttons_filtered_right also own_active_descendant_right also hidden_focus_right also host_focus_lost_right also focus_in_hidden_right
+    also hidden_root_right also text_run_with_child_right also roots_of_panes_right also active_descendant_right also absent_active_descendant_right
+    also active_descendant_in_pane_right also active_descendant_is_graft_right also below_clipped_right also no_boxes_right also neighbours_right
+    also nested_neighbour_right also neighbour_above_right also clipped_through_container_right also clipped_pane_right also no_width_right
+    also not_a_number_right also focus_outside_right also tt

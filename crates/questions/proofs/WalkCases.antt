@@ -4,7 +4,7 @@ use mathlib.Core.Path.{refl}
 use Rattle.questions.specs.ExampleQuestions.{Right, AllRight}
 use Rattle.questions.specs.WalkCases.{both_buttons, three_deep, climbing_two_levels, no_included_ancestor, no_filtered_child, dropped_subtree}
 use Rattle.questions.specs.WalkCases.{included_parent, panes_in_panes, deepest, walks_below_clipped, walk_cases}
-use Rattle.questions.proofs.Computed.{computed, ◌and◌}
+use Rattle.questions.proofs.Computed.{computed, ◌also◌}
 
 both_buttons_right : Right both_buttons
 unfolding computed both_buttons
@@ -48,5 +48,5 @@ walks_below_clipped_right = (refl, (refl, (refl, (refl, (refl, (refl, (refl, (re
 
 pub walk_cases_lem : AllRight walk_cases
 walk_cases_lem =
-    both_buttons_right and three_deep_right and climbing_two_levels_right and no_included_ancestor_right and no_filtered_child_right
-    and dropped_subtree_right and included_parent_right and panes_in_panes_right and deepest_right and walks_below_clipped_right and tt
+    both_buttons_right also three_deep_right also climbing_two_levels_right also no_included_ancestor_right also no_filtered_child_right
+    also dropped_subtree_right also included_parent_right also panes_in_panes_right also deepest_right also walks_below_clipped_right also tt

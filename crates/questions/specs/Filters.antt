@@ -1,8 +1,8 @@
 -- Module 7, the three filters, in the order of src/filters.rs: document 01, "Filter and walks". Assumes nothing.
-use Rattle.std.specs.Prelude.{Bool, true, false, not, ◌||◌, ℕ, eqb}
+use Rattle.std.specs.Prelude.{Bool, true, false, not, ◌||◌, ℕ, eqb, if◌then◌else◌}
 use mathlib.Core.List.{List, [], ◌∷◌, head?}
 use Rattle.std.proofs.Math.Option.{Option, none, some}
-use Rattle.base.specs.Tests.{◌&&◌, if◌then◌else◌, is_some, same_option}
+use Rattle.base.specs.Tests.{◌and◌, is_some, same_option}
 use Rattle.ids.specs.Ids.{same_id}
 use Rattle.ids.specs.declared.FullNodeId.{FullNodeId}
 use Rattle.geometry_box.specs.Boxes.{apart, meet}
@@ -102,8 +102,8 @@ neighbour_inside side s p x =
 unfoldable pub clipped_by : Seen → FullNodeId → FullNodeId → Bool
 clipped_by s p x =
     clips_at s.forest p
-    && apart (bounding_box s.forest x) (bounding_box s.forest p)
-    && not (neighbour_inside Following s p x || neighbour_inside Preceding s p x)
+    and apart (bounding_box s.forest x) (bounding_box s.forest p)
+    and not (neighbour_inside Following s p x || neighbour_inside Preceding s p x)
 
 -- so with its filtered parent
 unfoldable pub is_clipped : Seen → FullNodeId → Bool

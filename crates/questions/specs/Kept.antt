@@ -2,7 +2,7 @@
 use Rattle.std.specs.Prelude.{not, List, [], ◌∷◌, ℕ, zero, suc}
 use Rattle.std.proofs.Math.Option.{Option, none, some}
 use Rattle.std.proofs.Math.ListN.{get_elem?}
-use Rattle.base.specs.Tests.{◌&&◌, is_some}
+use Rattle.base.specs.Tests.{◌and◌, is_some}
 use Rattle.base.specs.Tables.{row, first}
 use Rattle.ids.specs.declared.FullNodeId.{FullNodeId}
 use Rattle.state.specs.State.{Forest, State, present}
@@ -53,7 +53,7 @@ unfoldable pub walk_number : Forest → Walk → ℕ
 walk_number s w =
     first (
     row 1 (not (sound s))
-    ∷ row 2 (not (is_some (side_of w.side) && is_some (filter_choice w.filter)))
+    ∷ row 2 (not (is_some (side_of w.side) and is_some (filter_choice w.filter)))
     ∷ row 22 (not (present s.nodes w.node))
     ∷ []
     )

@@ -1,9 +1,9 @@
 -- Module 8, lists of children and siblings under a filter, and module 6's filtered parent and deepest filtered child: document 01, "Filter and walks".
 -- The filter is a parameter: what it says of each node. Assumes nothing.
-use Rattle.std.specs.Prelude.{Bool, true, false, not, ℕ, zero, suc, length}
+use Rattle.std.specs.Prelude.{Bool, true, false, not, ℕ, zero, suc, length, if◌then◌else◌}
 use mathlib.Core.List.{List, [], ◌∷◌, reverse, flat_map, head?}
 use Rattle.std.proofs.Math.Option.{Option, none, some}
-use Rattle.base.specs.Tests.{if◌then◌else◌, is_nil, first_given}
+use Rattle.base.specs.Tests.{is_nil, first_given}
 use Rattle.ids.specs.declared.FullNodeId.{FullNodeId}
 use Rattle.state.specs.State.{Forest}
 use Rattle.questions.specs.declared.Side.{Side}

@@ -10,7 +10,8 @@ use native.Mathlib.Omega.{arith}
 use lib.Dec.{leb}
 use lib.ListN.{length}
 use borrow.Author.Tests.{ltb-true, leb-true, leb-false}
-use Rattle.base.specs.Tests.{◌&&◌, if◌then◌else◌, is_nil, all, keep, has, same_option}
+use Rattle.std.specs.Prelude.{if◌then◌else◌}
+use Rattle.base.specs.Tests.{◌and◌, is_nil, all, keep, has, same_option}
 use Rattle.base.proofs.Cases.{by_test, by_option}
 use Rattle.base.proofs.Tests.{both, joined, not_true, clash, refuted, same_option→≡}
 use Rattle.base.proofs.Lists.{some_from, has_map}
@@ -152,12 +153,12 @@ module _ (s : Forest) where
   topmost_says (suc room) x =
       by_option (parent_at s.nodes x)
       (λ q. rw (q, topmost_within) (record { steps = 0; above = there; records = q; last = λ p e. absurd (none-ne-some p e) }))
-      (λ p q. rw (q, topmost_within) (pick p q (present s.nodes p && is_nil (met_links s (reached s) p)) refl (topmost_says room p)))
+      (λ p q. rw (q, topmost_within) (pick p q (present s.nodes p and is_nil (met_links s (reached s) p)) refl (topmost_says room p)))
     where
-      unmet_test : (p y : FullNodeId) → p ≡ y → Unmet s y → present s.nodes p && is_nil (met_links s (reached s) p) ≡ true
+      unmet_test : (p y : FullNodeId) → p ≡ y → Unmet s y → present s.nodes p and is_nil (met_links s (reached s) p) ≡ true
       unmet_test p y e h = joined (ap (present s.nodes) e ∙ h.0) (ap (λ z. is_nil (met_links s (reached s) z)) e ∙ ap is_nil h.1)
 
-      pick : (p : FullNodeId) → parent_at s.nodes x ≡ some p → (c : Bool) → present s.nodes p && is_nil (met_links s (reached s) p) ≡ c
+      pick : (p : FullNodeId) → parent_at s.nodes x ≡ some p → (c : Bool) → present s.nodes p and is_nil (met_links s (reached s) p) ≡ c
           → Within room p (topmost_within room s (reached s) p)
           → Within (suc room) x (if c then topmost_within room s (reached s) p else some (record { node = x; by = some p }))
       pick p q true t above =

@@ -7,7 +7,7 @@ use mathlib.Core.Path.{◌≡◌, refl, sym, ap, ◌∙◌, subst}
 use Prim.Native.Nat.{ℕ, suc, ◌≤◌, ◌<◌}
 use native.Mathlib.Omega.{arith}
 use lib.ListN.{length, length-map}
-use Rattle.base.specs.Tests.{◌&&◌, keep, has, distinct}
+use Rattle.base.specs.Tests.{◌and◌, keep, has, distinct}
 use Rattle.base.proofs.Cases.{by_test}
 use Rattle.base.proofs.Tests.{both, joined, not_true, or_false}
 use Rattle.ids.specs.Ids.{same_id}
@@ -64,7 +64,7 @@ twice [] e = absurd (true≢false e)
 twice (x ∷ xs) e =
     by_test (has same_id xs x)
     (λ t. let m = member_at (has_member xs x t) in (x, 0, suc m.0, omega arith, at_head refl, at_tail m.1))
-    (λ t. let z = twice xs (unfold ◌&&◌ in (rw t at e)) in (z.0, suc z.1, suc z.2, omega (arith, z.3), at_tail z.4, at_tail z.5))
+    (λ t. let z = twice xs (unfold ◌and◌ in (rw t at e)) in (z.0, suc z.1, suc z.2, omega (arith, z.3), at_tail z.4, at_tail z.5))
 
 -- ## The nodes on a way up
 

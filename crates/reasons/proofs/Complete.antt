@@ -10,7 +10,8 @@ use native.Mathlib.Omega.{arith}
 use lib.Dec.{leb}
 use lib.ListN.{length}
 use borrow.Author.Tests.{eq-eqb, leb-true, le-leb}
-use Rattle.base.specs.Tests.{if◌then◌else◌, is_none, all, has, same_option}
+use Rattle.std.specs.Prelude.{if◌then◌else◌}
+use Rattle.base.specs.Tests.{is_none, all, has, same_option}
 use Rattle.base.proofs.Cases.{by_test, by_option}
 use Rattle.base.proofs.Tests.{joined, clash, iff, not_false, all_member}
 use Rattle.base.proofs.Lists.{none_of, all_of}

@@ -4,7 +4,7 @@ use mathlib.Core.List.{List, [], ◌∷◌}
 use mathlib.Core.Option.{Option, some}
 use mathlib.Core.Path.{◌≡◌, refl, ◌∙◌}
 use Prim.Native.Nat.{ℕ, suc}
-use Rattle.base.specs.Tests.{◌&&◌, is_some, any, same_option, has, given}
+use Rattle.base.specs.Tests.{◌and◌, is_some, any, same_option, has, given}
 use Rattle.base.proofs.Cases.{by_option}
 use Rattle.base.proofs.Lists.{first_given_some}
 use Rattle.ids.specs.Ids.{same_tree}
@@ -28,7 +28,7 @@ holder_some ns t = first_given_some (λ n. same_option same_tree (graft? n.body)
 
 -- two of the nodes graft one tree
 pub grafts_some : (k : ℕ) (ns : List NodeState) → is_some (graft_twice_from k ns) ≡ not (grafts_differ ns)
-unfolding graft_twice_from grafts_differ ◌&&◌
+unfolding graft_twice_from grafts_differ ◌and◌
 grafts_some k [] = refl
 grafts_some k (n ∷ ns) =
     let rest = grafts_some (suc k) ns in

@@ -10,7 +10,8 @@ use native.Mathlib.Nat.{zero-add, suc-add}
 use native.Mathlib.Omega.{arith}
 use lib.ListN.{length}
 use borrow.Author.Tests.{eqb-true, eq-eqb}
-use Rattle.base.specs.Tests.{◌&&◌, if◌then◌else◌, any, all, keep, count, has, same_option}
+use Rattle.std.specs.Prelude.{if◌then◌else◌}
+use Rattle.base.specs.Tests.{◌and◌, any, all, keep, count, has, same_option}
 use Rattle.base.proofs.Cases.{by_test, by_option}
 use Rattle.base.proofs.Tests.{both, joined, clash, refuted, all_member, or_right, has_keep}
 use Rattle.base.proofs.Lists.{has_map, any_of, any_found}
@@ -185,7 +186,7 @@ wider_below s xs x e n i q {l} j =
     has_keep same_id same_id→≡ _ (ids_of s.nodes) x
     ∙ joined (sym (present_has s.nodes x) ∙ e)
     (or_right (has same_id xs x)
-    (any_of (λ n. has same_id xs n.id && has same_id (map (λ m. m.id) (below s n)) x) s.nodes n i
+    (any_of (λ n. has same_id xs n.id and has same_id (map (λ m. m.id) (below s n)) x) s.nodes n i
     (joined q (has_map same_id same_id_refl (λ (m : Met). m.id) (below s n) (record { id = x; link = l }) j))))
 
 -- what is reached then was so, or stands below a node that was
@@ -194,12 +195,12 @@ pub wider_cases : (s : Forest) (xs : List FullNodeId) (x : FullNodeId) → has s
     ⊎ ((n : NodeState) × Memᴰ n s.nodes × (m : Met) × Memᴰ m (below s n) × (m.id ≡ x) × (has same_id xs n.id ≡ true))
 unfolding wider ids_below
 wider_cases s xs x e =
-    let test : FullNodeId → Bool = λ y. has same_id xs y || any (λ n. has same_id xs n.id && has same_id (ids_below s n) y) s.nodes in
+    let test : FullNodeId → Bool = λ y. has same_id xs y || any (λ n. has same_id xs n.id and has same_id (ids_below s n) y) s.nodes in
     let passes : test x ≡ true = (both (sym (has_keep same_id same_id→≡ test (ids_of s.nodes) x) ∙ e)).1 in
     by_test (has same_id xs x) (λ t. inl t) (λ t. inr
-    (above (any_found (λ n. has same_id xs n.id && has same_id (ids_below s n) x) s.nodes (rw t at passes))))
+    (above (any_found (λ n. has same_id xs n.id and has same_id (ids_below s n) x) s.nodes (rw t at passes))))
   where
-    above : (n : NodeState) × Memᴰ n s.nodes × (has same_id xs n.id && has same_id (ids_below s n) x ≡ true)
+    above : (n : NodeState) × Memᴰ n s.nodes × (has same_id xs n.id and has same_id (ids_below s n) x ≡ true)
         → (n : NodeState) × Memᴰ n s.nodes × (m : Met) × Memᴰ m (below s n) × (m.id ≡ x) × (has same_id xs n.id ≡ true)
     above z =
         let known = both z.2 in

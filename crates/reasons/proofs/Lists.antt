@@ -7,7 +7,7 @@ use mathlib.Core.Path.{◌≡◌, refl, sym, ap, ◌∙◌}
 use Prim.Native.Nat.{ℕ, suc, ◌+◌, ◌≤◌}
 use native.Mathlib.Omega.{arith}
 use lib.ListN.{length}
-use Rattle.base.specs.Tests.{◌&&◌, is_nil, all, keep, count, has}
+use Rattle.base.specs.Tests.{◌and◌, is_nil, all, keep, count, has}
 use Rattle.base.proofs.Cases.{by_test}
 use Rattle.base.proofs.Tests.{clash, refuted, all_member}
 use Rattle.base.proofs.Lists.{any_of, any_found}
@@ -30,7 +30,7 @@ keep_passes p (y ∷ ys) x i =
 pub some_fails : {A : Type 0} (p : A → Bool) (xs : List A) → all p xs ≡ false → (x : A) × Memᴰ x xs × (p x ≡ false)
 some_fails p [] e = absurd (true≢false e)
 some_fails p (x ∷ xs) e =
-    by_test (p x) (λ t. let z = some_fails p xs (unfold ◌&&◌ in (rw t at e)) in (z.0, Memᴰ.tail z.1, z.2)) (λ t. (x, Memᴰ.head refl, t))
+    by_test (p x) (λ t. let z = some_fails p xs (unfold ◌and◌ in (rw t at e)) in (z.0, Memᴰ.tail z.1, z.2)) (λ t. (x, Memᴰ.head refl, t))
 
 -- a list that is empty by the test is empty
 pub nil_of : {A : Type 0} {xs : List A} → is_nil xs ≡ true → xs ≡ []

@@ -10,7 +10,8 @@ use native.Mathlib.Omega.{arith}
 use lib.Dec.{leb}
 use lib.ListN.{length}
 use borrow.Author.Tests.{lt-ltb, lt-leb, le-leb}
-use Rattle.base.specs.Tests.{if◌then◌else◌, is_some, all, has, first_given}
+use Rattle.std.specs.Prelude.{if◌then◌else◌}
+use Rattle.base.specs.Tests.{is_some, all, has, first_given}
 use Rattle.base.proofs.Cases.{by_test, by_option, by_order}
 use Rattle.base.proofs.Tests.{clash, refuted, all_member, or_right}
 use Rattle.base.proofs.Lists.{has_given}

@@ -9,7 +9,8 @@ use Prim.Native.Nat.{ℕ, suc, ◌≤◌}
 use native.Mathlib.Omega.{arith}
 use lib.ListN.{length}
 use borrow.Author.Tests.{leb-false}
-use Rattle.base.specs.Tests.{if◌then◌else◌, is_some, all, keep, has, distinct, same_option}
+use Rattle.std.specs.Prelude.{if◌then◌else◌}
+use Rattle.base.specs.Tests.{is_some, all, keep, has, distinct, same_option}
 use Rattle.base.proofs.Cases.{by_test, by_option}
 use Rattle.base.proofs.Tests.{joined, clash, refuted, not_false, or_false}
 use Rattle.base.proofs.Lists.{all_of, any_found}

@@ -1,8 +1,8 @@
 -- Numbers 1 and 19: the first rule of a sound state that a forest breaks. The rules for links come in the order of request #101, the others in
 -- document 01's. Assumes nothing.
-use Rattle.std.specs.Prelude.{Bool, not, ◌||◌, List, [], ◌∷◌, ◌++◌, map, ℕ, zero, suc, ltb, leb, length}
+use Rattle.std.specs.Prelude.{Bool, not, ◌||◌, List, [], ◌∷◌, ◌++◌, map, ℕ, zero, suc, ltb, leb, length, if◌then◌else◌}
 use Rattle.std.proofs.Math.Option.{Option, none, some}
-use Rattle.base.specs.Tests.{◌&&◌, if◌then◌else◌, is_nil, any, all, keep, same_option, has, first_given}
+use Rattle.base.specs.Tests.{◌and◌, is_nil, any, all, keep, same_option, has, first_given}
 use Rattle.ids.specs.Ids.{same_tree, same_id, before}
 use Rattle.ids.specs.declared.TreeId.{TreeId}
 use Rattle.ids.specs.declared.FullNodeId.{FullNodeId}
@@ -43,7 +43,7 @@ ids_below s n = map (λ m. m.id) (below s n)
 -- one step further: the present nodes that are among xs, or stand below one that is
 unfoldable pub wider : Forest → List FullNodeId → List FullNodeId
 wider s xs =
-    keep (λ x. has same_id xs x || any (λ n. has same_id xs n.id && has same_id (ids_below s n) x) s.nodes) (ids_of s.nodes)
+    keep (λ x. has same_id xs x || any (λ n. has same_id xs n.id and has same_id (ids_below s n) x) s.nodes) (ids_of s.nodes)
 
 -- so many steps
 unfoldable pub widened : ℕ → Forest → List FullNodeId → List FullNodeId
@@ -102,7 +102,7 @@ topmost_within (suc room) s xs x =
       | none ↦ some (record { node = x; by = none })
       | some p ↦
           let above = topmost_within room s xs p in
-          if present s.nodes p && is_nil (met_links s xs p) then above else some (record { node = x; by = some p })
+          if present s.nodes p and is_nil (met_links s xs p) then above else some (record { node = x; by = some p })
     ]
 
 -- the first node that is never met

@@ -1,7 +1,7 @@
 -- The one claim over the worked reasons. antt computes each. Assumes nothing.
 use mathlib.Core.Path.{◌≡◌, refl}
 use lib.Ieee.{of_bits, to_bits, eq}
-use Rattle.base.specs.Tests.{◌&&◌}
+use Rattle.base.specs.Tests.{◌and◌}
 use Rattle.base.specs.Tables.{first}
 use Rattle.base.specs.Bytes.{little_endian, le, bytes_of, all_below, zeros, list_of, sum_of}
 use Rattle.base.specs.Floats.{zero_bytes, same_value}
@@ -45,7 +45,7 @@ Right c = c.got ≡ c.says
 
 -- `unfolding computed` unfolds every definition
 computed : Unit {0}
-unfolding parent_of of_bits to_bits eq ◌&&◌ first little_endian le bytes_of all_below zeros list_of sum_of zero_bytes same_value same_tree same_index same_node
+unfolding parent_of of_bits to_bits eq ◌and◌ first little_endian le bytes_of all_below zeros list_of sum_of zero_bytes same_value same_tree same_index same_node
     same_id before rect_test affine_test same_rect same_affine active_descendant? graft? bounds? transform? fields_ok same_data listed_ids named_ids header_ok
     children_before labels_before record_ok well_formed parse record_bytes records_bytes entry_bytes labels header_bytes encode same_link find present graft_at
     link_at parent_at holder subtree_state subtree_from subtree_of met_under children_met below below_id down root_of way_down climb through_grafts

@@ -9,7 +9,8 @@ use mathlib.Core.Path.{◌≡◌, refl, sym, ap, ◌∙◌, subst}
 use Prim.Native.Nat.{ℕ}
 use native.Mathlib.Omega.{arith}
 use borrow.Author.Tests.{eqb-true}
-use Rattle.base.specs.Tests.{◌&&◌, if◌then◌else◌, is_some, is_nil, any, has, same_option, distinct, given}
+use Rattle.std.specs.Prelude.{if◌then◌else◌}
+use Rattle.base.specs.Tests.{◌and◌, is_some, is_nil, any, has, same_option, distinct, given}
 use Rattle.base.specs.Bytes.{bit}
 use Rattle.base.proofs.Cases.{by_test, by_option}
 use Rattle.base.proofs.Tests.{both, clash, same_option→≡, one_of, or_false, and_false}
@@ -76,7 +77,7 @@ module _ (s : Forest) (b : Batch) where
   unfolding placing second_claim
   placing_none placed l e t q =
       let past = none_if (same_option same_tree (claim s b l) (some ROOT)) _ _
-      (none_if (is_some (graft? l.body) && not (is_nil l.body.children)) _ _ e).1 in
+      (none_if (is_some (graft? l.body) and not (is_nil l.body.children)) _ _ e).1 in
       sym (claimer_some s b placed t)
       ∙ ap is_some (none_made (λ k. claimed_twice t (here s b k.id) (here s b l.id)) (claimer_among s b placed t) (rw (q, second_claim) at past.1))
 
@@ -125,7 +126,7 @@ module _ (s : Forest) (b : Batch) where
   -- a listed node claims a tree where its claim is one
   claims_listed : (x : FullNodeId) (d : NodeData) → mine s b x ≡ true → listing b.nodes x.node ≡ some d
       → claims s b x ≡ is_some (claim s b (record { id = x.node; body = d }))
-  unfolding claims listed ◌&&◌
+  unfolding claims listed ◌and◌
   claims_listed x d h l = rw (l, h, ← listing_some b.nodes x.node, l)
 
   claims_unlisted : (x : FullNodeId) → mine s b x ≡ true → listing b.nodes x.node ≡ none → claims s b x ≡ false
@@ -165,7 +166,7 @@ module _ (s : Forest) (b : Batch) where
       same_graft d (some n) = graft_renewed n.body d
 
       not_mine : mine s b x ≡ false → claims s b x ≡ false
-      not_mine h = unfold claims listed ◌&&◌ in (rw h)
+      not_mine h = unfold claims listed ◌and◌ in (rw h)
 
   role_of : ascending s.nodes ≡ true → distinct same_node (listed_ids b.nodes) ≡ true
       → (n : NodeState) → Memᴰ n (outcome s b).nodes → (t : TreeId) → graft? n.body ≡ some t → Role n.id t

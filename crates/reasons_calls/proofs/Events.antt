@@ -8,7 +8,8 @@ use mathlib.Core.Path.{◌≡◌, refl, sym, ap, subst, ◌∙◌}
 use Prim.Native.Nat.{ℕ}
 use native.Mathlib.Omega.{arith}
 use lib.Seq.{append_snoc}
-use Rattle.base.specs.Tests.{◌&&◌, if◌then◌else◌, is_some, any, has, distinct, first_given}
+use Rattle.std.specs.Prelude.{if◌then◌else◌}
+use Rattle.base.specs.Tests.{◌and◌, is_some, any, has, distinct, first_given}
 use Rattle.base.proofs.Cases.{by_test, by_option}
 use Rattle.base.proofs.Tests.{both, not_true, clash, refuted, or_right, or_false}
 use Rattle.base.proofs.Lists.{any_append}
@@ -155,7 +156,7 @@ module _ (s : Forest) (b : Batch) where
 
   -- so a node that is placed is listed and has a place
   pub placed_listed : (l : Listed) → Memᴰ (places l) (events s b [] b.nodes) → Memᴰ l b.nodes × (placeless s b l ≡ false)
-  unfolding placeless ◌&&◌
+  unfolding placeless ◌and◌
   placed_listed l i =
       let z = places_events [] b.nodes l i in
       (z.0, by_test (placed_at_turn s b l.id) (λ p. rw p) (λ p. rw (p, named_has s b l.id, rw p at z.1)))

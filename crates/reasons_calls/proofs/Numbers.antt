@@ -6,7 +6,7 @@ use mathlib.Core.Path.{◌≡◌, refl, sym, ap, ◌∙◌, subst}
 use Prim.Native.Nat.{ℕ, zero, suc, ◌<◌}
 use native.Mathlib.Omega.{arith}
 use lib.ListN.{length, get_or}
-use Rattle.base.specs.Tests.{◌&&◌, is_some, is_none, is_nil, any, all, same_option, has, distinct, given, first_given}
+use Rattle.base.specs.Tests.{◌and◌, is_some, is_none, is_nil, any, all, same_option, has, distinct, given, first_given}
 use Rattle.base.specs.Tables.{Row, row, found, first}
 use Rattle.base.proofs.Cases.{by_test, by_option}
 use Rattle.base.proofs.Tests.{not_not, and_assoc, and_false, is_some_if}
@@ -79,8 +79,8 @@ told_found (some r) n {rs} e rest = record { tells = rw (found_counts n rs (λ z
 
 -- none of xs is among some and x, where none is among these and x is not among xs
 apart : (earlier xs : List NodeId) (x : NodeId)
-    → all (λ y. not (has same_node (earlier ++ x ∷ []) y)) xs ≡ (all (λ y. not (has same_node earlier y)) xs && not (has same_node xs x))
-unfolding ◌&&◌
+    → all (λ y. not (has same_node (earlier ++ x ∷ []) y)) xs ≡ (all (λ y. not (has same_node earlier y)) xs and not (has same_node xs x))
+unfolding ◌and◌
 apart earlier [] x = refl
 apart earlier (y ∷ ys) x =
     rw (any_append (same_node y) earlier (x ∷ []), apart earlier ys x, same_node_sym y x)
@@ -90,8 +90,8 @@ apart earlier (y ∷ ys) x =
 module _ (s : Forest) (b : Batch) where
   -- row 5
   repeated : (earlier xs : List NodeId)
-      → is_none (repeated_after s b earlier xs) ≡ (all (λ x. not (has same_node earlier x)) xs && distinct same_node xs)
-  unfolding repeated_after ◌&&◌
+      → is_none (repeated_after s b earlier xs) ≡ (all (λ x. not (has same_node earlier x)) xs and distinct same_node xs)
+  unfolding repeated_after ◌and◌
   repeated earlier [] = refl
   repeated earlier (x ∷ xs) =
       by_test (has same_node earlier x) (λ e. rw e)
@@ -99,12 +99,12 @@ module _ (s : Forest) (b : Batch) where
       (and_assoc (all (λ y. not (has same_node earlier y)) xs) (not (has same_node xs x)) (distinct same_node xs))))
 
   pub repeated_some : is_some (repeated_after s b [] (listed_ids b.nodes)) ≡ not (distinct same_node (listed_ids b.nodes))
-  unfolding ◌&&◌
+  unfolding ◌and◌
   repeated_some =
       sym (not_not (is_some (repeated_after s b [] (listed_ids b.nodes))))
       ∙ ap not (repeated [] (listed_ids b.nodes) ∙ all_true (listed_ids b.nodes) (distinct same_node (listed_ids b.nodes)))
     where
-      all_true : (xs : List NodeId) (c : Bool) → (all (λ x. not (has same_node [] x)) xs && c) ≡ c
+      all_true : (xs : List NodeId) (c : Bool) → (all (λ x. not (has same_node [] x)) xs and c) ≡ c
       all_true [] c = refl
       all_true (x ∷ xs) c = all_true xs c
 
@@ -117,7 +117,7 @@ module _ (s : Forest) (b : Batch) where
   placing_tells : (placed : List Listed) (l : Listed) (o : Option Reason) (n : ℕ) → Tells o n
       → Tells (elim (placing s b placed l) [ some r ↦ some r | none ↦ o ])
       (first
-      (row 10 (is_some (graft? l.body) && not (is_nil l.body.children))
+      (row 10 (is_some (graft? l.body) and not (is_nil l.body.children))
       ∷ row 11 (has same_tree (given (claim s b) (l ∷ [])) ROOT)
       ∷ row 12 (any (has same_tree (given (claim s b) placed)) (given (claim s b) (l ∷ [])))
       ∷ found n
@@ -125,7 +125,7 @@ module _ (s : Forest) (b : Batch) where
   unfolding placing second_claim first number_of
   placing_tells placed l o n rest =
       let after : Tells o (first (found n ∷ [])) = rw (found_alone n) rest in
-      by_test (is_some (graft? l.body) && not (is_nil l.body.children)) (λ e. rw (e, placing) (refl, omega arith))
+      by_test (is_some (graft? l.body) and not (is_nil l.body.children)) (λ e. rw (e, placing) (refl, omega arith))
       (λ e. by_option (claim s b l) (λ q. rw (e, placing, q, second_claim, given) after)
       (λ t q. by_test (same_tree t ROOT) (λ f. rw (e, placing, q, same_tree_sym ROOT t, f, given) (refl, omega arith))
       (λ f. let some? = claimer_some placed t in

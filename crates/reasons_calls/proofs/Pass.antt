@@ -10,7 +10,7 @@ use native.Mathlib.Nat.{zero-add}
 use native.Mathlib.Omega.{arith}
 use lib.ListN.{length, length-append}
 use lib.Seq.{append_snoc}
-use Rattle.base.specs.Tests.{◌&&◌, is_some, is_nil, keep, count, same_option, has, distinct, position}
+use Rattle.base.specs.Tests.{◌and◌, is_some, is_nil, keep, count, same_option, has, distinct, position}
 use Rattle.base.proofs.Cases.{by_test, by_option, by_order}
 use Rattle.base.proofs.Tests.{both, not_true, clash, refuted, same_option→≡}
 use Rattle.base.proofs.Lists.{has_map, has_given, any_of}
@@ -202,7 +202,7 @@ module _ (s : Forest) (b : Batch) where
       → has same_node (listed_ids placed) l.id ≡ false → IfSome (OfBatch s b) (placing s b placed l)
   unfolding placing second_claim OfBatch
   placing_says n placed l now until before this new =
-      says_else (OfBatch s b) (is_some (graft? l.body) && not (is_nil l.body.children)) _ _
+      says_else (OfBatch s b) (is_some (graft? l.body) and not (is_nil l.body.children)) _ _
       (λ t. let z = both t in (l, this.0, refl, (this.1, z.0, not_true z.1)))
       (λ _. says_else (OfBatch s b) (same_option same_tree (claim s b l) (some ROOT)) _ _
       (λ t. (l, this.0, refl, (this.1, same_option→≡ same_tree same_tree→≡ (claim s b l) (some ROOT) t)))

@@ -3,7 +3,7 @@ use mathlib.Core.Bool.{Bool, true, false, not}
 use mathlib.Core.List.{List, ◌∷◌}
 use mathlib.Core.Option.{none, some}
 use mathlib.Core.Path.{◌≡◌}
-use Rattle.base.specs.Tests.{◌&&◌, is_some, is_nil, has, same_option, first_given}
+use Rattle.base.specs.Tests.{◌and◌, is_some, is_nil, has, same_option, first_given}
 use Rattle.ids.specs.Ids.{ROOT, same_tree, same_node}
 use Rattle.ids.specs.declared.TreeId.{TreeId}
 use Rattle.ids.specs.declared.NodeId.{NodeId}
@@ -16,7 +16,7 @@ use Rattle.reasons_calls.specs.Pass.{namers_of, claimer_among, second_claim, pla
 
 -- a graft node with children
 abbrev pub crowded : NodeData → Bool
-crowded d = is_some (graft? d) && not (is_nil d.children)
+crowded d = is_some (graft? d) and not (is_nil d.children)
 
 module _ (s : Forest) (b : Batch) where
   -- ## The node that claims a tree

@@ -8,7 +8,7 @@ use native.Mathlib.Omega.{arith}
 use lib.Dec.{ltb, leb}
 use lib.ListN.{length, get_or}
 use borrow.Author.Tests.{ltb-true}
-use Rattle.base.specs.Tests.{◌&&◌, is_some, is_none, any, all, distinct, first_given}
+use Rattle.base.specs.Tests.{◌and◌, is_some, is_none, any, all, distinct, first_given}
 use Rattle.base.specs.Bytes.{list_of}
 use Rattle.base.proofs.Cases.{by_test, by_option, by_order}
 use Rattle.base.proofs.Tests.{not_true, not_false}
@@ -147,11 +147,11 @@ module _ (s : Forest) (b : Batch) (before : Before s) where
   pub batch_true : IfSome (OfBatch s b) (batch_reason s b)
   unfolding batch_reason reasons_before_pass OfBatch
   batch_true =
-      let six = says_if (OfBatch s b) (with_tree_data s b && not (same_tree b.tree ROOT) && is_none (holder s.nodes b.tree))
+      let six = says_if (OfBatch s b) (with_tree_data s b and not (same_tree b.tree ROOT) and is_none (holder s.nodes b.tree))
       (notGrafted b.tree) (λ t. (refl, t)) in
-      let seven = says_if (OfBatch s b) (not (with_tree_data s b) && not (same_tree b.tree ROOT) && is_none (subtree_of s b.tree))
+      let seven = says_if (OfBatch s b) (not (with_tree_data s b) and not (same_tree b.tree ROOT) and is_none (subtree_of s b.tree))
       (notExisting b.tree) (λ t. (refl, t)) in
-      let eight = says_if (OfBatch s b) (not (known s b) && leb 32 (length s.trees)) (noNumberLeft b.tree) (λ t. (refl, t)) in
+      let eight = says_if (OfBatch s b) (not (known s b) and leb 32 (length s.trees)) (noNumberLeft b.tree) (λ t. (refl, t)) in
       says_each (OfBatch s b) (reasons_before_pass s b ++ pass_fault s b ∷ reasons_after_pass s b (outcome s b)) (
         repeated_true s b,
         λ five.

@@ -1,7 +1,7 @@
 -- What a call to explain answers: the reason of the first row that holds, in the order of document 01's table. Assumes nothing.
-use Rattle.std.specs.Prelude.{Bool, not, List, [], ◌∷◌, ◌++◌, ℕ, ltb, leb, length}
+use Rattle.std.specs.Prelude.{Bool, not, List, [], ◌∷◌, ◌++◌, ℕ, ltb, leb, length, if◌then◌else◌}
 use Rattle.std.proofs.Math.Option.{Option, none, some}
-use Rattle.base.specs.Tests.{◌&&◌, if◌then◌else◌, is_none}
+use Rattle.base.specs.Tests.{◌and◌, is_none}
 use Rattle.ids.specs.Ids.{ROOT, same_tree}
 use Rattle.record.specs.Batch.{Batch, listed_ids}
 use Rattle.record.specs.Parse.{parse}
@@ -26,9 +26,9 @@ reason_if test r = if test then some r else none
 unfoldable pub reasons_before_pass : Forest → Batch → List (Option Reason)
 reasons_before_pass s b =
     repeated_after s b [] (listed_ids b.nodes)
-    ∷ reason_if (with_tree_data s b && not (same_tree b.tree ROOT) && is_none (holder s.nodes b.tree)) (notGrafted b.tree)
-    ∷ reason_if (not (with_tree_data s b) && not (same_tree b.tree ROOT) && is_none (subtree_of s b.tree)) (notExisting b.tree)
-    ∷ reason_if (not (known s b) && leb 32 (length s.trees)) (noNumberLeft b.tree)
+    ∷ reason_if (with_tree_data s b and not (same_tree b.tree ROOT) and is_none (holder s.nodes b.tree)) (notGrafted b.tree)
+    ∷ reason_if (not (with_tree_data s b) and not (same_tree b.tree ROOT) and is_none (subtree_of s b.tree)) (notExisting b.tree)
+    ∷ reason_if (not (known s b) and leb 32 (length s.trees)) (noNumberLeft b.tree)
     ∷ []
 
 -- 13 to 20; o is the outcome

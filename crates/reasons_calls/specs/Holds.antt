@@ -1,10 +1,10 @@
 -- What a reason says: for each row of document 01's table the fact that makes it hold; for a broken rule of a state see reasons/Breaks. Every
 -- reason that a call gets holds: proofs/Truth. Two that hold have one number and agree in what they say of one node, child, tree or rule:
 -- proofs/Only. Assumes nothing.
-use Rattle.std.specs.Prelude.{Bool, true, false, not, ◌≡◌, ℕ, zero, suc, ◌≤◌, ◌<◌, leb, length}
+use Rattle.std.specs.Prelude.{Bool, true, false, not, ◌≡◌, ℕ, zero, suc, ◌≤◌, ◌<◌, leb, length, if◌then◌else◌}
 use mathlib.Core.List.{List, [], ◌∷◌, Memᴰ}
 use Rattle.std.proofs.Math.Option.{Option, none, some}
-use Rattle.base.specs.Tests.{◌&&◌, if◌then◌else◌, is_some, is_none, is_nil, count}
+use Rattle.base.specs.Tests.{◌and◌, is_some, is_none, is_nil, count}
 use Rattle.ids.specs.Ids.{ROOT, same_tree, same_node, same_id}
 use Rattle.ids.specs.declared.TreeId.{TreeId}
 use Rattle.ids.specs.declared.NodeId.{NodeId}
@@ -88,11 +88,11 @@ OfBatch s b (listed_twice x i j) =
     (n : NodeId) × (here s b n ≡ x) × (i < j) × At n (listed_ids b.nodes) i × At n (listed_ids b.nodes) j
     × ((m : NodeId) (k l : ℕ) → At m (listed_ids b.nodes) k → At m (listed_ids b.nodes) l → k < l → l < j → ⊥)
 -- 6: tree data for a tree other than ROOT that no node grafts
-OfBatch s b (notGrafted t) = (b.tree ≡ t) × (with_tree_data s b && not (same_tree t ROOT) && is_none (holder s.nodes t) ≡ true)
+OfBatch s b (notGrafted t) = (b.tree ≡ t) × (with_tree_data s b and not (same_tree t ROOT) and is_none (holder s.nodes t) ≡ true)
 -- 7: no tree data, for a tree that does not exist
-OfBatch s b (notExisting t) = (b.tree ≡ t) × (not (with_tree_data s b) && not (same_tree t ROOT) && is_none (subtree_of s t) ≡ true)
+OfBatch s b (notExisting t) = (b.tree ≡ t) × (not (with_tree_data s b) and not (same_tree t ROOT) and is_none (subtree_of s t) ≡ true)
 -- 8: a new tree id, and all numbers taken
-OfBatch s b (noNumberLeft t) = (b.tree ≡ t) × (not (known s b) && leb 32 (length s.trees) ≡ true)
+OfBatch s b (noNumberLeft t) = (b.tree ≡ t) × (not (known s b) and leb 32 (length s.trees) ≡ true)
 -- 9: the child is named at least twice, by these nodes in this order
 OfBatch s b (named_twice c by) = (n : NodeId) × (here s b n ≡ c) × (2 ≤ length by) × (namers s b n b.nodes ≡ by)
 -- 10: the listed node has a place, a graft and children

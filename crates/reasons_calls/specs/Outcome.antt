@@ -1,7 +1,7 @@
 -- Numbers 12 and 15 to 19 of an outcome: what makes each row hold. Assumes nothing.
-use Rattle.std.specs.Prelude.{Bool, false, List, [], ◌∷◌, ℕ, zero, suc, length}
+use Rattle.std.specs.Prelude.{Bool, false, List, [], ◌∷◌, ℕ, zero, suc, length, if◌then◌else◌}
 use Rattle.std.proofs.Math.Option.{Option, none, some}
-use Rattle.base.specs.Tests.{◌&&◌, if◌then◌else◌, is_some, is_none, first_given}
+use Rattle.base.specs.Tests.{◌and◌, is_some, is_none, first_given}
 use Rattle.ids.specs.Ids.{ROOT}
 use Rattle.ids.specs.declared.TreeId.{TreeId}
 use Rattle.ids.specs.declared.FullNodeId.{FullNodeId}
@@ -78,7 +78,7 @@ module _ (s : Forest) (b : Batch) where
   unfoldable pub claims : FullNodeId → Bool
   claims x =
       listed s b x
-      && elim (listing b.nodes x.node) [ none ↦ false | some d ↦ is_some (claim s b (record { id = x.node; body = d })) ]
+      and elim (listing b.nodes x.node) [ none ↦ false | some d ↦ is_some (claim s b (record { id = x.node; body = d })) ]
 
   -- 12's second part: two nodes of the outcome graft one tree, the one that claims it and another
   unfoldable pub clash_reason : Forest → Option Reason

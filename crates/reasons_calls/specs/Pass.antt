@@ -1,7 +1,7 @@
 -- Numbers 5 to 14: the event that the pass over the nodes meets first, and what stands around it. Assumes nothing.
-use Rattle.std.specs.Prelude.{not, List, [], ◌∷◌, ◌++◌, map, ℕ, suc, length}
+use Rattle.std.specs.Prelude.{not, List, [], ◌∷◌, ◌++◌, map, ℕ, suc, length, if◌then◌else◌}
 use Rattle.std.proofs.Math.Option.{Option, none, some}
-use Rattle.base.specs.Tests.{◌&&◌, if◌then◌else◌, is_some, is_nil, keep, same_option, has, position, first_given}
+use Rattle.base.specs.Tests.{◌and◌, is_some, is_nil, keep, same_option, has, position, first_given}
 use Rattle.ids.specs.Ids.{ROOT, same_tree, same_node}
 use Rattle.ids.specs.declared.TreeId.{TreeId}
 use Rattle.ids.specs.declared.NodeId.{NodeId}
@@ -46,7 +46,7 @@ module _ (s : Forest) (b : Batch) where
   -- 10 to 12: what placing l meets
   unfoldable pub placing : List Listed → Listed → Option Reason
   placing placed l =
-      if is_some (graft? l.body) && not (is_nil l.body.children) then some (graftOverChildren (here s b l.id))
+      if is_some (graft? l.body) and not (is_nil l.body.children) then some (graftOverChildren (here s b l.id))
       else if same_option same_tree (claim s b l) (some ROOT) then some (graftOfRoot (here s b l.id))
       else second_claim placed l
 

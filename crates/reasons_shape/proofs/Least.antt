@@ -7,7 +7,8 @@ use Prim.Native.Nat.{ℕ, ◌+◌, ◌≤◌, ◌<◌}
 use native.Mathlib.Omega.{arith}
 use lib.ListN.{drop}
 use borrow.Author.Tests.{lt-ltb, le-ltb}
-use Rattle.base.specs.Tests.{if◌then◌else◌, keep, has}
+use Rattle.std.specs.Prelude.{if◌then◌else◌}
+use Rattle.base.specs.Tests.{keep, has}
 use Rattle.base.specs.Bytes.{list_of}
 use Rattle.base.specs.Search.{First}
 use Rattle.base.proofs.Bytes.{list_of_more}

@@ -8,7 +8,7 @@ use native.Mathlib.Omega.{arith}
 use lib.Dec.{eqb, ltb, leb}
 use lib.ListN.{length}
 use borrow.Author.Tests.{eq-eqb, ne_eqb, ltb-false, le-leb, lt-leb}
-use Rattle.base.specs.Tests.{◌&&◌, is_some, is_nil, same_option}
+use Rattle.base.specs.Tests.{◌and◌, is_some, is_nil, same_option}
 use Rattle.base.specs.Search.{First}
 use Rattle.base.proofs.Bytes.{length_list_of}
 use Rattle.base.proofs.Cases.{by_test, by_order}
@@ -121,7 +121,7 @@ module _ (s : List ℕ) (x : FullNodeId) {n i : ℕ} (slots : n ≡ slots_of s) 
       e ∙ ap parent_of (sym there)
 
   pub lost_is : {r : Bool} → r ≡ is_nil (met_links (view s).forest (reached_in s) x)
-      → present (view s).forest.nodes x && is_nil (met_links (view s).forest (reached_in s) x) ≡ ltb i n && r
+      → present (view s).forest.nodes x and is_nil (met_links (view s).forest (reached_in s) x) ≡ ltb i n and r
   lost_is test = rw (present_slot s x i first, slots, test)
 
 -- ## Climbing
@@ -149,7 +149,7 @@ module _ {s : List ℕ} {x y : FullNodeId} {left : ℕ} (g : Climbing s x left y
         rw (← rw (z, sym above ∙ ap found_of q, topmost_within) at g.rest) (record { node = refl; by = refl })
 
     module _ {u : FullNodeId} (q : p ≡ node.At u) {r : Bool}
-        (test : r ≡ present (view s).forest.nodes u && is_nil (met_links (view s).forest (reached_in s) u)) where
+        (test : r ≡ present (view s).forest.nodes u and is_nil (met_links (view s).forest (reached_in s) u)) where
       -- one whose parent is met or absent
       pub climbing_held : r ≡ false
           → ClimbSays (topmost_within (slots_of s) (view s).forest (reached_in s) x) (record { node = node.At y; by = node.At u })
@@ -187,8 +187,8 @@ unfolding link_of
 same_none a b e = rw (eq-eqb a.linked 0 e) (by_test (eqb b.linked 0) (λ t. rw t) (λ t. rw t))
 
 pub same_some : (a b : LinkRow) → (a.linked ≡ 0 → ⊥)
-    → same_option same_link (link_of a) (link_of b) ≡ not (eqb b.linked 0) && (same_id a.parent b.parent && eqb a.index b.index)
-unfolding link_of same_link ◌&&◌
+    → same_option same_link (link_of a) (link_of b) ≡ not (eqb b.linked 0) and (same_id a.parent b.parent and eqb a.index b.index)
+unfolding link_of same_link ◌and◌
 same_some a b e = rw (ne_eqb a.linked 0 e) (by_test (eqb b.linked 0) (λ t. rw t) (λ t. rw t))
 
 -- the nodes of the slots before i record the links under which they are met

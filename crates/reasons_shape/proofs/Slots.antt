@@ -9,7 +9,8 @@ use native.Mathlib.Omega.{arith}
 use lib.Dec.{ltb, leb}
 use lib.ListN.{length, drop}
 use borrow.Author.Tests.{lt-ltb, le-ltb, lt-leb, le-leb}
-use Rattle.base.specs.Tests.{◌&&◌, if◌then◌else◌, is_some, all}
+use Rattle.std.specs.Prelude.{if◌then◌else◌}
+use Rattle.base.specs.Tests.{◌and◌, is_some, all}
 use Rattle.base.specs.Bytes.{list_of}
 use Rattle.base.specs.Search.{First}
 use Rattle.base.proofs.Bytes.{length_list_of}
@@ -161,11 +162,11 @@ module _ {s : List ℕ} (i : ℕ) {j n : ℕ} {x : FullNodeId} (g : Ahead s x (i
 
   module _ (l : j < n) {y : FullNodeId} (is : y ≡ id_in s j) {r : Bool} (test : r ≡ before x y) where
     pub ahead_fails : r ≡ false → false ≡ all (λ m. before (id_in s i) m.id) (drop (i + 1) (view s).forest.nodes)
-    unfolding node_in ◌&&◌
+    unfolding node_in ◌and◌
     ahead_fails h = rw (← own) (rw (nodes_at s j (rw slots at l), rw is at (call_false test h)) at g.same)
 
     pub ahead_more : r ≡ true → Ahead s x (i + 1) (j + 1)
-    unfolding node_in ◌&&◌
+    unfolding node_in ◌and◌
     ahead_more h = record { same = rw (nodes_at s j (rw slots at l), rw is at (call_true test h)) at g.same }
 
 -- the ids of the slots before i come before all that follow

@@ -6,7 +6,8 @@ use mathlib.Core.Path.{◌≡◌, refl, sym, ap, ◌∙◌}
 use Prim.Native.Nat.{ℕ, zero, suc, ◌+◌, ◌≤◌, ◌<◌}
 use native.Mathlib.Numerals.{add-one}
 use lib.ListN.{drop}
-use Rattle.base.specs.Tests.{if◌then◌else◌, any, has}
+use Rattle.std.specs.Prelude.{if◌then◌else◌}
+use Rattle.base.specs.Tests.{any, has}
 use Rattle.base.specs.Bytes.{bit, list_of}
 use Rattle.base.specs.Search.{First}
 use Rattle.base.proofs.Bytes.{list_of_more}

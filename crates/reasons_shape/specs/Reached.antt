@@ -1,7 +1,7 @@
 -- What the marks of slots and the links of a node say of the nodes reached. Assumes nothing.
-use Rattle.std.specs.Prelude.{Bool, not, List, [], ◌∷◌, ◌≡◌, ℕ, min, ◌≤◌, ◌<◌, eqb, length, get_or}
+use Rattle.std.specs.Prelude.{Bool, not, List, [], ◌∷◌, ◌≡◌, ℕ, min, ◌≤◌, ◌<◌, eqb, length, get_or, if◌then◌else◌}
 use Rattle.std.proofs.Math.Option.{Option, none}
-use Rattle.base.specs.Tests.{◌&&◌, if◌then◌else◌, has}
+use Rattle.base.specs.Tests.{◌and◌, has}
 use Rattle.base.specs.Bytes.{all_below}
 use Rattle.ids.specs.Ids.{same_id}
 use Rattle.ids.specs.declared.FullNodeId.{FullNodeId}
@@ -36,7 +36,7 @@ below_at s x p = has same_id (ids_below (view s).forest (node_in s p)) x
 
 -- it does, and the mark of p is 2
 unfoldable pub leads_to : List ℕ → List ℕ → FullNodeId → ℕ → Bool
-leads_to s marks x p = eqb (get_or marks p 0) 2 && below_at s x p
+leads_to s marks x p = eqb (get_or marks p 0) 2 and below_at s x p
 
 -- it does so for no slot
 unfoldable pub none_leads : List ℕ → List ℕ → FullNodeId → Bool

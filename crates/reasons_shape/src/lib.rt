@@ -5,9 +5,9 @@ mod links;
 mod reached;
 mod trees;
 
-ghost use Rattle.std.specs.Prelude.{not, ◌≡◌, ◌+◌, ◌<◌, leb, length, drop};
+ghost use Rattle.std.specs.Prelude.{not, ◌≡◌, ◌+◌, ◌<◌, leb, length, drop, if◌then◌else◌};
 ghost use Rattle.std.proofs.Math.Option.{none, some};
-ghost use Rattle.base.specs.Tests.{if◌then◌else◌, all};
+ghost use Rattle.base.specs.Tests.{all};
 ghost use Rattle.ids.specs.Ids.{before};
 ghost use Rattle.record.specs.Batch.{fields_ok};
 ghost use Rattle.reasons.specs.Reasons.{tooManyNodes, tooManyTrees, broken_field, no_focus};

@@ -1,7 +1,7 @@
 // The rules for links, in the order in which they are asked.
 ghost use Rattle.std.specs.Prelude.{not, List, [], ◌∷◌, ◌++◌, ◌≡◌, ◌<◌};
 ghost use Rattle.base.specs.Search.{First};
-ghost use Rattle.base.specs.Tests.{◌&&◌, is_nil, keep, same_option};
+ghost use Rattle.base.specs.Tests.{◌and◌, is_nil, keep, same_option};
 ghost use Rattle.ids.specs.declared.FullNodeId.{FullNodeId};
 ghost use Rattle.reasons.specs.Reasons.{too_many_children, met_twice, graft_with_children};
 ghost use Rattle.reasons.specs.Shape.{spot, at, smallest, ids_below, met_links, crowded, absent_ids, absence, is_met_twice, topmost_within, unmet, wrong_link_from, broken_links};
@@ -298,7 +298,7 @@ fn parent_of(l: LinkRow) -> FoundNode
 fn is_lost<'a>(state: &'a State, marks: &'a Slots, p: FullNodeId) -> bool
     requires few { Few state.now }
     requires marked { Marked state.now (reached_in state.now) marks.now }
-    ensures { result ≡ present (view state.now).forest.nodes p && is_nil (met_links (view state.now).forest (reached_in state.now) p) }
+    ensures { result ≡ present (view state.now).forest.nodes p and is_nil (met_links (view state.now).forest (reached_in state.now) p) }
 {
     (state_lookup::find_in(state, p) < state_array::slots(state)) & is_unmet(state, marks, p)
 }

@@ -1,8 +1,8 @@
 // Which nodes are reached from ROOT's root of a state, and the links under which a node is met, going down once from each node reached: for any
 // words in which no node has more than 256 children.
-ghost use Rattle.std.specs.Prelude.{List, [], ◌∷◌, ◌++◌, ◌≡◌, ◌<◌};
+ghost use Rattle.std.specs.Prelude.{List, [], ◌∷◌, ◌++◌, ◌≡◌, ◌<◌, if◌then◌else◌};
 ghost use Rattle.std.proofs.Math.Option.{Option, none, some};
-ghost use Rattle.base.specs.Tests.{if◌then◌else◌, same_option};
+ghost use Rattle.base.specs.Tests.{same_option};
 ghost use Rattle.ids.specs.Ids.{same_id};
 ghost use Rattle.reasons.specs.Shape.{links_below, met_links};
 ghost use Rattle.state.specs.State.{ParentAndIndex};

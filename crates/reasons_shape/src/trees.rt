@@ -1,7 +1,6 @@
 // The rules for trees, in document 01's order.
-ghost use Rattle.std.specs.Prelude.{[], ◌≡◌, ◌+◌, ◌<◌, drop};
+ghost use Rattle.std.specs.Prelude.{[], ◌≡◌, ◌+◌, ◌<◌, drop, if◌then◌else◌};
 ghost use Rattle.std.proofs.Math.Option.{none, some};
-ghost use Rattle.base.specs.Tests.{if◌then◌else◌};
 ghost use Rattle.reasons.specs.Reasons.{grafted_twice, root_not_first};
 ghost use Rattle.reasons.specs.Shape.{graft_twice_from, tree_twice_from, unrooted_from, broken_trees};
 ghost use Rattle.reasons_why.specs.Why.{why_broken};

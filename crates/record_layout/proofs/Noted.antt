@@ -8,7 +8,7 @@ use native.Mathlib.Nat.{div-one}
 use native.Mathlib.Omega.{arith}
 use lib.Dec.{eqb, ltb, leb}
 use lib.ListN.{length, take}
-use Rattle.base.specs.Tests.{◌&&◌, all, is_none}
+use Rattle.base.specs.Tests.{◌and◌, all, is_none}
 use Rattle.base.specs.Bytes.{le, bit, zeros}
 use Rattle.base.proofs.Bytes.{zeros_le, le_zero}
 use Rattle.base.proofs.Cases.{by_test}
@@ -93,7 +93,7 @@ pub header_noted : (s : List ℕ) {r0 r1 r2 r3 r4 r5 r6 r7 r8 r9 r10 r11 r12 r13
     → nodes ≡ node_count s → entries ≡ entry_count s → labels ≡ label_bytes s → flags ≡ header_flags s → total ≡ total_length s
     → first ≡ nodes_offset s → second ≡ entries_offset s → third ≡ labels_offset s → root ≡ tree_root s → zero-bytes ≡ le 8 s 56
     → r13 ≡ plain_offence (first_broken (header_rules s))
-unfolding header_rules ◌&&◌
+unfolding header_rules ◌and◌
 header_noted s {nodes} {entries} {labels} {flags} {total} {first} {second} {third} {root} {zero-bytes} e13 e12 e11 e10 e9 e8 e7 e6 e5 e4 e3 e2 e1 e0 n-is k-is l-is f-is t-is a-is b-is c-is r-is z-is =
     rw (e13, e12, e11, e10, e9, e8, e7, e6, e5, e4, e3, e2, e1, e0)
     (rw (zeros_le s 56 8, div-one, ← n-is, ← k-is, ← l-is, ← f-is, ← t-is, ← a-is, ← b-is, ← c-is, ← r-is, ← z-is)
@@ -116,26 +116,26 @@ header_noted s {nodes} {entries} {labels} {flags} {total} {first} {second} {thir
 
 -- the first five of a node record's; six zero bytes are a number of two and a number of four
 pub fields_noted : (s : List ℕ) (at : ℕ) {r0 r14 r15 r16 r17 r18 : Offence} {two four label flags active high low : ℕ}
-    → r18 ≡ noted r17 18 (at + 16) (bit 8 flags || (eqb high 0 && eqb low 0))
+    → r18 ≡ noted r17 18 (at + 16) (bit 8 flags || (eqb high 0 and eqb low 0))
     → r17 ≡ noted r16 17 (at + 8) (bit 4 flags || eqb active 0)
     → r16 ≡ noted r15 16 (at + 41) (ltb flags 64)
     → r15 ≡ noted r14 15 (at + 38) (leb label 32)
-    → r14 ≡ noted r0 14 (at + 42) (eqb two 0 && eqb four 0)
+    → r14 ≡ noted r0 14 (at + 42) (eqb two 0 and eqb four 0)
     → r0 ≡ plain_offence none
     → two ≡ le 2 s (at + 42) → four ≡ le 4 s (at + 44) → label ≡ label_length s at → flags ≡ node_flags s at
     → active ≡ active_number s at → high ≡ graft_high s at → low ≡ graft_low s at
     → r18 ≡ plain_offence (first_broken (take 5 (record_rules s at (data_of s at) 0 0)))
-unfolding record_rules same_tree ◌&&◌
+unfolding record_rules same_tree ◌and◌
 fields_noted s at {two} {four} {label} {flags} {active} {high} {low} e18 e17 e16 e15 e14 e0 two_is four_is l-is f-is a-is h-is o_is =
     let e : at + 42 + 2 ≡ at + 44 = omega arith in
     rw (e18, e17, e16, e15, e14, e0)
     (rw (zeros_le s (at + 42) 6, le_zero s (at + 42) 2 4, e, ← two_is, ← four_is, ← l-is, ← f-is, ← a-is, ← h-is, ← o_is)
     (noted_first
-    (row 14 (at + 42) (eqb two 0 && eqb four 0)
+    (row 14 (at + 42) (eqb two 0 and eqb four 0)
     ∷ row 15 (at + 38) (leb label 32)
     ∷ row 16 (at + 41) (ltb flags 64)
     ∷ row 17 (at + 8) (bit 4 flags || eqb active 0)
-    ∷ row 18 (at + 16) (bit 8 flags || (eqb high 0 && eqb low 0))
+    ∷ row 18 (at + 16) (bit 8 flags || (eqb high 0 and eqb low 0))
     ∷ [])
     refl))
 
@@ -153,7 +153,7 @@ pub record_noted : (s : List ℕ) (at children labels : ℕ) {r18 r19 r20 r21 r2
     → zero-bounds ≡ zero_rect (bounds_of s at) → zero-transform ≡ zero_affine (transform_of s at)
     → finite_bounds ≡ finite_rect (bounds_of s at) → finite_transform ≡ finite_affine (transform_of s at)
     → r24 ≡ plain_offence (first_broken (record_rules s at (data_of s at) children labels))
-unfolding record_rules ◌&&◌
+unfolding record_rules ◌and◌
 record_noted s at children labels e24 e23 e22 e21 e20 e19 e18 f-is c-is s-is zb-is zt-is fb-is ft-is =
     let d = data_of s at in
     let five =
@@ -181,7 +181,7 @@ pub totals_noted : (s : List ℕ) {n children labels entries bytes : ℕ} {r0 r2
     → r0 ≡ plain_offence none
     → n ≡ node_count s → children ≡ children_before s n → labels ≡ labels_before s n → entries ≡ entry_count s → bytes ≡ label_bytes s
     → r26 ≡ plain_offence (first_broken (total_rules s))
-unfolding total_rules ◌&&◌
+unfolding total_rules ◌and◌
 totals_noted s {children} {labels} {entries} {bytes} e26 e25 e0 n-is c-is l-is e-is b-is =
     rw (e26, e25, e0) (rw (← e-is, ← b-is, ← n-is, ← c-is, ← l-is) (noted_first (row 25 2 (eqb children entries) ∷ row 26 4 (eqb labels bytes) ∷ []) refl))
 

@@ -1,7 +1,6 @@
 -- The first broken rule of the record as the code's struct, and how a row of rules finds it. Assumes nothing.
-use Rattle.std.specs.Prelude.{ℕ, Bool, eqb}
+use Rattle.std.specs.Prelude.{ℕ, Bool, eqb, if◌then◌else◌}
 use Rattle.std.proofs.Math.Option.{Option, none, some}
-use Rattle.base.specs.Tests.{if◌then◌else◌}
 use Rattle.record_layout.specs.declared.found.Offence.{Offence}
 use Rattle.record_rules.specs.Rules as rules
 

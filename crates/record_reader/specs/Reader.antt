@@ -1,10 +1,10 @@
 -- What the accessors answer, for any bytes and any index: the fields of the batch that the bytes say, and zeros past its nodes and child entries.
 -- Assumes nothing.
-use Rattle.std.specs.Prelude.{ℕ, ◌+◌, List, [], ltb, Float, length, get_or}
+use Rattle.std.specs.Prelude.{ℕ, ◌+◌, List, [], ltb, Float, length, get_or, if◌then◌else◌}
 use Rattle.std.proofs.Math.Option.{Option, none, some}
 use Rattle.std.specs.Float.Ieee.{of_bits}
 use Rattle.std.specs.Float.{binary64}
-use Rattle.base.specs.Tests.{if◌then◌else◌, is_some}
+use Rattle.base.specs.Tests.{is_some}
 use Rattle.base.specs.Bytes.{le, list_of}
 use Rattle.ids.specs.Ids.{ROOT}
 use Rattle.ids.specs.declared.NodeId.{NodeId}

@@ -6,7 +6,7 @@ use mathlib.Core.Path.{◌≡◌, refl}
 use Prim.Native.Nat.{ℕ, ◌+◌}
 use lib.ListN.{replicate, set}
 use lib.Ieee.{of_bits, to_bits}
-use Rattle.base.specs.Tests.{◌&&◌}
+use Rattle.base.specs.Tests.{◌and◌}
 use Rattle.base.specs.Bytes.{little_endian, le, bytes_of, all_below, zeros, list_of, sum_of}
 use Rattle.base.specs.Floats.{zero_bytes}
 use Rattle.ids.specs.Ids.{same_tree}
@@ -19,7 +19,7 @@ use Rattle.record_rules.specs.Rules.{Offence, rule, header_rules, record_rules, 
 
 -- `unfolding computed` unfolds every definition
 computed : Unit {0}
-unfolding ◌&&◌ little_endian le bytes_of all_below zeros list_of sum_of zero_bytes same_tree rect_test affine_test active_descendant? graft? bounds? transform? named_ids children_before labels_before record_bytes records_bytes entry_bytes labels header_bytes encode of_bits to_bits rule header_rules record_rules record_offence total_rules record_fault
+unfolding ◌and◌ little_endian le bytes_of all_below zeros list_of sum_of zero_bytes same_tree rect_test affine_test active_descendant? graft? bounds? transform? named_ids children_before labels_before record_bytes records_bytes entry_bytes labels header_bytes encode of_bits to_bits rule header_rules record_rules record_offence total_rules record_fault
 computed = tt
 
 abbrev breaks : ℕ → ℕ → Option Offence

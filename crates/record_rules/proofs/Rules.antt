@@ -10,7 +10,7 @@ use native.Mathlib.Omega.{arith}
 use borrow.Author.Tests.{lt-ltb}
 use lib.Dec.{eqb, ltb, leb}
 use lib.ListN.{length, get_or}
-use Rattle.base.specs.Tests.{◌&&◌, is_none, all, first_given}
+use Rattle.base.specs.Tests.{◌and◌, is_none, all, first_given}
 use Rattle.base.specs.Bytes.{all_below, list_of}
 use Rattle.base.proofs.Bytes.{le_one, list_of_add}
 use Rattle.base.proofs.Cases.{by_option}
@@ -28,7 +28,7 @@ use Rattle.record_rules.specs.Rules.{Offence, rule, first_broken, header_rules, 
 module _ {A B : Type 0} (f : A → Option B) where
   -- nothing is given where no element gives something
   pub first_given_none : (xs : List A) → is_none (first_given f xs) ≡ all (λ x. is_none (f x)) xs
-  unfolding ◌&&◌
+  unfolding ◌and◌
   first_given_none [] = refl
   first_given_none (x ∷ xs) = by_option (f x) (λ q. rw (q, first_given) (first_given_none xs)) (λ y q. rw (q, first_given))
 
@@ -76,15 +76,15 @@ first_numbered xs h = first_given_passes (λ o. o) numbered refl xs h
 
 module _ (s : List ℕ) where
   pub header_numbered : numbered (first_broken (header_rules s)) ≡ true
-  unfolding header_rules ◌&&◌
+  unfolding header_rules ◌and◌
   header_numbered = first_numbered (header_rules s) (simp rule_numbered)
 
   pub record_numbered : (i : ℕ) → numbered (record_offence s i) ≡ true
-  unfolding record_offence record_rules ◌&&◌
+  unfolding record_offence record_rules ◌and◌
   record_numbered i = first_numbered (record_rules s (record_at i) (data_of s (record_at i)) (children_before s i) (labels_before s i)) (simp rule_numbered)
 
   pub totals_numbered : numbered (first_broken (total_rules s)) ≡ true
-  unfolding total_rules ◌&&◌
+  unfolding total_rules ◌and◌
   totals_numbered = first_numbered (total_rules s) (simp rule_numbered)
 
 -- ## Where the first broken rule of all is found
@@ -100,8 +100,8 @@ or_else_found (some x) p e = refl
 or_else_kept : (o p : Option Offence) → is_none o ≡ true → or_else o p ≡ p
 or_else_kept o p e = rw (none_of o e)
 
-or_else_none : (o p : Option Offence) → is_none (or_else o p) ≡ (is_none o && is_none p)
-unfolding ◌&&◌
+or_else_none : (o p : Option Offence) → is_none (or_else o p) ≡ (is_none o and is_none p)
+unfolding ◌and◌
 or_else_none none p = refl
 or_else_none (some x) p = refl
 
@@ -146,25 +146,25 @@ module _ (s : List ℕ) where
 -- ## Well-formed bytes
 
 -- a test of the label's bytes adds nothing to one of its length
-short_label : (l m : Bool) → (l ≡ true → m ≡ true) → (r : Bool) → (l && (m && r)) ≡ (l && r)
-unfolding ◌&&◌
+short_label : (l m : Bool) → (l ≡ true → m ≡ true) → (r : Bool) → (l and (m and r)) ≡ (l and r)
+unfolding ◌and◌
 short_label true m h r = rw (h refl)
 short_label false m h r = refl
 
 -- a role is a byte
 module _ (s : List ℕ) (bytes : (i : ℕ) → get_or s i 0 < 256) where
-  header_kept : is_none (first_broken (header_rules s)) ≡ (leb 64 (length s) && header_ok s)
+  header_kept : is_none (first_broken (header_rules s)) ≡ (leb 64 (length s) and header_ok s)
   unfolding header_rules header_ok
   header_kept = first_given_none (λ o. o) (header_rules s) ∙ simp (rule_kept, and_assoc, and_right)
 
-  totals_kept : is_none (first_broken (total_rules s)) ≡ (eqb (children_before s (node_count s)) (entry_count s) && eqb (labels_before s (node_count s)) (label_bytes s))
+  totals_kept : is_none (first_broken (total_rules s)) ≡ (eqb (children_before s (node_count s)) (entry_count s) and eqb (labels_before s (node_count s)) (label_bytes s))
   unfolding total_rules
   totals_kept = first_given_none (λ o. o) (total_rules s) ∙ simp (rule_kept, and_right)
 
   role_fits : (at : ℕ) → ltb (role_number s at) 256 ≡ true
   role_fits at = lt-ltb (role_number s at) 256 (rw (le_one s (at + 40)) (bytes (at + 40)))
 
-  short : (at : ℕ) (r : Bool) → (leb (label_length s at) 32 && (leb (length (label_of s at)) 32 && r)) ≡ (leb (label_length s at) 32 && r)
+  short : (at : ℕ) (r : Bool) → (leb (label_length s at) 32 and (leb (length (label_of s at)) 32 and r)) ≡ (leb (label_length s at) 32 and r)
   short at = short_label (leb (label_length s at) 32) (leb (length (label_of s at)) 32) (label_short s at)
 
   pub record_kept : (i : ℕ) → is_none (record_offence s i) ≡ record_ok s i

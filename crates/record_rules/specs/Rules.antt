@@ -1,7 +1,7 @@
 -- Number 2: the first rule of the batch record that bytes break, in the order of document 01, "The batch record". Assumes nothing.
-use Rattle.std.specs.Prelude.{Bool, ◌||◌, List, [], ◌∷◌, ℕ, ◌+◌, eqb, ltb, leb, length}
+use Rattle.std.specs.Prelude.{Bool, ◌||◌, List, [], ◌∷◌, ℕ, ◌+◌, eqb, ltb, leb, length, if◌then◌else◌}
 use Rattle.std.proofs.Math.Option.{Option, none, some}
-use Rattle.base.specs.Tests.{if◌then◌else◌, first_given}
+use Rattle.base.specs.Tests.{first_given}
 use Rattle.base.specs.Bytes.{zeros, list_of}
 use Rattle.ids.specs.Ids.{ROOT, same_tree}
 use Rattle.geometry.specs.Geometry.{finite_rect, finite_affine, zero_rect, zero_affine}

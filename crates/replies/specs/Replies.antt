@@ -1,7 +1,6 @@
 -- What the library's functions promise: each part of a reply, every word of the state and every element of the lent slice. Assumes nothing.
-use Rattle.std.specs.Prelude.{Bool, not, List, [], ◌≡◌, ℕ, eqb}
+use Rattle.std.specs.Prelude.{Bool, not, List, [], ◌≡◌, ℕ, eqb, if◌then◌else◌}
 use Rattle.std.proofs.Math.Option.{Option, none, some}
-use Rattle.base.specs.Tests.{if◌then◌else◌}
 use Rattle.ids.specs.declared.FullNodeId.{FullNodeId}
 use Rattle.state_array.specs.Put.{host_put}
 use Rattle.state_array.specs.Stored.{stored}

@@ -2,8 +2,7 @@
 #![tactic(auto)]
 
 ghost use Rattle.std.proofs.Math.Option.{none};
-ghost use Rattle.std.specs.Prelude.{◌≡◌};
-ghost use Rattle.base.specs.Tests.{if◌then◌else◌};
+ghost use Rattle.std.specs.Prelude.{◌≡◌, if◌then◌else◌};
 ghost use Rattle.state_focus.specs.Focus.{found_of};
 ghost use Rattle.replies.specs.Replies.{plain_id, is_set};
 ghost use Rattle.replies.specs.Plain.{lengths_are, refused_reply};

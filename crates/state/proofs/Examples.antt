@@ -7,7 +7,7 @@ use mathlib.Core.Path.{◌≡◌, refl}
 use Prim.Native.Nat.{ℕ}
 use lib.ListN.{replicate}
 use lib.Ieee.{of_bits, to_bits, eq}
-use Rattle.base.specs.Tests.{◌&&◌}
+use Rattle.base.specs.Tests.{◌and◌}
 use Rattle.base.specs.Bytes.{list_of}
 use Rattle.base.specs.Floats.{zero_bytes}
 use Rattle.ids.specs.Ids.{ROOT, same_tree, same_index, same_node, same_id, before}
@@ -23,7 +23,7 @@ use Rattle.state.specs.ExampleStates.{id, root, under, tree, no_tree, state}
 
 -- `unfolding computed` unfolds every definition
 computed : Unit {0}
-unfolding ◌&&◌ list_of zero_bytes same_tree same_index same_node same_id before rect_test affine_test active_descendant? graft? fields_ok same_link ids_of find
+unfolding ◌and◌ list_of zero_bytes same_tree same_index same_node same_id before rect_test affine_test active_descendant? graft? fields_ok same_link ids_of find
     present graft_at link_at parent_at holder subtree_state subtree_from subtree_of met_under children_met below below_id down root_of way_down climb
     through_grafts effective_focus or_active_descendant state_focus met_once recorded graft_is_bare sound_links grafts_differ grafted all_grafted root_first
     one_id_each sound_trees ascending way_ends sound_shape focus_present sound of_bits to_bits eq

@@ -11,7 +11,7 @@ use native.Mathlib.Nat.{suc-add}
 use lib.Dec.{eqb}
 use lib.ListN.{length, get_or}
 use borrow.Author.Tests.{eqb-true, eq-eqb}
-use Rattle.base.specs.Tests.{◌&&◌, is_none, keep, has}
+use Rattle.base.specs.Tests.{◌and◌, is_none, keep, has}
 use Rattle.base.specs.Bytes.{list_of}
 use Rattle.base.proofs.Cases.{by_test, by_option}
 use Rattle.base.proofs.Tests.{and_false, and_right, has_keep}
@@ -70,12 +70,12 @@ abbrev without : ℕ → List ℕ → List ℕ
 without q left = keep (λ k. not (eqb q k)) left
 
 -- what is left without q: what was left, other than q
-has_without : (q : ℕ) (left : List ℕ) (k : ℕ) → has eqb (without q left) k ≡ (has eqb left k && not (eqb q k))
+has_without : (q : ℕ) (left : List ℕ) (k : ℕ) → has eqb (without q left) k ≡ (has eqb left k and not (eqb q k))
 has_without q left k = has_keep eqb eqb-true (λ k. not (eqb q k)) left k
 
 -- what was not left is not left now
 without_out : (q : ℕ) (left : List ℕ) (k : ℕ) → has eqb left k ≡ false → has eqb (without q left) k ≡ false
-unfolding ◌&&◌
+unfolding ◌and◌
 without_out q left k e = rw (has_without q left k, e)
 
 -- nor is q

@@ -6,7 +6,7 @@ use mathlib.Core.Path.{◌≡◌, refl}
 use Prim.Native.Nat.{ℕ, zero, suc}
 use lib.Dec.{leb}
 use lib.ListN.{length}
-use Rattle.base.specs.Tests.{◌&&◌, all}
+use Rattle.base.specs.Tests.{◌and◌, all}
 use Rattle.base.proofs.Cases.{by_option}
 use Rattle.base.proofs.Lists.{some_from}
 use Rattle.base.proofs.Tests.{both, joined, and_true}
@@ -61,7 +61,7 @@ pub record Root (s : Forest) : Type 0 where
 
 root_of_first : (ns : List NodeState) (t : TreeEntry) (ts : List TreeEntry) (u : Subtree) → t.id ≡ ROOT → t.subtree ≡ some u
     → root_of (record { nodes = ns; trees = t ∷ ts }) ≡ some (record { tree = record { 0 = 0 }; node = u.root })
-unfolding root_of subtree_of subtree_from subtree_state same_tree ◌&&◌
+unfolding root_of subtree_of subtree_from subtree_state same_tree ◌and◌
 root_of_first ns t ts u p q = rw (p, q) refl
 
 pub root_of_tables : (ns : List NodeState) (es : List TreeEntry) → root_first es ≡ true → all_grafted ns 0 es ≡ true → Root (record { nodes = ns; trees = es })

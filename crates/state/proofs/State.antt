@@ -4,7 +4,7 @@ use mathlib.Core.List.{List, [], ◌∷◌, Memᴰ}
 use mathlib.Core.Option.{some, none-ne-some, some-injective}
 use mathlib.Core.Path.{◌≡◌, refl, sym, ap, ◌∙◌}
 use borrow.Author.Tests.{eqb-true}
-use Rattle.base.specs.Tests.{◌&&◌, all, keep, has}
+use Rattle.base.specs.Tests.{◌and◌, all, keep, has}
 use Rattle.base.proofs.Cases.{by_test}
 use Rattle.base.proofs.Tests.{both, all_member, map_keep, has_keep}
 use Rattle.ids.specs.Ids.{same_id, before}
@@ -26,13 +26,13 @@ unfolding present find ids_of
 present_has [] x = refl
 present_has (n ∷ ns) x = by_test (same_id x n.id) (λ t. rw t) (λ t. rw t (present_has ns x))
 
-pub present_keep : (q : FullNodeId → Bool) (ns : List NodeState) (x : FullNodeId) → present (keep (λ n. q n.id) ns) x ≡ (present ns x && q x)
+pub present_keep : (q : FullNodeId → Bool) (ns : List NodeState) (x : FullNodeId) → present (keep (λ n. q n.id) ns) x ≡ (present ns x and q x)
 unfolding ids_of
 present_keep q ns x =
     present_has (keep (λ n. q n.id) ns) x
     ∙ ap (λ (xs : List FullNodeId). has same_id xs x) (map_keep (λ n. n.id) q ns)
     ∙ has_keep same_id same_id→≡ q (ids_of ns) x
-    ∙ ap (λ (c : Bool). c && q x) (sym (present_has ns x))
+    ∙ ap (λ (c : Bool). c and q x) (sym (present_has ns x))
 
 -- what is found is what was looked for
 pub find_id : (ns : List NodeState) (x : FullNodeId) (n : NodeState) → find x ns ≡ some n → n.id ≡ x

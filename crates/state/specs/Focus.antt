@@ -1,8 +1,7 @@
 -- Module 4, focus: the effective focus, and the answer of `TreeState::focus`.
 -- Assumes nothing.
-use Rattle.std.specs.Prelude.{List, ℕ, zero, suc, length}
+use Rattle.std.specs.Prelude.{List, ℕ, zero, suc, length, if◌then◌else◌}
 use Rattle.std.proofs.Math.Option.{Option, none, some}
-use Rattle.base.specs.Tests.{if◌then◌else◌}
 use Rattle.ids.specs.Ids.{ROOT}
 use Rattle.ids.specs.declared.FullNodeId.{FullNodeId}
 use Rattle.record.specs.Batch.{active_descendant?}

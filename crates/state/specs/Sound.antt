@@ -2,7 +2,7 @@
 -- Assumes nothing.
 use Rattle.std.specs.Prelude.{Bool, true, false, ◌||◌, List, [], ◌∷◌, map, ℕ, suc, eqb, leb, length}
 use Rattle.std.proofs.Math.Option.{none, some}
-use Rattle.base.specs.Tests.{◌&&◌, is_some, is_none, is_nil, all, count, same_option, distinct, given}
+use Rattle.base.specs.Tests.{◌and◌, is_some, is_none, is_nil, all, count, same_option, distinct, given}
 use Rattle.ids.specs.Ids.{ROOT, same_tree, same_id, before}
 use Rattle.record.specs.Batch.{graft?, fields_ok}
 use Rattle.state.specs.State.{same_link, NodeState, TreeEntry, Forest, find, present, holder}
@@ -25,7 +25,7 @@ graft_is_bare n = is_none (graft? n.body) || is_nil n.body.children
 
 -- the three rules together
 unfoldable pub sound_links : Forest → Bool
-sound_links s = all (met_once (way_down s)) s.nodes && all (recorded s.nodes) (way_down s) && all graft_is_bare s.nodes
+sound_links s = all (met_once (way_down s)) s.nodes and all (recorded s.nodes) (way_down s) and all graft_is_bare s.nodes
 
 -- ## Document 01's rules for trees
 
@@ -40,18 +40,18 @@ grafted ns k e =
       | none ↦ true
       | some u ↦
           present ns (record { tree = record { 0 = k }; node = u.root })
-          && (eqb k 0 || is_some (holder ns e.id))
+          and (eqb k 0 || is_some (holder ns e.id))
     ]
 
 -- so of every tree of the table; k is the first number
 unfoldable pub all_grafted : List NodeState → ℕ → List TreeEntry → Bool
 all_grafted ns k [] = true
-all_grafted ns k (e ∷ es) = grafted ns k e && all_grafted ns (suc k) es
+all_grafted ns k (e ∷ es) = grafted ns k e and all_grafted ns (suc k) es
 
 -- ROOT exists and has number 0
 unfoldable pub root_first : List TreeEntry → Bool
 root_first [] = false
-root_first (e ∷ es) = same_tree e.id ROOT && is_some e.subtree
+root_first (e ∷ es) = same_tree e.id ROOT and is_some e.subtree
 
 -- taken numbers run from 0 without gap (they are the places in the table), one tree id each
 unfoldable pub one_id_each : List TreeEntry → Bool
@@ -59,14 +59,14 @@ one_id_each es = distinct same_tree (map (λ e. e.id) es)
 
 -- the rules for trees together
 unfoldable pub sound_trees : Forest → Bool
-sound_trees s = grafts_differ s.nodes && root_first s.trees && one_id_each s.trees && all_grafted s.nodes 0 s.trees
+sound_trees s = grafts_differ s.nodes and root_first s.trees and one_id_each s.trees and all_grafted s.nodes 0 s.trees
 
 -- ## What this form of a state adds
 
 -- the nodes stand by id, no id twice
 unfoldable pub ascending : List NodeState → Bool
 ascending [] = true
-ascending (n ∷ ns) = all (λ m. before n.id m.id) ns && ascending ns
+ascending (n ∷ ns) = all (λ m. before n.id m.id) ns and ascending ns
 
 -- ## What follows from the rules above (proofs/Ends, `way_ends_lem`), and is said so that it can be read off
 
@@ -78,7 +78,7 @@ way_ends s = leb (length (way_down s)) (length s.nodes)
 
 -- the links and the trees are sound
 unfoldable pub sound_shape : Forest → Bool
-sound_shape s = sound_links s && sound_trees s && ascending s.nodes && way_ends s
+sound_shape s = sound_links s and sound_trees s and ascending s.nodes and way_ends s
 
 -- the effective focus is present; it is no graft, for the way through the grafts goes on from a graft that is present
 unfoldable pub focus_present : Forest → Bool
@@ -89,8 +89,8 @@ unfoldable pub sound : Forest → Bool
 sound s =
     sound_shape s
     -- at most 256 nodes and 32 tree numbers
-    && leb (length s.nodes) 256
-    && leb (length s.trees) 32
+    and leb (length s.nodes) 256
+    and leb (length s.trees) 32
     -- every node's fields obey the record's rules
-    && all (λ n. fields_ok n.body) s.nodes
-    && focus_present s
+    and all (λ n. fields_ok n.body) s.nodes
+    and focus_present s

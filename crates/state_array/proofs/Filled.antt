@@ -7,7 +7,8 @@ use native.Mathlib.Omega.{arith}
 use lib.Dec.{eqb, leb, ltb}
 use lib.ListN.{length, get_or, set}
 use borrow.Author.Tests.{eqb-true, leb-true, le-leb, ltb-true, lt-ltb}
-use Rattle.base.specs.Tests.{◌&&◌, if◌then◌else◌, all}
+use Rattle.std.specs.Prelude.{if◌then◌else◌}
+use Rattle.base.specs.Tests.{◌and◌, all}
 use Rattle.base.specs.Bytes.{sum_of, list_of}
 use Rattle.base.specs.Regions.{fill, fills, Part, image, part_start, with_part, part_of}
 use Rattle.base.proofs.Tests.{both}
@@ -40,7 +41,7 @@ used_in qs (j ∷ js) ps = used_in qs js (with_part ps j (part_of qs j).used (pa
 -- whether each is there, and not filled before
 abbrev pub each_once : List Part → List ℕ → List Part → Bool
 each_once qs [] ps = true
-each_once qs (j ∷ js) ps = ltb j (length ps) && eqb (part_of ps j).used 0 && each_once qs js (with_part ps j (part_of qs j).used (part_of qs j).word)
+each_once qs (j ∷ js) ps = ltb j (length ps) and eqb (part_of ps j).used 0 and each_once qs js (with_part ps j (part_of qs j).used (part_of qs j).word)
 
 abbrev sizes : List Part → List ℕ
 sizes [] = []
@@ -101,7 +102,7 @@ in_order_lem qs fit (j ∷ js) ps e once =
 
 module _ (a : State) (few : length a.forest.nodes ≤ SLOTS) (fewTrees : length a.forest.trees ≤ TREES) (room : length (entries_of a.forest.nodes) ≤ ENTRIES) where
   parts_fit : fitting (parts a) ≡ true
-  unfolding list_of ◌&&◌
+  unfolding list_of ◌and◌
   parts_fit =
       let t : leb (length a.forest.trees) TREES ≡ true = le-leb _ TREES fewTrees in
       let n : leb (length a.forest.nodes) SLOTS ≡ true = le-leb _ SLOTS few in
@@ -125,7 +126,7 @@ node_parts fs = map (λ f. 1 + TREE_FIELDS + f) fs
 
 pub filled_stored : (a : State) → length a.forest.nodes ≤ SLOTS → length a.forest.trees ≤ TREES → length (entries_of a.forest.nodes) ≤ ENTRIES
     → filled a blank_words ≡ stored a
-unfolding list_of ◌&&◌
+unfolding list_of ◌and◌
 filled_stored a few fewTrees room =
     filled_in_order a few fewTrees room (node_parts OWN_FIELDS ++ (node_parts (FIRST_CHILD ∷ NODE_FIELDS ∷ []) ++ (list_of TREE_FIELDS suc ++ (0 ∷ [])))) refl refl
 
@@ -135,7 +136,7 @@ module _ (ns : List NodeState) (r : ℕ) (few : r < SLOTS) (s : List ℕ) where
   -- a node's id, link and data
   node_stored : body_put r (body_of (get_or ns r no_state).body) (link_put r (link_row (get_or ns r no_state).parent_and_index) (id_put r (get_or ns r no_state).id (fills (nodes_regions ns) r s)))
       ≡ fills (nodes_regions ns) (r + 1) s
-  unfolding ◌&&◌ puts node_word row_of body_of list_of floats_of
+  unfolding ◌and◌ puts node_word row_of body_of list_of floats_of
   node_stored = rw (lt-ltb r SLOTS few) (row_stored (nodes_regions ns) 0 SLOTS r refl few s)
 
   -- one node more
@@ -147,7 +148,7 @@ module _ (ns : List NodeState) (r : ℕ) (few : r < SLOTS) (s : List ℕ) where
 -- one tree more
 pub tree_more : (ts : List TreeEntry) (k : ℕ) → k < TREES → (s : List ℕ) {start end : List ℕ} {t : TreeRow}
     → start ≡ fills (trees_regions ts) k s → t ≡ tree_row (get_or ts k no_tree) → end ≡ tree_put k t start → end ≡ fills (trees_regions ts) (k + 1) s
-unfolding ◌&&◌ puts tree_word list_of
+unfolding ◌and◌ puts tree_word list_of
 tree_more ts k few s begun t h = rw (h, begun, t, lt-ltb k TREES few) (row_stored (trees_regions ts) 0 TREES k refl few s)
 
 -- the head

@@ -6,7 +6,7 @@ use native.Mathlib.Nat.{mul-zero, mul-suc, zero-add}
 use native.Mathlib.Omega.{arith}
 use lib.ListN.{length, get_or, get_or-append}
 use lib.Seq.{get_or-append-add}
-use Rattle.base.specs.Tests.{if◌then◌else◌}
+use Rattle.std.specs.Prelude.{if◌then◌else◌}
 use Rattle.base.specs.Bytes.{list_of}
 use Rattle.base.specs.Regions.{Part, part, words_of, image}
 use Rattle.base.proofs.Regions.{part_length, part_at}

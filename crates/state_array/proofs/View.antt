@@ -8,7 +8,8 @@ use lib.Dec.{eqb, ltb}
 use lib.ListN.{length, get_or}
 use lib.Seq.{get_or-set_same, get_or-set_other}
 use lib.Ieee.{of_bits, binary64}
-use Rattle.base.specs.Tests.{◌&&◌, if◌then◌else◌}
+use Rattle.std.specs.Prelude.{if◌then◌else◌}
+use Rattle.base.specs.Tests.{◌and◌}
 use Rattle.base.specs.Bytes.{list_of}
 use Rattle.base.proofs.Bytes.{map_list_of}
 use Rattle.base.proofs.Indexed.{list_of_cong}
@@ -70,11 +71,11 @@ module _ (s : List ℕ) (v : ℕ) where
 
   word_apart : (f i : ℕ) → word (host_put v s) f i ≡ word s f i
   unfolding word
-  word_apart f i = ap (λ w. if ltb f NODE_FIELDS && ltb i SLOTS then w else 0) (apart (place f i) (omega arith))
+  word_apart f i = ap (λ w. if ltb f NODE_FIELDS and ltb i SLOTS then w else 0) (apart (place f i) (omega arith))
 
   entry_apart : (j k : ℕ) → entry (host_put v s) j k ≡ entry s j k
   unfolding entry
-  entry_apart j k = ap (λ w. if ltb j TREE_FIELDS && ltb k TREES then w else 0) (apart (entry_place j k) (omega arith))
+  entry_apart j k = ap (λ w. if ltb j TREE_FIELDS and ltb k TREES then w else 0) (apart (entry_place j k) (omega arith))
 
   child_apart : (own j : ℕ) → child (host_put v s) own j ≡ child s own j
   unfolding child

@@ -8,7 +8,7 @@ use lib.Dec.{eqb}
 use lib.Ieee.{fits, of_bits, to_bits, binary64}
 use lib.ListN.{length, get_or}
 use borrow.Author.Tests.{lt-ltb}
-use Rattle.base.specs.Tests.{if◌then◌else◌}
+use Rattle.std.specs.Prelude.{if◌then◌else◌}
 use Rattle.base.specs.Bytes.{list_of}
 use Rattle.base.proofs.Tests.{bit_set}
 use Rattle.base.proofs.Lists.{all_at}

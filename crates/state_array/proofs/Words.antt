@@ -4,16 +4,16 @@ use mathlib.Core.Path.{◌≡◌}
 use Prim.Native.Nat.{ℕ, ◌<◌}
 use lib.ListN.{get_or}
 use borrow.Author.Tests.{lt-ltb}
-use Rattle.base.specs.Tests.{◌&&◌}
+use Rattle.base.specs.Tests.{◌and◌}
 use Rattle.state_array.specs.Layout.{SLOTS, TREES, ENTRIES, TREE_FIELDS, NODE_FIELDS, entry_place, entry, place, word, child_place, child}
 
 module _ (s : List ℕ) where
   pub word_there : (f i : ℕ) → f < NODE_FIELDS → i < SLOTS → word s f i ≡ get_or s (place f i) 0
-  unfolding word ◌&&◌
+  unfolding word ◌and◌
   word_there f i g h = rw (lt-ltb f NODE_FIELDS g, lt-ltb i SLOTS h)
 
   pub entry_there : (j k : ℕ) → j < TREE_FIELDS → k < TREES → entry s j k ≡ get_or s (entry_place j k) 0
-  unfolding entry ◌&&◌
+  unfolding entry ◌and◌
   entry_there j k g h = rw (lt-ltb j TREE_FIELDS g, lt-ltb k TREES h)
 
   pub child_there : (own j : ℕ) → j < ENTRIES → child s own j ≡ get_or s (child_place j) 0

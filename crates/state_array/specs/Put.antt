@@ -1,7 +1,6 @@
 -- What each writer leaves in the array: the words of a row in their places. Past the last slot, tree and entry nothing is changed.
 -- Assumes nothing.
-use Rattle.std.specs.Prelude.{List, ℕ, zero, suc, ◌+◌, ltb, length, get_or, set}
-use Rattle.base.specs.Tests.{if◌then◌else◌}
+use Rattle.std.specs.Prelude.{List, ℕ, zero, suc, ◌+◌, ltb, length, get_or, set, if◌then◌else◌}
 use Rattle.base.specs.Bytes.{list_of}
 use Rattle.ids.specs.declared.NodeId.{NodeId}
 use Rattle.ids.specs.declared.FullNodeId.{FullNodeId}

@@ -1,10 +1,10 @@
 -- The one image of an abstract state in memory: counts, the table of trees, the nodes field by field, the child entries run after run.
 -- Places that are not used are 0, flags are 0 or 1, and nothing stands there but what the state says. Assumes nothing.
-use Rattle.std.specs.Prelude.{true, List, [], ◌∷◌, ◌++◌, map, ◌≡◌, ℕ, ◌+◌, ◌*◌, ◌≤◌, ◌<◌, ltb, Float, length, get_or}
+use Rattle.std.specs.Prelude.{true, List, [], ◌∷◌, ◌++◌, map, ◌≡◌, ℕ, ◌+◌, ◌*◌, ◌≤◌, ◌<◌, ltb, Float, length, get_or, if◌then◌else◌}
 use Rattle.std.proofs.Math.Option.{Option, none, some}
 use Rattle.std.specs.Float.Ieee.{fits, of_bits, to_bits}
 use Rattle.std.specs.Float.{binary64}
-use Rattle.base.specs.Tests.{if◌then◌else◌, all}
+use Rattle.base.specs.Tests.{all}
 use Rattle.base.specs.Bytes.{le, list_of, sum_of}
 use Rattle.base.specs.Regions.{Part, part, image}
 use Rattle.ids.specs.Ids.{ROOT}

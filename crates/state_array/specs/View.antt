@@ -5,11 +5,10 @@
 -- so no sound state has a child range that leaves the entries. A label longer than its room is shown with that length. A float is its bit
 -- pattern's: a NaN's pattern is shown as NaN, which is not finite.
 -- Assumes nothing.
-use Rattle.std.specs.Prelude.{not, List, ℕ, ◌+◌, ◌*◌, ◌/◌, ◌%◌, ◌^◌, min, eqb, ltb, Float}
+use Rattle.std.specs.Prelude.{not, List, ℕ, ◌+◌, ◌*◌, ◌/◌, ◌%◌, ◌^◌, min, eqb, ltb, Float, if◌then◌else◌}
 use Rattle.std.proofs.Math.Option.{Option, none, some}
 use Rattle.std.specs.Float.Ieee.{of_bits}
 use Rattle.std.specs.Float.{binary64}
-use Rattle.base.specs.Tests.{if◌then◌else◌}
 use Rattle.base.specs.Bytes.{bit, list_of}
 use Rattle.ids.specs.declared.TreeId.{TreeId}
 use Rattle.ids.specs.declared.NodeId.{NodeId}

@@ -2,8 +2,8 @@
 // It is lent whole, so a function takes one argument for it, and no call copies it.
 #![tactic(auto)]
 
-ghost use Rattle.std.specs.Prelude.{◌≡◌, ◌+◌, ◌≤◌, ◌<◌, ◌%◌, ◌^◌, min, ltb, length, set};
-ghost use Rattle.base.specs.Tests.{◌&&◌, if◌then◌else◌};
+ghost use Rattle.std.specs.Prelude.{◌≡◌, ◌+◌, ◌≤◌, ◌<◌, ◌%◌, ◌^◌, min, ltb, length, set, if◌then◌else◌};
+ghost use Rattle.base.specs.Tests.{◌and◌};
 ghost use Rattle.base.specs.Bytes.{bit, list_of};
 ghost use Rattle.state_array.specs.Layout as at;
 ghost use Rattle.state_array.specs.Layout.{blank_words, host_of, entry, word, child, place, entry_place, child_place};
@@ -428,7 +428,7 @@ pub fn tree_at(state: &State, k: usize) -> TreeRow
 
 // Where field f of slot i stands, past the last word where there is no such place; so with the two below.
 pub fn node_place(f: usize, i: usize) -> usize
-    ensures { result ≡ (if ltb f at.NODE_FIELDS && ltb i at.SLOTS then place f i else at.WORDS) }
+    ensures { result ≡ (if ltb f at.NODE_FIELDS and ltb i at.SLOTS then place f i else at.WORDS) }
 {
     if FIELDS <= f {
         return WORDS;
@@ -442,7 +442,7 @@ pub fn node_place(f: usize, i: usize) -> usize
 
 // Where field j of tree k stands.
 pub fn tree_place(j: usize, k: usize) -> usize
-    ensures { result ≡ (if ltb j at.TREE_FIELDS && ltb k at.TREES then entry_place j k else at.WORDS) }
+    ensures { result ≡ (if ltb j at.TREE_FIELDS and ltb k at.TREES then entry_place j k else at.WORDS) }
 {
     if TREE_FIELDS <= j {
         return WORDS;

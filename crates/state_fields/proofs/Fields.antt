@@ -6,7 +6,7 @@ use Prim.Native.Nat.{ℕ, ◌^◌, ◌<◌}
 use lib.Dec.{eqb, leb, ltb}
 use lib.Ieee.{of_bits, binary64}
 use borrow.Author.Tests.{eq-eqb, ne_eqb}
-use Rattle.base.specs.Tests.{◌&&◌, all}
+use Rattle.base.specs.Tests.{◌and◌, all}
 use Rattle.base.specs.Bytes.{bit, all_below}
 use Rattle.base.specs.Floats.{zero_bytes}
 use Rattle.base.proofs.Bytes.{length_list_of}
@@ -23,15 +23,15 @@ use Rattle.state_fields.specs.Fields.{zero_from, finite_from}
 pub fields_read : (s : List ℕ) (i : ℕ)
     → fields_ok (body_in s i)
     ≡ (leb (word s LABEL_LENGTH i) 32
-    && ltb (word s ROLE i) 256
-    && ltb (word s FLAGS i) 64
-    && (bit 4 (word s FLAGS i) || eqb (word s ACTIVE i) 0)
-    && (bit 8 (word s FLAGS i) || (eqb (word s GRAFT_HIGH i) 0 && eqb (word s GRAFT_LOW i) 0))
-    && (bit 16 (word s FLAGS i) || zero_from s i 0 4)
-    && (bit 32 (word s FLAGS i) || zero_from s i 4 6)
-    && finite_from s i 0 4
-    && finite_from s i 4 6)
-unfolding fields_ok body_in shape_in label_in bounds_in transform_in same_tree rect_test affine_test all_below ◌&&◌
+    and ltb (word s ROLE i) 256
+    and ltb (word s FLAGS i) 64
+    and (bit 4 (word s FLAGS i) || eqb (word s ACTIVE i) 0)
+    and (bit 8 (word s FLAGS i) || (eqb (word s GRAFT_HIGH i) 0 and eqb (word s GRAFT_LOW i) 0))
+    and (bit 16 (word s FLAGS i) || zero_from s i 0 4)
+    and (bit 32 (word s FLAGS i) || zero_from s i 4 6)
+    and finite_from s i 0 4
+    and finite_from s i 4 6)
+unfolding fields_ok body_in shape_in label_in bounds_in transform_in same_tree rect_test affine_test all_below ◌and◌
 fields_read s i = rw (length_list_of (word s LABEL_LENGTH i) (label_byte s i))
 
 -- a state's nodes do where its slots do

@@ -1,7 +1,7 @@
 -- What the searches answer: the slot of a node, the tree of a tree id. Assumes nothing.
-use Rattle.std.specs.Prelude.{Bool, true, List, ◌≡◌, ℕ, ◌+◌, ◌-◌, ◌≤◌, ◌<◌, ltb, length, set}
+use Rattle.std.specs.Prelude.{Bool, true, List, ◌≡◌, ℕ, ◌+◌, ◌-◌, ◌≤◌, ◌<◌, ltb, length, set, if◌then◌else◌}
 use Rattle.std.proofs.Math.Option.{Option, none, some}
-use Rattle.base.specs.Tests.{◌&&◌, if◌then◌else◌}
+use Rattle.base.specs.Tests.{◌and◌}
 use Rattle.base.specs.Bytes.{all_below}
 use Rattle.base.specs.Search.{First}
 use Rattle.ids.specs.Ids.{same_id, before}
@@ -25,7 +25,7 @@ stands_at s x i = same_id x (id_in s i)
 
 -- the id stands in slot i, one of the first n of a row
 unfoldable pub in_slot : ℕ → (ℕ → FullNodeId) → FullNodeId → ℕ → Bool
-in_slot n id x i = ltb i n && same_id x (id i)
+in_slot n id x i = ltb i n and same_id x (id i)
 
 -- What a search by bisection for x among the first n of a row answers: a slot where x stands, or n; and where the ids ascend, the slot of x.
 pub record SlotAmong (n : ℕ) (id : ℕ → FullNodeId) (x : FullNodeId) (r : ℕ) : Type 0 where
@@ -38,7 +38,7 @@ SlotOf s x r = SlotAmong (slots_of s) (id_in s) x r
 
 -- a list of hints, two bytes each, with a hint for slot i, if the list is that long and the hint fits
 unfoldable pub with_hint : List ℕ → ℕ → ℕ → List ℕ
-with_hint hints i hint = if ltb i (length hints) && ltb hint 65536 then set hints i hint else hints
+with_hint hints i hint = if ltb i (length hints) and ltb hint 65536 then set hints i hint else hints
 
 -- what a search for a tree found
 unfoldable pub ends_of : FoundTree → Option SubtreeState

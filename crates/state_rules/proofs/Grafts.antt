@@ -10,7 +10,7 @@ use lib.Dec.{eqb}
 use lib.ListN.{length, get_or, set, replicate, length-set, length-replicate}
 use lib.Seq.{get_or-set_same, get_or-set_other}
 use borrow.Author.Tests.{eq-eqb, ne_eqb, eqb-true}
-use Rattle.base.specs.Tests.{◌&&◌, is_some, is_nil, any, all, distinct, given, same_option}
+use Rattle.base.specs.Tests.{◌and◌, is_some, is_nil, any, all, distinct, given, same_option}
 use Rattle.base.specs.Bytes.{bit, all_below, list_of}
 use Rattle.base.proofs.Cases.{by_test, by_option, by_last}
 use Rattle.base.proofs.Scan.{Passed, scan_start, scan_more, scan_fails, scan_end}
@@ -50,7 +50,7 @@ module _ (s : List ℕ) where
 
   -- a node grafts t where its graft is t
   grafts_is : (t : TreeId) (i : ℕ) → grafts_tree s t i ≡ elim (graft_in s i) [ none ↦ false | some g ↦ same_tree t g ]
-  unfolding grafts_tree graft_in ◌&&◌
+  unfolding grafts_tree graft_in ◌and◌
   grafts_is t i = by_test (bit 8 (shape_in s i).flags) (λ e. rw e) (λ e. rw e)
 
   -- none grafts t where t is not among the grafts
@@ -173,7 +173,7 @@ module _ (s : List ℕ) where
 
   -- a node grafts a tree by its row
   pub grafts_at : (x : TreeId) (i : ℕ) → same_option same_tree (graft? (node_in s i).body) (some x) ≡ grafts_tree s x i
-  unfolding node_in body_in graft? grafts_tree ◌&&◌
+  unfolding node_in body_in graft? grafts_tree ◌and◌
   grafts_at x i = by_test (bit 8 (shape_in s i).flags) (λ e. rw e (same_tree_swap (shape_in s i).graft x)) (λ e. rw e)
 
   -- a tree has a holder where not none of the nodes grafts it

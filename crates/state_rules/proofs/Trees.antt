@@ -10,7 +10,7 @@ use native.Mathlib.Numerals.{add-one}
 use native.Mathlib.Omega.{arith}
 use lib.Dec.{eqb, ltb}
 use borrow.Author.Tests.{eq-eqb, ne_eqb, lt-ltb, le-ltb}
-use Rattle.base.specs.Tests.{◌&&◌, any, all, distinct}
+use Rattle.base.specs.Tests.{◌and◌, any, all, distinct}
 use Rattle.base.specs.Bytes.{all_below, list_of}
 use Rattle.base.specs.Search.{First}
 use Rattle.base.proofs.Tests.{both, clash}
@@ -70,12 +70,12 @@ module _ (s : List ℕ) where
   -- ## ROOT
 
   -- ROOT comes first, by the first row
-  root_of_lem : (m : ℕ) → root_first (list_of m (entry_in s)) ≡ ltb 0 m && same_tree (tree_in s 0).id ROOT && not (eqb (tree_in s 0).exists 0)
-  unfolding root_first list_of entry_in ◌&&◌
+  root_of_lem : (m : ℕ) → root_first (list_of m (entry_in s)) ≡ ltb 0 m and same_tree (tree_in s 0).id ROOT and not (eqb (tree_in s 0).exists 0)
+  unfolding root_first list_of entry_in ◌and◌
   root_of_lem zero = sym (rw (le-ltb 0 0 (omega arith)))
   root_of_lem (suc m) = rw (lt-ltb 0 (suc m) (omega arith)) (by_test (eqb (tree_in s 0).exists 0) (λ e. rw e) (λ e. rw e))
 
-  pub root_first_lem : root_first (view s).forest.trees ≡ ltb 0 (trees_of s) && same_tree (tree_in s 0).id ROOT && not (eqb (tree_in s 0).exists 0)
+  pub root_first_lem : root_first (view s).forest.trees ≡ ltb 0 (trees_of s) and same_tree (tree_in s 0).id ROOT and not (eqb (tree_in s 0).exists 0)
   unfolding view
   root_first_lem = root_of_lem (trees_of s)
 
@@ -119,7 +119,7 @@ module _ (s : List ℕ) where
   rooted_list k zero entry = refl
   rooted_list k (suc m) entry =
       rw (add-zero k, rooted_list (suc k) m (λ i. entry (suc i)))
-      (ap (λ l. grafted ns k (entry 0) && all (λ b. b) l) (list_of_cong m _ _ (λ j l. let next : suc k + j ≡ k + suc j = omega arith in rw next)))
+      (ap (λ l. grafted ns k (entry 0) and all (λ b. b) l) (list_of_cong m _ _ (λ j l. let next : suc k + j ≡ k + suc j = omega arith in rw next)))
 
   -- so of all trees
   pub rooted_is : all_grafted ns 0 (view s).forest.trees ≡ all_rooted s (trees_of s)
@@ -136,11 +136,11 @@ module _ (s : List ℕ) (k : ℕ) {t : TreeRow} (is : t ≡ tree_in s k) where
 
   -- its root's slot is found by a search, or where the ids ascend by bisection
   pub rooted_found : (t.exists ≡ 0 → ⊥) → {r : ℕ} → First (stands_at s (record { tree = record { 0 = k }; node = t.root })) (slots_of s) r
-      → rooted_in s k ≡ ltb r (slots_of s) && (eqb k 0 || not (none_grafts s t.id (slots_of s)))
+      → rooted_in s k ≡ ltb r (slots_of s) and (eqb k 0 || not (none_grafts s t.id (slots_of s)))
   unfolding rooted_in
   rooted_found e {r} found =
       rw (← is, ne_eqb t.exists 0 e, first_any (same_id (record { tree = record { 0 = k }; node = t.root })) (slots_of s) (id_in s) r found)
 
   pub rooted_born : (t.exists ≡ 0 → ⊥) → {r : ℕ} → SlotOf s (record { tree = record { 0 = k }; node = t.root }) r → in_order s ≡ true
-      → rooted_in s k ≡ ltb r (slots_of s) && (eqb k 0 || not (none_grafts s t.id (slots_of s)))
+      → rooted_in s k ≡ ltb r (slots_of s) and (eqb k 0 || not (none_grafts s t.id (slots_of s)))
   rooted_born e slot up = rooted_found e (slot.first up)

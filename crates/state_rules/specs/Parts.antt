@@ -1,6 +1,6 @@
 -- What the rules answer, over the words of a state. Assumes nothing.
 use Rattle.std.specs.Prelude.{Bool, true, not, ◌||◌, List, [], ◌∷◌, ◌≡◌, ℕ, ◌+◌, ◌%◌, ◌<◌, eqb, drop, get_or}
-use Rattle.base.specs.Tests.{◌&&◌, any}
+use Rattle.base.specs.Tests.{◌and◌, any}
 use Rattle.base.specs.Bytes.{bit, all_below, list_of}
 use Rattle.ids.specs.Ids.{same_tree, same_id}
 use Rattle.ids.specs.declared.TreeId.{TreeId}
@@ -18,7 +18,7 @@ bare_in s i = not (bit 8 (shape_in s i).flags) || eqb (shape_in s i).child_count
 
 -- the node in slot i grafts t
 unfoldable pub grafts_tree : List ℕ → TreeId → ℕ → Bool
-grafts_tree s t i = bit 8 (shape_in s i).flags && same_tree t (shape_in s i).graft
+grafts_tree s t i = bit 8 (shape_in s i).flags and same_tree t (shape_in s i).graft
 
 -- none of the first n does
 unfoldable pub none_grafts : List ℕ → TreeId → ℕ → Bool
@@ -39,7 +39,7 @@ unfoldable pub rooted_in : List ℕ → ℕ → Bool
 rooted_in s k =
     eqb (tree_in s k).exists 0
     || (any (same_id (record { tree = record { 0 = k }; node = (tree_in s k).root })) (list_of (slots_of s) (id_in s))
-    && (eqb k 0 || not (none_grafts s (tree_in s k).id (slots_of s))))
+    and (eqb k 0 || not (none_grafts s (tree_in s k).id (slots_of s))))
 
 -- so do the first m trees
 unfoldable pub all_rooted : List ℕ → ℕ → Bool

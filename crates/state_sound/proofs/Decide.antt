@@ -9,7 +9,7 @@ use native.Mathlib.Omega.{arith}
 use lib.Dec.{eqb}
 use lib.ListN.{length}
 use borrow.Author.Tests.{eq-eqb, ne_eqb, le-leb, leb-true}
-use Rattle.base.specs.Tests.{◌&&◌, all}
+use Rattle.base.specs.Tests.{◌and◌, all}
 use Rattle.base.specs.Search.{First}
 use Rattle.base.proofs.Cases.{by_test}
 use Rattle.base.proofs.Tests.{and_right, and_false, and_comm, and_assoc, and_swap, call_false, clash, refuted}
@@ -32,8 +32,8 @@ use Rattle.state_sound.proofs.Walks.{counted_refused, counted_on, recorded_absen
 
 -- over ids that ascend, the shape is the rules that do not go down, and the way down in one pass
 by_passes : (s : Forest) (r : FullNodeId) → (root_first s.trees ≡ true → root_of s ≡ some r) → ascending s.nodes ≡ true
-    → sound_shape s ≡ sound_grafts s && counted (length s.nodes) s (record { id = r; link = none } ∷ [])
-unfolding sound_shape sound_links sound_trees sound_grafts ◌&&◌
+    → sound_shape s ≡ sound_grafts s and counted (length s.nodes) s (record { id = r; link = none } ∷ [])
+unfolding sound_shape sound_links sound_trees sound_grafts ◌and◌
 by_passes s r root up =
     by_test (root_first s.trees) (λ h. rw (← links_counted s r (root h) up, up, h) (simp (and_right, and_comm, and_assoc, and_swap)))
     (λ h. rw h (simp and_false))
@@ -53,7 +53,7 @@ module _ (s : List ℕ) where
   taken = length_list_of (trees_of s) (entry_in s)
 
   -- the shape over ids in order, and over ids out of order
-  pub shape_ordered : ascending f.nodes ≡ true → sound_shape f ≡ sound_grafts f && counted_all s
+  pub shape_ordered : ascending f.nodes ≡ true → sound_shape f ≡ sound_grafts f and counted_all s
   unfolding counted_all
   shape_ordered up = rw (← many) (by_passes f (start_in s).id (root_is s) up)
 
@@ -99,7 +99,7 @@ module _ (s : List ℕ) where
   sound_overgrown trees h = sym (refuted (λ e. omega (arith, leb-true (length f.trees) 32 (sound_parts f e).few_trees, taken)))
 
   -- what is left of soundness where there are not too many
-  pub sound_small : slots_of s ≤ 256 → trees_of s ≤ 32 → sound f ≡ sound_shape f && all (λ k. fields_ok k.body) f.nodes && focus_present f
+  pub sound_small : slots_of s ≤ 256 → trees_of s ≤ 32 → sound f ≡ sound_shape f and all (λ k. fields_ok k.body) f.nodes and focus_present f
   unfolding sound
   sound_small few_nodes few_trees =
       rw (le-leb (length f.nodes) 256 (omega (arith, many)), le-leb (length f.trees) 32 (omega (arith, taken))) (simp and_right)

@@ -9,7 +9,7 @@ use native.Mathlib.Omega.{arith}
 use lib.Dec.{eqb, leb, eqb-zero-suc, eqb-suc-zero, eqb-suc-suc}
 use lib.ListN.{length}
 use borrow.Author.Tests.{eqb-true, eq-eqb, le-leb}
-use Rattle.base.specs.Tests.{◌&&◌, all}
+use Rattle.base.specs.Tests.{◌and◌, all}
 use Rattle.base.proofs.Tests.{both, joined, and_false, iff, and_assoc}
 use Rattle.ids.specs.declared.FullNodeId.{FullNodeId}
 use Rattle.state.specs.State.{Forest}
@@ -23,10 +23,10 @@ use Rattle.state.proofs.Once.{once, each_once}
 -- ## The one pass
 
 down_counted : (s : Forest) (room : ℕ) (ms : List Met)
-    → counted room s ms ≡ all (recorded s.nodes) (down (suc room) s ms) && eqb (length (down (suc room) s ms)) room
-unfolding counted down ◌&&◌
+    → counted room s ms ≡ all (recorded s.nodes) (down (suc room) s ms) and eqb (length (down (suc room) s ms)) room
+unfolding counted down ◌and◌
 down_counted s zero [] = refl
-down_counted s zero (m ∷ ms) = rw (eqb-suc-zero 0) (sym (and_false (recorded s.nodes m && true)))
+down_counted s zero (m ∷ ms) = rw (eqb-suc-zero 0) (sym (and_false (recorded s.nodes m and true)))
 down_counted s (suc room) [] = sym (eqb-zero-suc room)
 down_counted s (suc room) (m ∷ ms) =
     let rest = down (suc room) s (below_id s m.id ++ ms) in
@@ -35,7 +35,7 @@ down_counted s (suc room) (m ∷ ms) =
 
 -- every node is met once, every one met is recorded so, and the way ends by itself: what one pass from the root finds, over ids that ascend
 pub links_counted : (s : Forest) (r : FullNodeId) → root_of s ≡ some r → ascending s.nodes ≡ true
-    → (all (met_once (way_down s)) s.nodes && all (recorded s.nodes) (way_down s) && way_ends s) ≡ counted (length s.nodes) s (record { id = r; link = none } ∷ [])
+    → (all (met_once (way_down s)) s.nodes and all (recorded s.nodes) (way_down s) and way_ends s) ≡ counted (length s.nodes) s (record { id = r; link = none } ∷ [])
 unfolding way_ends
 links_counted s r q up = rw (way_down_from s r q) (iff there back ∙ sym (down_counted s (length s.nodes) start))
   where
@@ -45,14 +45,14 @@ links_counted s r q up = rw (way_down_from s r q) (iff there back ∙ sym (down_
     way : List Met
     way = down (suc (length s.nodes)) s start
 
-    there : all (met_once way) s.nodes && all (recorded s.nodes) way && leb (length way) (length s.nodes) ≡ true
-        → all (recorded s.nodes) way && eqb (length way) (length s.nodes) ≡ true
+    there : all (met_once way) s.nodes and all (recorded s.nodes) way and leb (length way) (length s.nodes) ≡ true
+        → all (recorded s.nodes) way and eqb (length way) (length s.nodes) ≡ true
     there h =
         let many = once_total s.nodes way (both (both h).0).0 in
         joined (both (both h).0).1 (eq-eqb (length way) (length s.nodes) (omega (arith, total_all s.nodes up way (both (both h).0).1)))
 
-    back : all (recorded s.nodes) way && eqb (length way) (length s.nodes) ≡ true
-        → all (met_once way) s.nodes && all (recorded s.nodes) way && leb (length way) (length s.nodes) ≡ true
+    back : all (recorded s.nodes) way and eqb (length way) (length s.nodes) ≡ true
+        → all (met_once way) s.nodes and all (recorded s.nodes) way and leb (length way) (length s.nodes) ≡ true
     back h =
         let All-there = (both h).0 in
         let long = eqb-true (length way) (length s.nodes) (both h).1 in

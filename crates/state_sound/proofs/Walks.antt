@@ -11,7 +11,7 @@ use lib.Dec.{eqb, ltb, leb}
 use lib.ListN.{length, drop, get_or, set, replicate, length-set, length-replicate}
 use lib.Seq.{get_or-set_same, get_or-set_other}
 use borrow.Author.Tests.{eq-eqb, ne_eqb, lt-ltb, le-ltb, ltb-true, ltb-false, leb-true, leb-false}
-use Rattle.base.specs.Tests.{◌&&◌, same_option}
+use Rattle.base.specs.Tests.{◌and◌, same_option}
 use Rattle.base.proofs.Tests.{or_false}
 use Rattle.base.specs.Search.{First}
 use Rattle.ids.specs.Ids.{same_id}
@@ -34,7 +34,7 @@ use Rattle.state_sound.specs.Parts.{MetAt, counted_below}
 module _ (f : Forest) (x : Met) (xs : List Met) where
   -- a node that is not recorded so, one too many, and one that is gone down from
   pub counted_refused : (left : ℕ) → recorded f.nodes x ≡ false → counted left f (x ∷ xs) ≡ false
-  unfolding counted ◌&&◌
+  unfolding counted ◌and◌
   counted_refused zero e = refl
   counted_refused (suc left) e = rw e
 
@@ -44,7 +44,7 @@ module _ (f : Forest) (x : Met) (xs : List Met) where
   counted_full (suc left) h = absurd (omega arith)
 
   pub counted_on : (left : ℕ) → 0 < left → recorded f.nodes x ≡ true → counted left f (x ∷ xs) ≡ counted (left - 1) f (below_id f x.id ++ xs)
-  unfolding counted ◌&&◌
+  unfolding counted ◌and◌
   counted_on zero h e = absurd (omega arith)
   counted_on (suc left) h e = let one_less : suc left - 1 ≡ left = omega arith in rw (e, one_less)
 
@@ -98,8 +98,8 @@ module _ (s : List ℕ) (x : FullNodeId) (i : ℕ) (found : First (stands_at s x
 
 -- what a row says of a link to p at place j
 pub agrees_is : (l : LinkRow) (p : FullNodeId) (j : ℕ)
-    → same_option same_link (link_of l) (some (record { parent = p; index = j })) ≡ not (eqb l.linked 0) && (same_id l.parent p && eqb l.index j)
-unfolding link_of same_link ◌&&◌
+    → same_option same_link (link_of l) (some (record { parent = p; index = j })) ≡ not (eqb l.linked 0) and (same_id l.parent p and eqb l.index j)
+unfolding link_of same_link ◌and◌
 agrees_is l p j = by_test (eqb l.linked 0) (λ e. rw e) (λ e. rw e)
 
 -- the slot of a node that is met, for each way out of `met_at`

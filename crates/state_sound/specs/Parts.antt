@@ -1,7 +1,7 @@
 -- What the parts of the decider answer, over the words of a state. Assumes nothing.
 use Rattle.std.specs.Prelude.{Bool, List, [], ◌∷◌, ◌≡◌, ℕ, ◌-◌, ◌<◌, ltb}
 use Rattle.std.proofs.Math.Option.{none}
-use Rattle.base.specs.Tests.{◌&&◌, all}
+use Rattle.base.specs.Tests.{◌and◌, all}
 use Rattle.base.specs.Search.{First}
 use Rattle.ids.specs.declared.FullNodeId.{FullNodeId}
 use Rattle.state.specs.State.{Forest}
@@ -15,7 +15,7 @@ use Rattle.state_rules.specs.Parts.{below_in}
 -- the rules that do not go down
 unfoldable pub sound_grafts : Forest → Bool
 sound_grafts s =
-    all graft_is_bare s.nodes && grafts_differ s.nodes && root_first s.trees && one_id_each s.trees && all_grafted s.nodes 0 s.trees
+    all graft_is_bare s.nodes and grafts_differ s.nodes and root_first s.trees and one_id_each s.trees and all_grafted s.nodes 0 s.trees
 
 -- The node met at place j below slot p stands in slot r and records so; r is the number of slots where it does not.
 pub record MetAt (s : List ℕ) (p j : ℕ) (x : FullNodeId) (r : ℕ) : Type 0 where

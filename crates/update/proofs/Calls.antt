@@ -7,7 +7,7 @@ use mathlib.Core.Path.{◌≡◌, refl, ap}
 use Prim.Native.Nat.{ℕ, zero, suc}
 use lib.ListN.{length}
 use borrow.Author.Tests.{ltb-false}
-use Rattle.base.specs.Tests.{◌&&◌}
+use Rattle.base.specs.Tests.{◌and◌}
 use Rattle.ids.specs.declared.TreeId.{TreeId}
 use Rattle.record.specs.Batch.{Batch}
 use Rattle.record.specs.Parse.{parse}
@@ -69,5 +69,5 @@ numbers_kept s b = ids_kept s b 0 s.trees (new_entry s b)
 -- ## The blank state, which a refused start hands back, is not sound
 
 pub blank_unsound : sound blank.forest ≡ false
-unfolding sound sound_shape sound_links sound_trees blank root_first way_down root_of subtree_of subtree_from grafts_differ ◌&&◌
+unfolding sound sound_shape sound_links sound_trees blank root_first way_down root_of subtree_of subtree_from grafts_differ ◌and◌
 blank_unsound = refl

@@ -3,7 +3,7 @@
 use mathlib.Core.List.{List, [], ◌∷◌, ◌++◌, map}
 use mathlib.Core.Path.{◌≡◌, refl, ap}
 use lib.Ieee.{of_bits, to_bits, eq}
-use Rattle.base.specs.Tests.{◌&&◌}
+use Rattle.base.specs.Tests.{◌and◌}
 use Rattle.base.specs.Tables.{first}
 use Rattle.base.specs.Bytes.{little_endian, le, bytes_of, all_below, zeros, list_of, sum_of}
 use Rattle.base.specs.Floats.{zero_bytes, same_value}
@@ -48,7 +48,7 @@ AllRight (c ∷ cs) = Right c × AllRight cs
 
 -- `unfolding computed` unfolds every definition
 computed : Unit {0}
-unfolding of_bits to_bits eq ◌&&◌ first little_endian le bytes_of all_below zeros list_of sum_of zero_bytes same_value same_tree same_index same_node same_id
+unfolding of_bits to_bits eq ◌and◌ first little_endian le bytes_of all_below zeros list_of sum_of zero_bytes same_value same_tree same_index same_node same_id
     before rect_test affine_test same_rect same_affine active_descendant? graft? bounds? transform? fields_ok same_data listed_ids named_ids header_ok
     children_before labels_before record_ok well_formed batch_of parse record_bytes records_bytes entry_bytes labels header_bytes encode same_link find present
     graft_at link_at parent_at holder subtree_state subtree_from subtree_of met_under children_met below below_id down root_of way_down climb through_grafts
@@ -295,23 +295,23 @@ unfolding computed start_of_pane
 start_of_pane_lem = refl
 
 -- one fact, and the others
-infixr 30 ◌and◌
-◌and◌ : {A B : Type 0} → A → B → A × B
-x and xs = (x, xs)
+infixr 30 ◌also◌
+◌also◌ : {A B : Type 0} → A → B → A × B
+x also xs = (x, xs)
 
 -- cases 1 to 14, and more: traps, grafts, the focus, the rows
 pub the_cases : AllRight (cases ++ (traps ++ graft_cases ++ focus_cases ++ row_cases))
 the_cases =
-    start_accepted_lem and child_twice_lem and child_dropped_lem and focus_dropped_lem and child_nowhere_lem and node_alone_lem and changed_then_dropped_lem
-    and dropped_then_changed_lem and graft_with_child_lem and graft_made_lem and pane_started_lem and pane_without_tree_data_lem and graft_twice_lem and focus_on_empty_graft_lem
-    and graft_moved_lem and child_of_itself_lem and new_root_under_old_parent_lem and new_root_of_pane_lem and new_root_dropped_lem and unchanged_then_dropped_lem
-    and dropped_then_unchanged_lem and new_root_below_lem and new_root_named_then_listed_lem and new_root_listed_then_named_lem and roots_in_circle_lem
-    and children_swapped_lem and named_by_two_lem and pane_root_keeps_link_lem and pane_root_marked_lem and sign_of_zero_lem and graft_goes_and_claimed_lem
-    and graft_kept_and_claimed_lem and root_graft_never_placed_lem and graft_with_child_twice_lem and second_graft_placed_first_lem and root_graft_placed_first_lem
-    and child_nowhere_and_graft_held_lem and graft_held_lem and graft_released_by_gone_lem and graft_let_go_lem and graft_unchanged_lem and tree_let_go_lem
-    and other_tree_given_lem and tree_grafted_again_lem and tree_given_again_lem and nested_tree_moved_lem and focus_moves_on_lem and active_descendant_is_graft_lem
-    and host_leaves_lem and tree_without_graft_lem and listed_twice_lem and slice_too_short_lem and state_unsound_lem and host_of_unsound_lem and record_broken_lem
-    and start_broken_lem and start_without_tree_data_lem and start_of_pane_lem and tt
+    start_accepted_lem also child_twice_lem also child_dropped_lem also focus_dropped_lem also child_nowhere_lem also node_alone_lem also changed_then_dropped_lem
+    also dropped_then_changed_lem also graft_with_child_lem also graft_made_lem also pane_started_lem also pane_without_tree_data_lem also graft_twice_lem also focus_on_empty_graft_lem
+    also graft_moved_lem also child_of_itself_lem also new_root_under_old_parent_lem also new_root_of_pane_lem also new_root_dropped_lem also unchanged_then_dropped_lem
+    also dropped_then_unchanged_lem also new_root_below_lem also new_root_named_then_listed_lem also new_root_listed_then_named_lem also roots_in_circle_lem
+    also children_swapped_lem also named_by_two_lem also pane_root_keeps_link_lem also pane_root_marked_lem also sign_of_zero_lem also graft_goes_and_claimed_lem
+    also graft_kept_and_claimed_lem also root_graft_never_placed_lem also graft_with_child_twice_lem also second_graft_placed_first_lem also root_graft_placed_first_lem
+    also child_nowhere_and_graft_held_lem also graft_held_lem also graft_released_by_gone_lem also graft_let_go_lem also graft_unchanged_lem also tree_let_go_lem
+    also other_tree_given_lem also tree_grafted_again_lem also tree_given_again_lem also nested_tree_moved_lem also focus_moves_on_lem also active_descendant_is_graft_lem
+    also host_leaves_lem also tree_without_graft_lem also listed_twice_lem also slice_too_short_lem also state_unsound_lem also host_of_unsound_lem also record_broken_lem
+    also start_broken_lem also start_without_tree_data_lem also start_of_pane_lem also tt
 
 -- the numbers of cases 1 to 14, as they are said
 says_numbers : (cs : List Case) → AllRight cs → map (λ c. c.got.number) cs ≡ map (λ c. c.says.number) cs

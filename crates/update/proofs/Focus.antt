@@ -5,7 +5,8 @@ use mathlib.Core.Option.{none, some}
 use mathlib.Core.Path.{◌≡◌, refl, sym, ◌∙◌}
 use Prim.Native.Nat.{ℕ, suc, ◌+◌}
 use lib.ListN.{length}
-use Rattle.base.specs.Tests.{if◌then◌else◌, any, all, same_option, distinct}
+use Rattle.std.specs.Prelude.{if◌then◌else◌}
+use Rattle.base.specs.Tests.{any, all, same_option, distinct}
 use Rattle.base.proofs.Tests.{same_option→≡}
 use Rattle.base.proofs.Lists.{none_of, all_of}
 use Rattle.ids.specs.Ids.{ROOT, same_tree, same_node}

@@ -6,7 +6,8 @@ use mathlib.Core.Path.{◌≡◌, refl, sym, ap, ◌∙◌}
 use Prim.Native.Nat.{◌+◌, ◌≤◌}
 use native.Mathlib.Omega.{arith}
 use lib.ListN.{length, length-map}
-use Rattle.base.specs.Tests.{◌&&◌, if◌then◌else◌, is_some, all, keep, has, distinct}
+use Rattle.std.specs.Prelude.{if◌then◌else◌}
+use Rattle.base.specs.Tests.{◌and◌, is_some, all, keep, has, distinct}
 use Rattle.base.proofs.Tests.{both, or_absorb, or_swap, or_right, all_keep}
 use Rattle.base.proofs.Lists.{all_map, count_rest}
 use Rattle.ids.specs.Ids.{same_index, same_node, same_id}
@@ -48,12 +49,12 @@ has_write_all t (l ∷ ls) ns x e =
 -- nothing of another tree is written
 pub has_elsewhere : (t : TreeIndex) (ls : List Listed) (ns : List NodeState) (x : FullNodeId) → same_index x.tree t ≡ false
     → has same_id (ids_of (write_all t ls ns)) x ≡ has same_id (ids_of ns) x
-unfolding write_all same_id ◌&&◌
+unfolding write_all same_id ◌and◌
 has_elsewhere t [] ns x e = refl
 has_elsewhere t (l ∷ ls) ns x e =
     has_elsewhere t ls (write (record { tree = t; node = l.id }) l.body ns) x e
     ∙ has_write (record { tree = t; node = l.id }) l.body ns x
-    ∙ ap (λ (c : Bool). (c && same_node x.node l.id) || has same_id (ids_of ns) x) e
+    ∙ ap (λ (c : Bool). (c and same_node x.node l.id) || has same_id (ids_of ns) x) e
 
 -- ## What goes, and what the outcome holds
 
@@ -68,14 +69,14 @@ module _ (s : Forest) (b : Batch) where
   old_written x e = has_write_all (tree_number s b) b.nodes s.nodes x (sym (present_has s.nodes x) ∙ e)
 
   -- the outcome holds what was there or is listed, and does not go
-  pub present_outcome : (x : FullNodeId) → present (outcome s b).nodes x ≡ (has same_id (ids_of (written s b)) x && not (gone s b x))
+  pub present_outcome : (x : FullNodeId) → present (outcome s b).nodes x ≡ (has same_id (ids_of (written s b)) x and not (gone s b x))
   unfolding outcome
   present_outcome x =
       present_has (outcome s b).nodes x
       ∙ ap (λ (xs : List FullNodeId). has same_id xs x) (ids_relink s b (keep (λ n. not (gone s b n.id)) (written s b)))
       ∙ sym (present_has (keep (λ n. not (gone s b n.id)) (written s b)) x)
       ∙ present_keep (λ y. not (gone s b y)) (written s b) x
-      ∙ ap (λ (c : Bool). c && not (gone s b x)) (present_has (written s b) x)
+      ∙ ap (λ (c : Bool). c and not (gone s b x)) (present_has (written s b) x)
 
 -- ## What is found in the outcome
 
@@ -139,15 +140,15 @@ module _ (s : Forest) (b : Batch) where
 
   -- a node is present afterwards if it does not go and was there or is listed
   pub present_after : ascending s.nodes ≡ true → distinct same_node (listed_ids b.nodes) ≡ true
-      → (x : FullNodeId) → present (outcome s b).nodes x ≡ (not (gone s b x) && (present s.nodes x || listed s b x))
-  unfolding present found_after found_written listed ◌&&◌
+      → (x : FullNodeId) → present (outcome s b).nodes x ≡ (not (gone s b x) and (present s.nodes x || listed s b x))
+  unfolding present found_after found_written listed ◌and◌
   present_after e u x =
       ap is_some (find_outcome e u x)
       ∙ go (gone s b x) (mine s b x) (find x s.nodes) (listing b.nodes x.node) (has same_node (listed_ids b.nodes) x.node) (listing_some b.nodes x.node)
     where
       go : (g c : Bool) (was : Option NodeState) (o : Option NodeData) (l : Bool) → is_some o ≡ l
           → is_some (if g then none else relinked (if c then elim o [ none ↦ was | some d ↦ some (merged x d was) ] else was))
-          ≡ (not g && (is_some was || (c && l)))
+          ≡ (not g and (is_some was || (c and l)))
       go true c was o l h = refl
       go false true none none l h = h
       go false true none (some d) l h = h

@@ -9,7 +9,8 @@ use mathlib.Core.Path.{◌≡◌, refl, sym, ap, ◌∙◌, subst}
 use Prim.Native.Nat.{ℕ}
 use native.Mathlib.Omega.{arith}
 use lib.Seq.{append_snoc}
-use Rattle.base.specs.Tests.{◌&&◌, if◌then◌else◌, is_some, is_nil, any, has, distinct, position, given}
+use Rattle.std.specs.Prelude.{if◌then◌else◌}
+use Rattle.base.specs.Tests.{◌and◌, is_some, is_nil, any, has, distinct, position, given}
 use Rattle.base.specs.Tables.{row, found}
 use Rattle.base.proofs.Tests.{both, not_true, or_false, one_of}
 use Rattle.base.proofs.Tables.{first_zero, first_found_zero}
@@ -86,7 +87,7 @@ module _ (s : Forest) (b : Batch) where
       let rest = fault s b seen (new ++ claimed) es in
       let twelve = row 12 (any (has same_tree claimed) new) in
       let eleven = row 11 (has same_tree new ROOT) in
-      let ten = row 10 (is_some (graft? l.body) && not (is_nil l.body.children)) in
+      let ten = row 10 (is_some (graft? l.body) and not (is_nil l.body.children)) in
       let after-ten = first_zero ten (eleven ∷ twelve ∷ found rest ∷ []) (λ z t. omega arith) e in
       let after-eleven = first_zero eleven (twelve ∷ found rest ∷ []) (λ z t. omega arith) after-ten.1 in
       let after-twelve = first_zero twelve (found rest ∷ []) (λ z t. omega arith) after-eleven.1 in

@@ -6,7 +6,8 @@ use mathlib.Core.Path.{◌≡◌, refl, sym, ap, ap₂, ◌∙◌}
 use Prim.Native.Nat.{ℕ, ◌≤◌}
 use native.Mathlib.Omega.{arith}
 use lib.ListN.{length, length-append, length-drop}
-use Rattle.base.specs.Tests.{◌&&◌, if◌then◌else◌, is_some, keep, same_option, has, distinct, all}
+use Rattle.std.specs.Prelude.{if◌then◌else◌}
+use Rattle.base.specs.Tests.{◌and◌, is_some, keep, same_option, has, distinct, all}
 use Rattle.base.proofs.Tests.{both, joined, all_keep, has_keep, all_member}
 use Rattle.base.proofs.Lists.{all_map, any_found}
 use Rattle.ids.specs.Ids.{same_node, same_id, before}
@@ -65,27 +66,27 @@ same_members (x ∷ xs) (y ∷ ys) p q h = go (same_id x y) refl (same_members x
 -- ## Added and removed
 
 module _ (s : Forest) (b : Batch) where
-  pub has_added : (x : FullNodeId) → has same_id (added s (outcome s b)) x ≡ (present (outcome s b).nodes x && not (present s.nodes x))
+  pub has_added : (x : FullNodeId) → has same_id (added s (outcome s b)) x ≡ (present (outcome s b).nodes x and not (present s.nodes x))
   unfolding added
   has_added x =
       has_keep same_id same_id→≡ (λ y. not (present s.nodes y)) (ids_of (outcome s b).nodes) x
-      ∙ ap (λ (c : Bool). c && not (present s.nodes x)) (sym (present_has (outcome s b).nodes x))
+      ∙ ap (λ (c : Bool). c and not (present s.nodes x)) (sym (present_has (outcome s b).nodes x))
 
-  pub has_removed : (x : FullNodeId) → has same_id (removed s (outcome s b)) x ≡ (present s.nodes x && not (present (outcome s b).nodes x))
+  pub has_removed : (x : FullNodeId) → has same_id (removed s (outcome s b)) x ≡ (present s.nodes x and not (present (outcome s b).nodes x))
   unfolding removed
   has_removed x =
       has_keep same_id same_id→≡ (λ y. not (present (outcome s b).nodes y)) (ids_of s.nodes) x
-      ∙ ap (λ (c : Bool). c && not (present (outcome s b).nodes x)) (sym (present_has s.nodes x))
+      ∙ ap (λ (c : Bool). c and not (present (outcome s b).nodes x)) (sym (present_has s.nodes x))
 
   -- what is removed is what goes
   pub removed_gone : (x : FullNodeId) → has same_id (removed s (outcome s b)) x ≡ gone s b x
-  unfolding ◌&&◌
+  unfolding ◌and◌
   removed_gone x =
       has_removed x
-      ∙ ap (λ (c : Bool). present s.nodes x && not c) (present_outcome s b x)
+      ∙ ap (λ (c : Bool). present s.nodes x and not c) (present_outcome s b x)
       ∙ go (present s.nodes x) (has same_id (ids_of (written s b)) x) (gone s b x) (old_written s b x) (gone_old s b x)
     where
-      go : (o w g : Bool) → (o ≡ true → w ≡ true) → (g ≡ true → o ≡ true) → (o && not (w && not g)) ≡ g
+      go : (o w g : Bool) → (o ≡ true → w ≡ true) → (g ≡ true → o ≡ true) → (o and not (w and not g)) ≡ g
       go true true true h k = refl
       go true true false h k = refl
       go true false g h k = absurd (false≢true (h refl))
@@ -98,16 +99,16 @@ module _ (s : Forest) (b : Batch) where
   -- listed with data that differs by value from the node's
   unfoldable pub data_changed : NodeState → Bool
   data_changed n =
-      listed s b n.id && elim (listing b.nodes n.id.node) [ none ↦ false | some d ↦ not (same_data n.body d) ]
+      listed s b n.id and elim (listing b.nodes n.id.node) [ none ↦ false | some d ↦ not (same_data n.body d) ]
 
   -- with a link afterwards that differs from the one that it records
   unfoldable pub link_changed : NodeState → Bool
   link_changed n =
-      is_some (link_after s b n.id n.parent_and_index) && not (same_option same_link n.parent_and_index (link_after s b n.id n.parent_and_index))
+      is_some (link_after s b n.id n.parent_and_index) and not (same_option same_link n.parent_and_index (link_after s b n.id n.parent_and_index))
 
   -- an old node is removed where it goes
   pub removed_is : (x : FullNodeId) → present s.nodes x ≡ true → not (present (outcome s b).nodes x) ≡ gone s b x
-  unfolding ◌&&◌
+  unfolding ◌and◌
   removed_is x e = ap not (present_outcome s b x) ∙ rw (old_written s b x e) (go (gone s b x))
     where
       go : (g : Bool) → not (not g) ≡ g
@@ -117,7 +118,7 @@ module _ (s : Forest) (b : Batch) where
   -- the data of an old node changes where it is listed with other data
   data_changed_lem : (n : NodeState) → fields_ok n.body ≡ true
       → not (same_data n.body (body_after s b n)) ≡ data_changed n
-  unfolding body_after data_changed listed renewed ◌&&◌
+  unfolding body_after data_changed listed renewed ◌and◌
   data_changed_lem n f =
       go (mine s b n.id) (listing b.nodes n.id.node) (has same_node (listed_ids b.nodes) n.id.node) (listing_some b.nodes n.id.node)
     where
@@ -130,7 +131,7 @@ module _ (s : Forest) (b : Batch) where
 
       go : (c : Bool) (o : Option NodeData) (l : Bool) → is_some o ≡ l
           → not (same_data n.body (if c then elim o [ none ↦ n.body | some d ↦ if same_data n.body d then n.body else d ] else n.body))
-          ≡ (c && l && elim o [ none ↦ false | some d ↦ not (same_data n.body d) ])
+          ≡ (c and l and elim o [ none ↦ false | some d ↦ not (same_data n.body d) ])
       go true none l h = rw (← h) kept
       go true (some d) l h = rw (← h) (new d (same_data n.body d) refl)
       go false o l h = kept
@@ -139,8 +140,8 @@ module _ (s : Forest) (b : Batch) where
     -- an old node is updated where it does not go and its data or its link changes or it is marked
     pub updated_is : (n : NodeState) → find n.id s.nodes ≡ some n → fields_ok n.body ≡ true
         → (marked : FullNodeId → Bool)
-        → is_updated s (outcome s b) marked n ≡ (not (gone s b n.id) && (data_changed n || link_changed n || marked n.id))
-    unfolding is_updated link_changed node_after ◌&&◌
+        → is_updated s (outcome s b) marked n ≡ (not (gone s b n.id) and (data_changed n || link_changed n || marked n.id))
+    unfolding is_updated link_changed node_after ◌and◌
     updated_is n e f marked = ap told (find_old_outcome s b ordered once n e) ∙ go (gone s b n.id)
       where
         told : Option NodeState → Bool
@@ -148,29 +149,29 @@ module _ (s : Forest) (b : Batch) where
           | none ↦ false
           | some m ↦
               not (same_data n.body m.body)
-              || (is_some m.parent_and_index && not (same_option same_link n.parent_and_index m.parent_and_index))
+              || (is_some m.parent_and_index and not (same_option same_link n.parent_and_index m.parent_and_index))
               || marked n.id
         ]
 
-        go : (g : Bool) → told (if g then none else some (node_after s b n)) ≡ (not g && (data_changed n || link_changed n || marked n.id))
+        go : (g : Bool) → told (if g then none else some (node_after s b n)) ≡ (not g and (data_changed n || link_changed n || marked n.id))
         go true = refl
         go false = ap (λ (c : Bool). c || link_changed n || marked n.id) (data_changed_lem n f)
 
     -- an old node is relinked where it does not go and its parent changes
     pub relinked_is : (n : NodeState) → find n.id s.nodes ≡ some n
         → is_relinked s (outcome s b) n.id
-        ≡ (not (gone s b n.id) && not (same_option same_id (parent_of n.parent_and_index) (parent_of (link_after s b n.id n.parent_and_index))))
-    unfolding is_relinked present parent_at link_at parent_of node_after ◌&&◌
+        ≡ (not (gone s b n.id) and not (same_option same_id (parent_of n.parent_and_index) (parent_of (link_after s b n.id n.parent_and_index))))
+    unfolding is_relinked present parent_at link_at parent_of node_after ◌and◌
     relinked_is n e = ap₂ told e (find_old_outcome s b ordered once n e) ∙ go (gone s b n.id)
       where
         link : Option NodeState → Option ParentAndIndex
         link o = elim o [ none ↦ none | some m ↦ m.parent_and_index ]
 
         told : Option NodeState → Option NodeState → Bool
-        told was new = is_some new && not (same_option same_id (parent_of (link was)) (parent_of (link new)))
+        told was new = is_some new and not (same_option same_id (parent_of (link was)) (parent_of (link new)))
 
         go : (g : Bool) → told (some n) (if g then none else some (node_after s b n))
-            ≡ (not g && not (same_option same_id (parent_of n.parent_and_index) (parent_of (link_after s b n.id n.parent_and_index))))
+            ≡ (not g and not (same_option same_id (parent_of n.parent_and_index) (parent_of (link_after s b n.id n.parent_and_index))))
         go true = refl
         go false = refl
 

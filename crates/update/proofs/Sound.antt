@@ -8,7 +8,8 @@ use native.Mathlib.Omega.{arith}
 use lib.Dec.{ltb, leb, eqb}
 use lib.ListN.{length, length-append}
 use borrow.Author.Tests.{leb-true, leb-false, le-leb, ltb-false, eqb-false, ne_eqb}
-use Rattle.base.specs.Tests.{◌&&◌, if◌then◌else◌, is_none, any, all, distinct, has, given}
+use Rattle.std.specs.Prelude.{if◌then◌else◌}
+use Rattle.base.specs.Tests.{◌and◌, is_none, any, all, distinct, has, given}
 use Rattle.base.proofs.Tests.{not_false}
 use Rattle.ids.specs.Ids.{ROOT, same_tree, same_node}
 use Rattle.ids.specs.declared.FullNodeId.{FullNodeId}
@@ -77,9 +78,9 @@ number_20 s b e =
 -- no row holds of an accepted batch
 pub record Passed (s : Forest) (b : Batch) : Type 0 where
   pub row5 : not (distinct same_node (listed_ids b.nodes)) ≡ false
-  pub row6 : with_tree_data s b && not (same_tree b.tree ROOT) && is_none (holder s.nodes b.tree) ≡ false
-  pub row7 : not (with_tree_data s b) && not (same_tree b.tree ROOT) && is_none (subtree_of s b.tree) ≡ false
-  pub row8 : not (known s b) && leb 32 (length s.trees) ≡ false
+  pub row6 : with_tree_data s b and not (same_tree b.tree ROOT) and is_none (holder s.nodes b.tree) ≡ false
+  pub row7 : not (with_tree_data s b) and not (same_tree b.tree ROOT) and is_none (subtree_of s b.tree) ≡ false
+  pub row8 : not (known s b) and leb 32 (length s.trees) ≡ false
   pub row9_to_12 : pass s b ≡ 0
   pub row13 : any (placeless s b) b.nodes ≡ false
   pub row14 : any (nowhere s b) (named_ids b.nodes) ≡ false
@@ -119,9 +120,9 @@ unfolding entries_after
 length_entries_after s b k [] = refl
 length_entries_after s b k (e ∷ es) = ap suc (length_entries_after s b (suc k) es)
 
-few_trees : (s : Forest) (b : Batch) (c : Bool) → leb (length s.trees) 32 ≡ true → not c && leb 32 (length s.trees) ≡ false
+few_trees : (s : Forest) (b : Batch) (c : Bool) → leb (length s.trees) 32 ≡ true → not c and leb 32 (length s.trees) ≡ false
     → length (entries_after s b 0 s.trees ++ (if c then [] else record { id = b.tree; subtree = subtree_here s b none } ∷ [])) ≤ 32
-unfolding ◌&&◌
+unfolding ◌and◌
 few_trees s b true e q = rw (length-append, length_entries_after s b 0 s.trees) (omega (arith, leb-true (length s.trees) 32 e))
 few_trees s b false e q = rw (length-append, length_entries_after s b 0 s.trees) (omega (arith, leb-false 32 (length s.trees) q))
 

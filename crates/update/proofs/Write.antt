@@ -6,7 +6,8 @@ use mathlib.Core.Path.{◌≡◌, refl, sym, ap, ◌∙◌}
 use Prim.Native.Nat.{suc, ◌+◌, ◌≤◌}
 use native.Mathlib.Omega.{arith}
 use lib.ListN.{length}
-use Rattle.base.specs.Tests.{◌&&◌, if◌then◌else◌, is_some, all, has, distinct}
+use Rattle.std.specs.Prelude.{if◌then◌else◌}
+use Rattle.base.specs.Tests.{◌and◌, is_some, all, has, distinct}
 use Rattle.base.proofs.Tests.{both, joined}
 use Rattle.base.proofs.Lists.{first_given_some, any_map, none_of}
 use Rattle.ids.specs.Ids.{same_index, same_node, same_id, before}
@@ -143,8 +144,8 @@ find_write_all t (l ∷ ls) ns e u x =
         → (if c then laid x (listing ls x.node) (find x ns') else find x ns')
         ≡ (if c then laid x (elim (if k then some l.body else none) as (λ _. Option NodeData) [ none ↦ listing ls x.node | some d ↦ some d ]) (find x ns)
         else find x ns)
-    go false q k f = other (unfold same_id ◌&&◌ in rw q)
-    go true q false f = ap (laid x (listing ls x.node)) (other (unfold same_id ◌&&◌ in rw (q, f)))
+    go false q k f = other (unfold same_id ◌and◌ in rw q)
+    go true q false f = ap (laid x (listing ls x.node)) (other (unfold same_id ◌and◌ in rw (q, f)))
     go true q true f =
         let unlisted : not (has same_node (listed_ids ls) x.node) ≡ true = rw (same_node→≡ x.node l.id f) (both u).0 in
         ap (λ (o : Option NodeData). laid x o (find x ns')) (none_of (listing ls x.node) (ap not (listing_some ls x.node) ∙ unlisted))

@@ -1,8 +1,8 @@
 -- What a start, a batch and a host focus change answer: the number, the state and every other part. Document 01, modules 3 to 5.
 -- Assumes nothing.
-use Rattle.std.specs.Prelude.{Bool, not, List, [], ◌∷◌, ℕ, zero, suc, ltb, length}
+use Rattle.std.specs.Prelude.{Bool, not, List, [], ◌∷◌, ℕ, zero, suc, ltb, length, if◌then◌else◌}
 use Rattle.std.proofs.Math.Option.{Option, none, some}
-use Rattle.base.specs.Tests.{if◌then◌else◌, is_none}
+use Rattle.base.specs.Tests.{is_none}
 use Rattle.base.specs.Tables.{Row, row, found, first}
 use Rattle.ids.specs.Ids.{ROOT, same_tree}
 use Rattle.ids.specs.declared.FullNodeId.{FullNodeId}

@@ -2,7 +2,7 @@
 -- save that 9 to 12 come as the pass meets them and the clash in 12 with a graft already held comes after 14. Assumes nothing.
 use Rattle.std.specs.Prelude.{Bool, true, false, not, List, [], ◌∷◌, ◌++◌, ℕ, ltb, leb, length}
 use Rattle.std.proofs.Math.Option.{Option, none, some}
-use Rattle.base.specs.Tests.{◌&&◌, is_none, any, distinct}
+use Rattle.base.specs.Tests.{◌and◌, is_none, any, distinct}
 use Rattle.base.specs.Tables.{Row, row, found, first}
 use Rattle.ids.specs.Ids.{ROOT, same_tree, same_node}
 use Rattle.ids.specs.declared.NodeId.{NodeId}
@@ -25,26 +25,26 @@ absent ns (some x) = not (present ns x)
 module _ (s : Forest) (b : Batch) where
   -- 13: a listed node left without a place
   unfoldable pub placeless : Listed → Bool
-  placeless l = not (placed_at_turn s b l.id) && not (named s b (here s b l.id))
+  placeless l = not (placed_at_turn s b l.id) and not (named s b (here s b l.id))
 
   -- 14: a named child neither present nor listed
   unfoldable pub nowhere : NodeId → Bool
-  nowhere c = not (old s b (here s b c)) && not (listed s b (here s b c))
+  nowhere c = not (old s b (here s b c)) and not (listed s b (here s b c))
 
   -- 18: a listed node that is updated, its data being other, and removed.
   -- (A removed node was present, so it is never added; it is not named, so its link does not change; and a removed pane root is not updated.)
   unfoldable pub updated_and_removed : Listed → Bool
   updated_and_removed l =
       gone s b (here s b l.id)
-      && elim (find (here s b l.id) s.nodes) [ none ↦ false | some n ↦ not (same_data n.body l.body) ]
+      and elim (find (here s b l.id) s.nodes) [ none ↦ false | some n ↦ not (same_data n.body l.body) ]
 
   -- 5 to 8
   unfoldable pub rows_before_pass : List Row
   rows_before_pass =
       row 5 (not (distinct same_node (listed_ids b.nodes)))
-      ∷ row 6 (with_tree_data s b && not (same_tree b.tree ROOT) && is_none (holder s.nodes b.tree))
-      ∷ row 7 (not (with_tree_data s b) && not (same_tree b.tree ROOT) && is_none (subtree_of s b.tree))
-      ∷ row 8 (not (known s b) && leb 32 (length s.trees))
+      ∷ row 6 (with_tree_data s b and not (same_tree b.tree ROOT) and is_none (holder s.nodes b.tree))
+      ∷ row 7 (not (with_tree_data s b) and not (same_tree b.tree ROOT) and is_none (subtree_of s b.tree))
+      ∷ row 8 (not (known s b) and leb 32 (length s.trees))
       ∷ []
 
   -- s' is the outcome

@@ -1,8 +1,8 @@
 -- The forest after a batch: nodes written and removed, parent links, the table of trees. Document 01, "The update".
 -- Assumes nothing.
-use Rattle.std.specs.Prelude.{Bool, true, not, List, [], ◌∷◌, ◌++◌, map, ℕ, suc, eqb, leb}
+use Rattle.std.specs.Prelude.{Bool, true, not, List, [], ◌∷◌, ◌++◌, map, ℕ, suc, eqb, leb, if◌then◌else◌}
 use Rattle.std.proofs.Math.Option.{Option, none, some}
-use Rattle.base.specs.Tests.{◌&&◌, if◌then◌else◌, keep}
+use Rattle.base.specs.Tests.{◌and◌, keep}
 use Rattle.ids.specs.Ids.{ROOT, same_tree, same_index, same_id, before}
 use Rattle.ids.specs.declared.TreeIndex.{TreeIndex}
 use Rattle.ids.specs.declared.FullNodeId.{FullNodeId}
@@ -43,16 +43,16 @@ module _ (s : Forest) (b : Batch) where
 
   -- the root that tree data gives a tree other than ROOT
   unfoldable pub pane_root : FullNodeId → Bool
-  pane_root x = is_root s b x && with_tree_data s b && not (same_tree b.tree ROOT)
+  pane_root x = is_root s b x and with_tree_data s b and not (same_tree b.tree ROOT)
 
   -- a link cut at x's turn stays cut: no node names x, or x is old and is named no later than its turn
   unfoldable pub cut_lasts : FullNodeId → Bool
-  cut_lasts x = elim (naming s b x) [ none ↦ true | some l ↦ old s b x && leb (turn s b l.parent) (turn s b x) ]
+  cut_lasts x = elim (naming s b x) [ none ↦ true | some l ↦ old s b x and leb (turn s b l.parent) (turn s b x) ]
 
   -- ROOT's root, if it is listed: the crate cuts its link at its turn. Where the cut does not last, the root has the link under which
   -- it is named, and is not accepted (18, 19).
   unfoldable pub link_is_cut : FullNodeId → Bool
-  link_is_cut x = is_root s b x && same_tree b.tree ROOT && listed s b x && cut_lasts x
+  link_is_cut x = is_root s b x and same_tree b.tree ROOT and listed s b x and cut_lasts x
 
   -- A node of the batch's tree that recorded `was`: the root that tree data gives a pane stands under the graft holder, a cut root under none,
   -- any other node where it is named or else where it stood. So a pane's root that is listed without tree data keeps its link (added).

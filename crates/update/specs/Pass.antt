@@ -1,8 +1,8 @@
 -- The crate's pass over the nodes, which meets 9 to 12 in its own order: document 01, "The update".
 -- Assumes nothing.
-use Rattle.std.specs.Prelude.{Bool, not, ◌||◌, List, [], ◌∷◌, ◌++◌, ℕ}
+use Rattle.std.specs.Prelude.{Bool, not, ◌||◌, List, [], ◌∷◌, ◌++◌, ℕ, if◌then◌else◌}
 use Rattle.std.proofs.Math.Option.{none, some}
-use Rattle.base.specs.Tests.{◌&&◌, if◌then◌else◌, is_some, is_nil, any, has, given}
+use Rattle.base.specs.Tests.{◌and◌, is_some, is_nil, any, has, given}
 use Rattle.base.specs.Tables.{row, found, first}
 use Rattle.ids.specs.Ids.{ROOT, same_tree, same_node}
 use Rattle.ids.specs.declared.TreeId.{TreeId}
@@ -50,7 +50,7 @@ module _ (s : Forest) (b : Batch) where
       let new = given (claim s b) (l ∷ []) in
       let rest = fault seen (new ++ claimed) es in
       first
-      (row 10 (is_some (graft? l.body) && not (is_nil l.body.children))
+      (row 10 (is_some (graft? l.body) and not (is_nil l.body.children))
       ∷ row 11 (has same_tree new ROOT)
       ∷ row 12 (any (has same_tree claimed) new)
       ∷ found rest

@@ -1,8 +1,8 @@
 -- Module 5, reports: the four change lists, the extra ids, the lent slice. Document 01, "Change lists".
 -- Assumes nothing.
-use Rattle.std.specs.Prelude.{Bool, true, false, not, ◌||◌, List, [], ◌∷◌, ◌++◌, ℕ, length, drop}
+use Rattle.std.specs.Prelude.{Bool, true, false, not, ◌||◌, List, [], ◌∷◌, ◌++◌, ℕ, length, drop, if◌then◌else◌}
 use Rattle.std.proofs.Math.Option.{Option, none, some}
-use Rattle.base.specs.Tests.{◌&&◌, if◌then◌else◌, is_some, all, keep, same_option, has}
+use Rattle.base.specs.Tests.{◌and◌, is_some, all, keep, same_option, has}
 use Rattle.ids.specs.Ids.{same_id, before, id_words}
 use Rattle.ids.specs.declared.FullNodeId.{FullNodeId}
 use Rattle.record.specs.Batch.{same_data, Batch}
@@ -26,7 +26,7 @@ no_changes = record { added = []; updated = []; removed = []; relinked = [] }
 -- sorted by tree number, then node number, no id twice
 unfoldable pub sorted : List FullNodeId → Bool
 sorted [] = true
-sorted (x ∷ xs) = all (before x) xs && sorted xs
+sorted (x ∷ xs) = all (before x) xs and sorted xs
 
 -- Each list takes the ids in the order of the nodes, so it is sorted (proofs/Reports, `lists_sorted`).
 module _ (s s' : Forest) where
@@ -46,7 +46,7 @@ module _ (s s' : Forest) where
         | none ↦ false
         | some m ↦
             not (same_data n.body m.body)
-            || (is_some m.parent_and_index && not (same_option same_link n.parent_and_index m.parent_and_index))
+            || (is_some m.parent_and_index and not (same_option same_link n.parent_and_index m.parent_and_index))
             || marked n.id
       ]
 
@@ -56,7 +56,7 @@ module _ (s s' : Forest) where
 
   -- present before and after, with another parent; to or from no parent counts
   unfoldable pub is_relinked : FullNodeId → Bool
-  is_relinked x = present s'.nodes x && not (same_option same_id (parent_at s.nodes x) (parent_at s'.nodes x))
+  is_relinked x = present s'.nodes x and not (same_option same_id (parent_at s.nodes x) (parent_at s'.nodes x))
 
   -- the list of these
   unfoldable pub relinked : List FullNodeId

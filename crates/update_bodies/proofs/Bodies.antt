@@ -16,7 +16,7 @@ use lib.Dec.{ltb}
 use lib.Ieee.{of_bits, to_bits, binary64}
 use lib.ListN.{length, drop}
 use borrow.Author.Tests.{lt-ltb, le-ltb}
-use Rattle.base.specs.Tests.{if◌then◌else◌}
+use Rattle.std.specs.Prelude.{if◌then◌else◌}
 use Rattle.base.specs.Bytes.{le, list_of}
 use Rattle.base.proofs.Bytes.{all_list_of}
 use Rattle.base.proofs.Indexed.{list_of_cong}

@@ -8,7 +8,7 @@ use lib.Dec.{eqb}
 use lib.Ieee.{to_bits, binary64}
 use lib.ListN.{length, get_or}
 use borrow.Author.Tests.{eq-eqb, eqb-true, lt-ltb}
-use Rattle.base.specs.Tests.{◌&&◌, same_list}
+use Rattle.base.specs.Tests.{◌and◌, same_list}
 use Rattle.base.specs.Bytes.{all_below, list_of}
 use Rattle.base.proofs.Tests.{both, iff, same_list→≡, and_true, joined, same_list_refl}
 use Rattle.base.proofs.Bytes.{all_below_at, list_of_at}
@@ -45,11 +45,11 @@ module _ (l m : List ℕ) (bl : are_bytes l ≡ true) (bm : are_bytes m ≡ true
       rw at at same)
 
   -- compared by its length and its words, or byte by byte
-  pub label_same : (eqb (length l) (length m) && same_run (list_of 4 (label_word l)) 0 (list_of 4 (label_word m)) 0 0 4) ≡ same_list eqb l m
+  pub label_same : (eqb (length l) (length m) and same_run (list_of 4 (label_word l)) 0 (list_of 4 (label_word m)) 0 0 4) ≡ same_list eqb l m
   unfolding same_run
   label_same = iff forth back
     where
-      forth : (eqb (length l) (length m) && same_run (list_of 4 (label_word l)) 0 (list_of 4 (label_word m)) 0 0 4) ≡ true → same_list eqb l m ≡ true
+      forth : (eqb (length l) (length m) and same_run (list_of 4 (label_word l)) 0 (list_of 4 (label_word m)) 0 0 4) ≡ true → same_list eqb l m ≡ true
       forth e =
           let run = (both e).1 in
           let words : (k : ℕ) → k < 4 → label_word l k ≡ label_word m k = λ k h.
@@ -58,7 +58,7 @@ module _ (l m : List ℕ) (bl : are_bytes l ≡ true) (bm : are_bytes m ≡ true
           sym (list_of_at 4 k (label_word l) 0 h) ∙ eqb-true _ _ (rw there at t) ∙ list_of_at 4 k (label_word m) 0 h in
           rw (← words_same (eqb-true _ _ (both e).0) words) (same_list_refl eqb (λ x. eq-eqb x x refl) l)
 
-      back : same_list eqb l m ≡ true → (eqb (length l) (length m) && same_run (list_of 4 (label_word l)) 0 (list_of 4 (label_word m)) 0 0 4) ≡ true
+      back : same_list eqb l m ≡ true → (eqb (length l) (length m) and same_run (list_of 4 (label_word l)) 0 (list_of 4 (label_word m)) 0 0 4) ≡ true
       back e =
           let word : ℕ → ℕ = λ k. get_or (list_of 4 (label_word l)) (0 + k) 0 in
           let q : l ≡ m = same_list→≡ eqb (λ x y h. eqb-true x y h) l m e in
@@ -82,8 +82,8 @@ pub body_compared : (a b : Body) {g n w r t : Bool} → g ≡ same_tree a.graft 
     → w ≡ same_run a.label 0 b.label 0 0 4
     → r ≡ same_rect (bounds_of a.floats) (bounds_of b.floats)
     → t ≡ same_affine (transform_of a.floats) (transform_of b.floats)
-    → eqb a.child_count b.child_count && eqb a.flags b.flags && g
-    && (n && (eqb a.label_length b.label_length && w) && eqb a.role b.role && r && t)
+    → eqb a.child_count b.child_count and eqb a.flags b.flags and g
+    and (n and (eqb a.label_length b.label_length and w) and eqb a.role b.role and r and t)
     ≡ same_body a b
 unfolding same_body
 body_compared a b g n w r t = cc
@@ -120,13 +120,13 @@ module _ (d : NodeData) (f : DataFits d) where
 abbrev pub rest_same : NodeData → NodeData → Bool → Bool
 rest_same d e kids =
     kids
-    && eqb d.flags e.flags
-    && same_tree d.graft e.graft
-    && (same_node d.active_descendant e.active_descendant
-    && same_list eqb d.label e.label
-    && eqb d.role e.role
-    && same_rect d.bounds e.bounds
-    && same_affine d.transform e.transform
+    and eqb d.flags e.flags
+    and same_tree d.graft e.graft
+    and (same_node d.active_descendant e.active_descendant
+    and same_list eqb d.label e.label
+    and eqb d.role e.role
+    and same_rect d.bounds e.bounds
+    and same_affine d.transform e.transform
     )
 
 module _ (d e : NodeData) (df : DataFits d) (ef : DataFits e) where
@@ -136,14 +136,14 @@ module _ (d e : NodeData) (df : DataFits d) (ef : DataFits e) where
   same_body_lem =
       rw (bounds_back d df, bounds_back e ef, transform_back d df, transform_back e ef)
       (ap (λ t. eqb (length d.children) (length e.children)
-      && eqb d.flags e.flags
-      && same_tree d.graft e.graft
-      && (same_node d.active_descendant e.active_descendant && t && eqb d.role e.role && same_rect d.bounds e.bounds && same_affine d.transform e.transform))
+      and eqb d.flags e.flags
+      and same_tree d.graft e.graft
+      and (same_node d.active_descendant e.active_descendant and t and eqb d.role e.role and same_rect d.bounds e.bounds and same_affine d.transform e.transform))
       (label_same d.label e.label df.bytes ef.bytes (field_rules d df.fields).label_limit))
 
   -- where the images are the same, the children's lists decide
   pub data_by_children : same_body (body_of d) (body_of e) ≡ true → same_data d e ≡ same_list same_node d.children e.children
-  unfolding same_data ◌&&◌
+  unfolding same_data ◌and◌
   data_by_children h = go (same_list same_node d.children e.children) (sym same_body_lem ∙ h)
     where
       go : (t : Bool) → rest_same d e (eqb (length d.children) (length e.children)) ≡ true → rest_same d e t ≡ t
@@ -159,7 +159,7 @@ module _ (d e : NodeData) (df : DataFits d) (ef : DataFits e) where
 
   -- where they are not, the data differs
   pub data_differs : same_body (body_of d) (body_of e) ≡ false → same_data d e ≡ false
-  unfolding same_data ◌&&◌
+  unfolding same_data ◌and◌
   data_differs h = go (same_list same_node d.children e.children) refl
     where
       go : (t : Bool) → same_list same_node d.children e.children ≡ t → rest_same d e t ≡ false

@@ -1,9 +1,9 @@
 -- A node's data as its words, read from a record or from a slot, and the comparison of two by value: document 01, "equal by value".
 -- Assumes nothing.
-use Rattle.std.specs.Prelude.{Bool, List, ℕ, ◌+◌, ◌*◌, ◌-◌, eqb, ltb, Float, length, get_or}
+use Rattle.std.specs.Prelude.{Bool, List, ℕ, ◌+◌, ◌*◌, ◌-◌, eqb, ltb, Float, length, get_or, if◌then◌else◌}
 use Rattle.std.specs.Float.Ieee.{of_bits}
 use Rattle.std.specs.Float.{binary64}
-use Rattle.base.specs.Tests.{◌&&◌, if◌then◌else◌}
+use Rattle.base.specs.Tests.{◌and◌}
 use Rattle.base.specs.Bytes.{all_below, list_of}
 use Rattle.ids.specs.Ids.{same_tree, same_node}
 use Rattle.geometry.specs.Geometry.{same_rect, same_affine}
@@ -61,11 +61,11 @@ same_run a from b to past count = all_below count (λ k. eqb (get_or a (from + k
 unfoldable pub same_body : Body → Body → Bool
 same_body a b =
     eqb a.child_count b.child_count
-    && eqb a.flags b.flags
-    && same_tree a.graft b.graft
-    && (same_node a.active_descendant b.active_descendant
-    && (eqb a.label_length b.label_length && same_run a.label 0 b.label 0 0 4)
-    && eqb a.role b.role
-    && same_rect (bounds_of a.floats) (bounds_of b.floats)
-    && same_affine (transform_of a.floats) (transform_of b.floats)
+    and eqb a.flags b.flags
+    and same_tree a.graft b.graft
+    and (same_node a.active_descendant b.active_descendant
+    and (eqb a.label_length b.label_length and same_run a.label 0 b.label 0 0 4)
+    and eqb a.role b.role
+    and same_rect (bounds_of a.floats) (bounds_of b.floats)
+    and same_affine (transform_of a.floats) (transform_of b.floats)
     )

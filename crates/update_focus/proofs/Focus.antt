@@ -8,7 +8,8 @@ use native.Mathlib.Omega.{arith}
 use lib.Dec.{ltb}
 use lib.ListN.{length}
 use borrow.Author.Tests.{lt-ltb, le-ltb}
-use Rattle.base.specs.Tests.{if◌then◌else◌, is_none}
+use Rattle.std.specs.Prelude.{if◌then◌else◌}
+use Rattle.base.specs.Tests.{is_none}
 use Rattle.base.specs.Tables.{row, first}
 use Rattle.ids.specs.Ids.{ROOT}
 use Rattle.ids.specs.declared.TreeId.{TreeId}

@@ -10,7 +10,8 @@ use lib.Dec.{eqb, ltb}
 use lib.ListN.{length, get_or, set, take, drop, replicate, length-drop, length-append, length-replicate, length-take, drop_of_length-le}
 use lib.Seq.{drop-nil, drop-drop, get_or-take, ext_get_or}
 use borrow.Author.Tests.{eq-eqb, ne_eqb}
-use Rattle.base.specs.Tests.{◌&&◌, if◌then◌else◌}
+use Rattle.std.specs.Prelude.{if◌then◌else◌}
+use Rattle.base.specs.Tests.{◌and◌}
 use Rattle.base.specs.Bytes.{bit}
 use Rattle.base.specs.Search.{First}
 use Rattle.base.proofs.Cases.{by_test, by_option, by_order}
@@ -46,16 +47,16 @@ use Rattle.update_focus.specs.Ways.{graft_of, focus_of, way_after}
 -- what x grafts, by its slot and its row
 module _ (s : List ℕ) (x : FullNodeId) {i n : ℕ} (search : First (stands_at s x) (slots_of s) i) (count : n ≡ slots_of s) {d : ShapeRow}
     (is : d ≡ shape_in s i) {g : Bool} (test : g ≡ bit 8 d.flags) where
-  graft_by : graft_at (view s).forest.nodes x ≡ (if ltb i n && g then some d.graft else none)
-  unfolding graft_at node_in body_in graft? ◌&&◌
+  graft_by : graft_at (view s).forest.nodes x ≡ (if ltb i n and g then some d.graft else none)
+  unfolding graft_at node_in body_in graft? ◌and◌
   graft_by = rw (find_slot s x i search, graft_at, count)
       (by_test (ltb i (slots_of s)) (λ l. rw (l, ← is, ← test)) (λ l. rw l))
 
-  pub grafts_one : ltb i n && g ≡ true → record { grafts = true; tree = d.graft } ≡ graft_of (graft_at (view s).forest.nodes x)
+  pub grafts_one : ltb i n and g ≡ true → record { grafts = true; tree = d.graft } ≡ graft_of (graft_at (view s).forest.nodes x)
   unfolding graft_of
   grafts_one e = sym (rw (graft_by, e))
 
-  pub grafts_none : ltb i n && g ≡ false → record { grafts = false; tree = ROOT } ≡ graft_of (graft_at (view s).forest.nodes x)
+  pub grafts_none : ltb i n and g ≡ false → record { grafts = false; tree = ROOT } ≡ graft_of (graft_at (view s).forest.nodes x)
   unfolding graft_of
   grafts_none e = sym (rw (graft_by, e))
 

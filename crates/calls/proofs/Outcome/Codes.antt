@@ -5,7 +5,7 @@ use Prim.Native.Nat.{ℕ, suc, ◌+◌, ◌-◌, ◌≤◌, ◌<◌}
 use native.Mathlib.Omega.{arith}
 use lib.ListN.{length}
 use borrow.Author.Tests.{lt-ltb, le-ltb, ltb-true}
-use Rattle.base.specs.Tests.{◌&&◌, distinct}
+use Rattle.base.specs.Tests.{◌and◌, distinct}
 use Rattle.base.proofs.Cases.{by_test}
 use Rattle.base.proofs.Tests.{both, not_true, clash, refuted}
 use Rattle.ids.specs.Ids.{same_node}
@@ -71,7 +71,7 @@ module _ (s : Forest) (b : Batch) (kept : KeptForest s) (few : length b.nodes �
 
   module _ (x : FullNodeId) (there : present (outcome s b).nodes x ≡ true) where
     -- it does not go, and is old or listed
-    pub stands : (not (gone s b x) && (old s b x || listed s b x)) ≡ true
+    pub stands : (not (gone s b x) and (old s b x || listed s b x)) ≡ true
     unfolding old
     stands = sym (present_after s b kept.ascending u x) ∙ there
 

@@ -10,7 +10,8 @@ use lib.Ieee.{fits, binary64}
 use lib.ListN.{length, get_or, drop, length-map}
 use borrow.Author.Tests.{lt-ltb, ltb-true}
 use Rattle.base.proofs.Cases.{by_test, by_option}
-use Rattle.base.specs.Tests.{◌&&◌, if◌then◌else◌, all, has, first_given, same_option}
+use Rattle.std.specs.Prelude.{if◌then◌else◌}
+use Rattle.base.specs.Tests.{◌and◌, all, has, first_given, same_option}
 use Rattle.base.proofs.Tests.{all_member}
 use Rattle.base.proofs.Lists.{all_at, all_index, all_or, all_take, all_drop}
 use Rattle.state_array.proofs.Labels.{float_fits}
@@ -72,7 +73,7 @@ floats_fit d = all (fits binary64) (floats_of d)
 
 -- of a state's nodes
 view_floats : (state : List ℕ) → all (λ n. floats_fit n.body) (forest state).nodes ≡ true
-unfolding view node_in body_in bounds_in transform_in floats_of ◌&&◌
+unfolding view node_in body_in bounds_in transform_in floats_of ◌and◌
 view_floats state = all_list_of (λ n. floats_fit n.body) (slots_of state) (node_in state) (λ i l. simp float_fits)
 
 view_bytes : (state : List ℕ) → all (λ n. bytes_fit n.body) (forest state).nodes ≡ true
@@ -84,7 +85,7 @@ view_bytes state =
 
 -- of a record's nodes
 asked_floats : (bytes : List ℕ) (c : Scope) → all (λ l. floats_fit l.body) (asked bytes c).nodes ≡ true
-unfolding asked batch_of floats_of ◌&&◌
+unfolding asked batch_of floats_of ◌and◌
 asked_floats bytes c = all_list_of (λ l. floats_fit l.body) (node_count bytes) (node_of bytes) (λ i l. simp float_fits)
 
 -- a record of bytes has labels of bytes

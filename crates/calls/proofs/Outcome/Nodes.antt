@@ -8,7 +8,8 @@ use lib.Dec.{ltb}
 use lib.ListN.{length}
 use borrow.Author.Tests.{lt-ltb, le-ltb}
 use Rattle.base.proofs.Cases.{by_test, by_option, by_order}
-use Rattle.base.specs.Tests.{◌&&◌, if◌then◌else◌, is_some, distinct}
+use Rattle.std.specs.Prelude.{if◌then◌else◌}
+use Rattle.base.specs.Tests.{◌and◌, is_some, distinct}
 use Rattle.base.proofs.Lists.{none_of}
 use Rattle.ids.specs.Ids.{same_node}
 use Rattle.ids.specs.declared.FullNodeId.{FullNodeId}
@@ -95,7 +96,7 @@ module _ (s : Forest) (b : Batch) where
 module _ (s : Forest) (b : Batch) (n : NodeState) where
   -- the data of a node that is not listed stays
   body_unlisted : listed s b n.id ≡ false → body_after s b n ≡ n.body
-  unfolding body_after listed ◌&&◌
+  unfolding body_after listed ◌and◌
   body_unlisted e =
       by_test (mine s b n.id)
       (λ t. by_option (listing b.nodes n.id.node) (λ q. rw (t, q))
@@ -125,8 +126,8 @@ module _ (s : Forest) (b : Batch) (kept : KeptForest s) where
 
   -- an old node's data
   old_source : (c : ℕ) → c < length s.nodes → (x : FullNodeId) → id_at s c ≡ x
-      → SourceOf s b (if not (listed s b x && differs s b (listed_at b (turn s b x))) then c else 320 + turn s b x) (body_after s b (node_at s c))
-  unfolding ◌&&◌ renewed
+      → SourceOf s b (if not (listed s b x and differs s b (listed_at b (turn s b x))) then c else 320 + turn s b x) (body_after s b (node_at s c))
+  unfolding ◌and◌ renewed
   old_source c l x at =
       by_test (listed s b x)
       (λ q. let mark : turn_mark s b (node_at s c).id ≡ suc (turn s b x) = ap (turn_mark s b) at ∙ listed_mark s b x q in
@@ -155,7 +156,7 @@ module _ (s : Forest) (b : Batch) (kept : KeptForest s) (few : length b.nodes �
 
   -- where its data comes from
   pub source_of_lem : SourceOf s b (source_of s b (id_at (outcome s b) r)) (node_at (outcome s b) r).body
-  unfolding source_of ◌&&◌
+  unfolding source_of ◌and◌
   source_of_lem =
       rw (ap (λ (n : NodeState). n.body) code_node_lem)
       (by_test (old s b x)

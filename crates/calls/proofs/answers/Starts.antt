@@ -4,7 +4,8 @@ use mathlib.Core.List.{List, []}
 use mathlib.Core.Option.{Option, none, some}
 use mathlib.Core.Path.{◌≡◌, refl, sym, ap, ◌∙◌}
 use Prim.Native.Nat.{ℕ}
-use Rattle.base.specs.Tests.{◌&&◌, if◌then◌else◌, is_none}
+use Rattle.std.specs.Prelude.{if◌then◌else◌}
+use Rattle.base.specs.Tests.{◌and◌, is_none}
 use Rattle.base.specs.Bytes.{list_of}
 use Rattle.base.proofs.Tests.{bit_set}
 use Rattle.ids.specs.Ids.{ROOT}
@@ -51,7 +52,7 @@ seed_words flag root focus = head_put 0 1 flag (tree_put 0 (record { id = ROOT; 
 -- show ROOT alone
 pub seed_shows : (bytes : List ℕ) (host flag : ℕ) (root focus : NodeId) → start_rows bytes ≡ 0 → flag ≡ (if is_set host then 1 else 0)
     → root ≡ root_or_zero (batch_of bytes).root → focus ≡ (batch_of bytes).focus → view (seed_words flag root focus) ≡ seeded bytes host
-unfolding view tree_in entry_in entry list_of puts ◌&&◌ seeded seed
+unfolding view tree_in entry_in entry list_of puts ◌and◌ seeded seed
 seed_shows bytes host flag root focus passed f r o = go (batch_of bytes).root refl
   where
     go : (p : Option NodeId) → (batch_of bytes).root ≡ p → view (seed_words flag root focus) ≡ seeded bytes host

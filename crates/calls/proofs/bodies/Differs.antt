@@ -9,7 +9,8 @@ use lib.Dec.{eqb, ltb}
 use lib.ListN.{length, get_or}
 use borrow.Author.Tests.{ltb-true, lt-ltb, le-ltb}
 use Rattle.base.proofs.Tests.{call_true, call_false}
-use Rattle.base.specs.Tests.{◌&&◌, if◌then◌else◌, same_list}
+use Rattle.std.specs.Prelude.{if◌then◌else◌}
+use Rattle.base.specs.Tests.{◌and◌, same_list}
 use Rattle.base.proofs.Bytes.{all_below_at, length_list_of}
 use Rattle.base.proofs.Indexed.{all_below_cong, all_indexed}
 use Rattle.base.proofs.Compared.{get_d_within}
@@ -110,8 +111,8 @@ module _ {state bytes : List ℕ} {c : Scope} {notes : List ℕ} (told : Told GO
 
   -- it differs if it has a slot, and other data than what stands there
   differ_is : (slot : ℕ) → slot ≡ get_or notes (LISTED_SLOTS + i) 0
-      → differ_word state bytes c i ≡ flag (ltb slot (slots_of state) && not (same_data (node_in state slot).body (listed_at (batch_of bytes) i).body))
-  unfolding differ_word differs listed_slot ◌&&◌
+      → differ_word state bytes c i ≡ flag (ltb slot (slots_of state) and not (same_data (node_in state slot).body (listed_at (batch_of bytes) i).body))
+  unfolding differ_word differs listed_slot ◌and◌
   differ_is slot e = ap (λ (t : Bool). flag t) (ap (λ o. elim o as (λ _. Bool) [ none ↦ false | some k ↦ not (same_data k.body (listed_at (asked bytes c) i).body) ]) found ∙ sym (go (ltb slot (slots_of state)) refl))
     where
       found : find (here (forest state) (asked bytes c) (listed_at (asked bytes c) i).id) (forest state).nodes ≡ (if ltb slot (slots_of state) then some (node_at (forest state) slot) else none)
@@ -120,7 +121,7 @@ module _ {state bytes : List ℕ} {c : Scope} {notes : List ℕ} (told : Told GO
           ∙ ap₂ (λ r k. if ltb r k then some (node_at (forest state) r) else none) (sym (e ∙ told.written 3 (omega arith) i h)) (forest_length state)
 
       go : (t : Bool) → ltb slot (slots_of state) ≡ t
-          → (t && not (same_data (node_in state slot).body (listed_at (batch_of bytes) i).body))
+          → (t and not (same_data (node_in state slot).body (listed_at (batch_of bytes) i).body))
           ≡ (elim (if t then some (node_at (forest state) slot) else none) as (λ _. Bool) [ none ↦ false | some k ↦ not (same_data k.body (listed_at (asked bytes c) i).body) ])
       go true q =
           ap₂ (λ d f. not (same_data d f)) (sym (ap (λ (k : NodeState). k.body) (forest_node state slot (ltb-true slot (slots_of state) q))))
@@ -130,14 +131,14 @@ module _ {state bytes : List ℕ} {c : Scope} {notes : List ℕ} (told : Told GO
   module _ {n : ℕ} (count : n ≡ slots_of state) where
     -- it has none
     pub differs_new : n ≤ get_or notes (LISTED_SLOTS + i) 0 → 0 ≡ differ_word state bytes c i
-    unfolding ◌&&◌
+    unfolding ◌and◌
     differs_new l = sym (differ_is _ refl ∙ rw (le-ltb _ (slots_of state) (rw count at l)))
 
     -- it has one, and the data is compared
     module _ (l : get_or notes (LISTED_SLOTS + i) 0 < n) {v : Bool}
         (same : v ≡ same_data (node_in state (get_or notes (LISTED_SLOTS + i) 0)).body (listed_at (batch_of bytes) i).body) where
       compared : differ_word state bytes c i ≡ flag (not v)
-      unfolding ◌&&◌
+      unfolding ◌and◌
       compared = differ_is _ refl ∙ rw (lt-ltb _ (slots_of state) (rw count at l), same)
 
       pub differs_same : v ≡ true → 0 ≡ differ_word state bytes c i

@@ -6,7 +6,7 @@ use mathlib.Core.Path.{◌≡◌, refl, sym, ap, ◌∙◌}
 use Prim.Native.Nat.{ℕ, ◌<◌}
 use native.Mathlib.Omega.{arith}
 use lib.ListN.{get_or, length}
-use Rattle.base.specs.Tests.{◌&&◌, is_some, is_none, is_nil, same_option, has}
+use Rattle.base.specs.Tests.{◌and◌, is_some, is_none, is_nil, same_option, has}
 use Rattle.base.proofs.Cases.{by_test, by_option}
 use Rattle.base.proofs.Lists.{first_given_append}
 use Rattle.base.proofs.Tests.{not_false, not_not, and_false}
@@ -83,7 +83,7 @@ second_wayless s b placed l =
 placing_wayless : (s : Forest) (b : Batch) (placed : List Listed) (l : Listed) → Wayless (placing s b placed l)
 unfolding placing way_of
 placing_wayless s b placed l =
-    says_else (λ r. way_of r ≡ []) (is_some (graft? l.body) && not (is_nil l.body.children)) (graftOverChildren (here s b l.id)) _ (λ _. refl)
+    says_else (λ r. way_of r ≡ []) (is_some (graft? l.body) and not (is_nil l.body.children)) (graftOverChildren (here s b l.id)) _ (λ _. refl)
     (λ _. says_else (λ r. way_of r ≡ []) (same_option same_tree (claim s b l) (some ROOT)) (graftOfRoot (here s b l.id)) (second_claim s b placed l) (λ _. refl) (λ _. second_wayless s b placed l))
 
 pass_wayless : (s : Forest) (b : Batch) (seen : List NodeId) (placed : List Listed) (es : List Event) → Wayless (pass_reason s b seen placed es)
@@ -237,7 +237,7 @@ module _ (bytes : List ℕ) (small : (i : ℕ) → get_or bytes i 0 < 256) where
   -- of rows 5 to 8 of ROOT, where there is room for its number, row 5 is left
   seed_row : (os : List (Option Reason)) → same_tree given.tree ROOT ≡ true
       → first_reason (reasons_before_pass (seed given) (without_tree_data given) ++ os) ≡ first_reason (repeated_after (seed given) (without_tree_data given) [] (listed_ids given.nodes) ∷ os)
-  unfolding reasons_before_pass seed without_tree_data with_tree_data ◌&&◌
+  unfolding reasons_before_pass seed without_tree_data with_tree_data ◌and◌
   seed_row os e = rw (e, and_false (not (known (seed given) (without_tree_data given))))
 
   abbrev start_row : List (Option Reason)

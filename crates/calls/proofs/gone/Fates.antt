@@ -8,7 +8,8 @@ use native.Mathlib.Decide.{dec_lt}
 use native.Mathlib.Omega.{arith}
 use lib.Dec.{eqb, ltb, leb}
 use borrow.Author.Tests.{eq-eqb, ne_eqb, lt-ltb, le-ltb, le-leb, lt-leb}
-use Rattle.base.specs.Tests.{◌&&◌, if◌then◌else◌, same_option}
+use Rattle.std.specs.Prelude.{if◌then◌else◌}
+use Rattle.base.specs.Tests.{◌and◌, same_option}
 use Rattle.ids.specs.Ids.{same_index, same_id}
 use Rattle.ids.specs.declared.TreeIndex.{TreeIndex}
 use Rattle.ids.specs.declared.FullNodeId.{FullNodeId}
@@ -63,7 +64,7 @@ module _ (s : Forest) (b : Batch) (scope : Scope) (scoped : Scoped s b scope) (x
 
 -- whether x is a root that is replaced
 pub replaced_is : (scope : Scope) (x : FullNodeId) {turn naming : ℕ} {r : Bool} → r ≡ same_option same_id (root_in scope) (some x)
-    → ReplacedIs scope x turn naming (eqb x.tree.0 scope.tree.0 && scope.with_tree_data && not r && eqb turn 0 && eqb naming 0)
+    → ReplacedIs scope x turn naming (eqb x.tree.0 scope.tree.0 and scope.with_tree_data and not r and eqb turn 0 and eqb naming 0)
 unfolding replaced
 replaced_is scope x e s b scoped p q =
     rw (mine_is s b scope scoped x, scoped.tree_data, e ∙ root_is s b scope scoped x, p, q, not_above (turn_mark s b x), not_above (naming_mark s b x), ← turn_listed s b x, ← naming_named s b x)
@@ -72,12 +73,12 @@ replaced_is scope x e s b scoped p q =
 
 -- a node's mark is at most that of its listed parent, unless it is listed after it
 not_later : (s : Forest) (b : Batch) (x p : FullNodeId) → listed s b p ≡ true
-    → leb (turn_mark s b x) (turn_mark s b p) ≡ not (listed s b x && ltb (turn s b p) (turn s b x))
-unfolding turn_mark ◌&&◌
+    → leb (turn_mark s b x) (turn_mark s b p) ≡ not (listed s b x and ltb (turn s b p) (turn s b x))
+unfolding turn_mark ◌and◌
 not_later s b x p e = rw e (go (listed s b x) (dec_lt (turn s b p) (turn s b x)))
   where
     go : (t : Bool) → Dec (turn s b p < turn s b x)
-        → leb (if t then suc (turn s b x) else 0) (suc (turn s b p)) ≡ not (t && ltb (turn s b p) (turn s b x))
+        → leb (if t then suc (turn s b x) else 0) (suc (turn s b p)) ≡ not (t and ltb (turn s b p) (turn s b x))
     go true (yes h) = rw (lt-ltb (turn s b p) (turn s b x) h) (lt-leb (suc (turn s b x)) (suc (turn s b p)) (omega arith))
     go true (no h) = rw (le-ltb (turn s b p) (turn s b x) (omega arith)) (le-leb (suc (turn s b x)) (suc (turn s b p)) (omega arith))
     go false h = le-leb 0 (suc (turn s b p)) (omega arith)
@@ -92,8 +93,8 @@ module _ (s : Forest) (b : Batch) (x : FullNodeId) {mark : ℕ} (none : mark ≤
 
 -- whether tree data names x
 as_root : (s : Forest) (b : Batch) (scope : Scope) → Scoped s b scope → (x : FullNodeId) {r v : Bool} → r ≡ same_option same_id (root_in scope) (some x)
-    → bool.◌&&◌ scope.with_tree_data r ≡ v → (with_tree_data s b && is_root s b x) ≡ v
-unfolding ◌&&◌
+    → bool.◌&&◌ scope.with_tree_data r ≡ v → (with_tree_data s b and is_root s b x) ≡ v
+unfolding ◌and◌
 as_root s b scope scoped x root e = ap₂ bool.◌&&◌ (sym scoped.tree_data) (sym (root ∙ root_is s b scope scoped x)) ∙ e
 
 module _ (scope : Scope) (x p : FullNodeId) {turn naming parentTurn : ℕ} where

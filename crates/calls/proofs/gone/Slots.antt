@@ -7,7 +7,7 @@ use native.Mathlib.Omega.{arith}
 use lib.Dec.{ltb}
 use lib.ListN.{length, get_or}
 use borrow.Author.Tests.{lt-ltb, le-ltb, eq-eqb, ne_eqb, ltb-true}
-use Rattle.base.specs.Tests.{◌&&◌, is_some, same_option}
+use Rattle.base.specs.Tests.{◌and◌, is_some, same_option}
 use Rattle.base.proofs.Tests.{is_some_if, joined}
 use Rattle.ids.specs.Ids.{same_tree, same_id}
 use Rattle.ids.specs.declared.FullNodeId.{FullNodeId}
@@ -160,7 +160,7 @@ module _ {state bytes : List ℕ} {c : Scope} {notes : List ℕ} (told : Told AB
     module _ (free : c.listed ≤ r) where
       -- under a graft that is not listed
       pub under_unlisted : get_or notes (TURNS + i) 0 < 1 → FateUnderIs state bytes c i 2
-      unfolding fate_elsewhere fate_code lets_go ◌&&◌
+      unfolding fate_elsewhere fate_code lets_go ◌and◌
       under_unlisted l x apart =
           rw (other_index _ x.tree apart, claimed_is claimed ∙ le-ltb r c.listed free, turn_none (forest state) (asked bytes c) (id_at (forest state) i) (omega (arith, turn_at told i h)))
 

@@ -10,7 +10,8 @@ use native.Mathlib.Omega.{arith}
 use lib.Dec.{eqb, ltb, leb, leb-suc-suc}
 use lib.ListN.{length, get_or, take, length-append}
 use borrow.Author.Tests.{eqb-true, eq-eqb, ne_eqb, lt-ltb, le-ltb, ltb-true, ltb-false}
-use Rattle.base.specs.Tests.{◌&&◌, if◌then◌else◌, same_option, distinct, position, has}
+use Rattle.std.specs.Prelude.{if◌then◌else◌}
+use Rattle.base.specs.Tests.{◌and◌, same_option, distinct, position, has}
 use Rattle.base.specs.Search.{First}
 use Rattle.base.proofs.Tests.{iff, both, at_position}
 use Rattle.ids.specs.Ids.{ROOT, same_tree, same_index, same_node, same_id}
@@ -80,9 +81,9 @@ module _ (b : Batch) where
   named_first : (s : Forest) (x : FullNodeId) (j r k : ℕ) → k ≡ length b.nodes → naming_mark s b x ≡ suc j
       → First (λ i. ltb j (named_before b (i + 1))) k r → Owns b r j × (naming s b x ≡ some (named_link s b r j))
   unfolding naming_mark named_link
-  named_first s x j r k count e first = go (mine s b x && has same_node (named_ids b.nodes) x.node) refl e
+  named_first s x j r k count e first = go (mine s b x and has same_node (named_ids b.nodes) x.node) refl e
     where
-      go : (c : Bool) → (mine s b x && has same_node (named_ids b.nodes) x.node) ≡ c
+      go : (c : Bool) → (mine s b x and has same_node (named_ids b.nodes) x.node) ≡ c
           → (if c then suc (position same_node (named_ids b.nodes) x.node) else 0) ≡ suc j
           → Owns b r j × (naming s b x ≡ some (named_link s b r j))
       go true q f =
@@ -167,9 +168,9 @@ pane_test c root = bool.◌&&◌ (bool.◌&&◌ root c.with_tree_data) (not c.is
 
 -- a node that is listed and not named is cut by its mark; a new one has no link before
 cut_unnamed : (k : ℕ) (p z l u : Bool) (o : Option ParentAndIndex) → (u ≡ false → o ≡ none)
-    → (if p && z && l && true then none else o)
+    → (if p and z and l and true then none else o)
     ≡ (if bool.◌&&◌ (bool.◌&&◌ p z) (ltb 0 (if u then (if l then suc k else 0) else 0)) then none else o)
-unfolding ◌&&◌
+unfolding ◌and◌
 cut_unnamed k false z l u o new = refl
 cut_unnamed k true false l u o new = refl
 cut_unnamed k true true false true o new = refl
@@ -179,8 +180,8 @@ cut_unnamed k true true true false o new = sym (new refl)
 
 -- a listed node is cut at the turn r or later: by its turn k, and by its mark
 cut_sides : (k r : ℕ) (p z l u : Bool)
-    → (p && z && l && (u && leb r k)) ≡ bool.◌&&◌ (bool.◌&&◌ p z) (ltb r (if u then (if l then suc k else 0) else 0))
-unfolding ◌&&◌
+    → (p and z and l and (u and leb r k)) ≡ bool.◌&&◌ (bool.◌&&◌ p z) (ltb r (if u then (if l then suc k else 0) else 0))
+unfolding ◌and◌
 cut_sides k r false z l u = refl
 cut_sides k r true false l u = refl
 cut_sides k r true true false false = sym (le-ltb r 0 (omega arith))
@@ -196,7 +197,7 @@ module _ {s : Forest} {b : Batch} {c : Scope} (scoped : Scoped s b c) (x : FullN
 
   -- and so is the test for a pane's root
   pane_is : pane_test c root ≡ pane_root s b x
-  unfolding pane_root ◌&&◌
+  unfolding pane_root ◌and◌
   pane_is = rw (is_the_root, scoped.tree_data, scoped.root_tree)
 
   module _ (o : Option ParentAndIndex) where
@@ -322,7 +323,7 @@ module _ {s : Forest} {b : Batch} {c : Scope} (scoped : Scoped s b c) (x : FullN
 naming_mark_here : (s : Forest) (b : Batch) (n : NodeId) (k r : ℕ) → k ≡ length (named_ids b.nodes)
     → First (λ i. eqb (get_or (named_ids b.nodes) i no_node).0 n.0) k r
     → (if ltb r k then suc r else 0) ≡ naming_mark s b (here s b n)
-unfolding naming_mark here same_node ◌&&◌
+unfolding naming_mark here same_node ◌and◌
 naming_mark_here s b n k r count first = rw (here_mine s b n, has_position same_node n ids, same, count)
   where
     ids : List NodeId

@@ -8,7 +8,8 @@ use native.Mathlib.Omega.{arith}
 use lib.Dec.{eqb, ltb}
 use lib.ListN.{length, get_or}
 use borrow.Author.Tests.{lt-ltb, le-ltb}
-use Rattle.base.specs.Tests.{◌&&◌, if◌then◌else◌, is_some, same_option}
+use Rattle.std.specs.Prelude.{if◌then◌else◌}
+use Rattle.base.specs.Tests.{◌and◌, is_some, same_option}
 use Rattle.base.specs.Bytes.{bit}
 use Rattle.base.proofs.Cases.{by_test, by_option, by_order}
 use Rattle.base.proofs.Tests.{both, is_some_if, call_true, call_false, clash}
@@ -54,22 +55,22 @@ unfolding graft?
 graft_given d e = rw (graft_flag d ∙ e)
 
 -- whether it is t, by what was read
-pub claim_read : (b : Batch) (i : ℕ) (t : TreeId) (w : Bool) {g : TreeId} {z c : Bool} → g ≡ (listed_at b i).body.graft → z ≡ same_tree g t → w && z ≡ c
-    → w && same_tree (listed_at b i).body.graft t ≡ c
+pub claim_read : (b : Batch) (i : ℕ) (t : TreeId) (w : Bool) {g : TreeId} {z c : Bool} → g ≡ (listed_at b i).body.graft → z ≡ same_tree g t → w and z ≡ c
+    → w and same_tree (listed_at b i).body.graft t ≡ c
 claim_read b i t w is test e = rw (← is, ← test) e
 
 -- ## A slot's graft
 
 module _ (state : List ℕ) (i : ℕ) where
   -- whether it is a tree's, by its row
-  pub graft_test : (t : TreeId) {d : ShapeRow} {g z b : Bool} → d ≡ shape_in state i → g ≡ bit 8 d.flags → z ≡ same_tree d.graft t → g && z ≡ b
+  pub graft_test : (t : TreeId) {d : ShapeRow} {g z b : Bool} → d ≡ shape_in state i → g ≡ bit 8 d.flags → z ≡ same_tree d.graft t → g and z ≡ b
       → same_option same_tree (graft_in state i) (some t) ≡ b
-  unfolding graft_in ◌&&◌
+  unfolding graft_in ◌and◌
   graft_test t {d} {g} is e f q = rw (← is, ← e) (by_test g (λ h. rw h (sym f ∙ rw h at q)) (λ h. rw h (rw h at q)))
 
   -- whether a slot of a node grafts a tree
-  pub graft_below_some : (ltb i (slots_of state) && bit 8 (shape_in state i).flags) ≡ is_some (graft_below state i)
-  unfolding graft_below graft_in ◌&&◌
+  pub graft_below_some : (ltb i (slots_of state) and bit 8 (shape_in state i).flags) ≡ is_some (graft_below state i)
+  unfolding graft_below graft_in ◌and◌
   graft_below_some = by_test (ltb i (slots_of state)) (λ c. by_test (bit 8 (shape_in state i).flags) (λ d. rw (c, d)) (λ d. rw (c, d))) (λ c. rw c)
 
   -- the tree that it grafts
@@ -86,8 +87,8 @@ module _ (d : NodeData) (state : List ℕ) (i : ℕ) where
 
   -- one that grafts a tree has the slot's graft if the slot grafts the same
   pub same_graft_some : is_some (graft? d) ≡ true
-      → (is_some (graft_below state i) && same_tree d.graft (shape_in state i).graft) ≡ same_option same_tree (graft? d) (graft_below state i)
-  unfolding ◌&&◌
+      → (is_some (graft_below state i) and same_tree d.graft (shape_in state i).graft) ≡ same_option same_tree (graft? d) (graft_below state i)
+  unfolding ◌and◌
   same_graft_some e =
       rw (graft_given d e) (by_test (is_some (graft_below state i)) (λ q. rw (graft_below_given state i q)) (λ q. rw (none_of (graft_below state i) (ap not q))))
 
@@ -125,8 +126,8 @@ graft_slot state x =
 
 module _ (s : Forest) (b : Batch) where
   -- a node claims t if it claims a tree and grafts t
-  claim_test : (l : Listed) (t : TreeId) → (eqb (flag (is_some (claim s b l))) 1 && same_tree l.body.graft t) ≡ same_option same_tree (claim s b l) (some t)
-  unfolding claim graft? ◌&&◌
+  claim_test : (l : Listed) (t : TreeId) → (eqb (flag (is_some (claim s b l))) 1 and same_tree l.body.graft t) ≡ same_option same_tree (claim s b l) (some t)
+  unfolding claim graft? ◌and◌
   claim_test l t =
       by_test (same_option same_tree (graft? l.body) (graft_at s.nodes (here s b l.id))) (λ c. rw c)
       (λ c. by_test (bit 8 l.body.flags) (λ d. rw (c, d)) (λ d. rw (c, d)))
@@ -134,7 +135,7 @@ module _ (s : Forest) (b : Batch) where
   -- a listed node lets go of a graft that it does not keep
   pub lets_go_turn : (x : FullNodeId) (k : ℕ) → turn_mark s b x ≡ suc k
       → lets_go s b x ≡ not (same_option same_tree (graft? (listed_at b k).body) (graft_at s.nodes x))
-  unfolding lets_go ◌&&◌
+  unfolding lets_go ◌and◌
   lets_go_turn x k e =
       let is_listed : listed s b x ≡ true = turn_listed s b x ∙ ap (ltb 0) e ∙ lt-ltb 0 (suc k) (omega arith) in
       rw (is_listed, turn_listing s b x k e)
@@ -147,7 +148,7 @@ module _ (s : Forest) (b : Batch) where
     unfolding claimer listed_at
     claimer_is t r h =
         let test : (i : ℕ) → i < k
-        → (eqb (get_or notes (CLAIMS + i) 0) 1 && same_tree (listed_at (batch_of bytes) i).body.graft t) ≡ same_option same_tree (claim s b (listed_at b i)) (some t) =
+        → (eqb (get_or notes (CLAIMS + i) 0) 1 and same_tree (listed_at (batch_of bytes) i).body.graft t) ≡ same_option same_tree (claim s b (listed_at b i)) (some t) =
         λ i l. rw (batched_at bytes b batched i, say i l) (claim_test (listed_at b i) t) in
         first_given_at (λ l. same_option same_tree (claim s b l) (some t)) (λ l. here s b l.id) no_listed b.nodes r (rw (← count) (first_cong _ _ k r test h))
         ∙ rw (← count)

@@ -9,7 +9,8 @@ use native.Mathlib.Omega.{arith}
 use lib.Dec.{eqb, ltb}
 use lib.ListN.{length, get_or, take, length-append}
 use borrow.Author.Tests.{eqb-true, eq-eqb, lt-ltb, le-ltb, ltb-true}
-use Rattle.base.specs.Tests.{◌&&◌, if◌then◌else◌, any, has, distinct, position, first_given}
+use Rattle.std.specs.Prelude.{if◌then◌else◌}
+use Rattle.base.specs.Tests.{◌and◌, any, has, distinct, position, first_given}
 use Rattle.base.specs.Search.{First}
 use Rattle.base.proofs.Cases.{by_test, by_order}
 use Rattle.base.proofs.Tests.{both, joined, iff}
@@ -133,8 +134,8 @@ module _ (s : Forest) (b : Batch) (x : FullNodeId) where
   namer ls = first_given (λ l. if has same_node l.body.children x.node then some (named_by l) else none) ls
 
   -- a node is named where it is of the batch's tree and its number is
-  pub named_is : named s b x ≡ (mine s b x && has same_node (named_ids b.nodes) x.node)
-  unfolding named naming ◌&&◌
+  pub named_is : named s b x ≡ (mine s b x and has same_node (named_ids b.nodes) x.node)
+  unfolding named naming ◌and◌
   named_is =
       by_test (mine s b x)
       (λ t. rw t (first_given_some (λ l. has same_node l.body.children x.node) named_by b.nodes ∙ sym (has_named b.nodes x.node))) (λ t. rw t)
@@ -142,7 +143,7 @@ module _ (s : Forest) (b : Batch) (x : FullNodeId) where
   pub naming_named : named s b x ≡ ltb 0 (naming_mark s b x)
   unfolding naming_mark
   naming_named =
-      named_is ∙ mark_test (mine s b x && has same_node (named_ids b.nodes) x.node) (position same_node (named_ids b.nodes) x.node)
+      named_is ∙ mark_test (mine s b x and has same_node (named_ids b.nodes) x.node) (position same_node (named_ids b.nodes) x.node)
 
   pub naming_none : naming_mark s b x ≡ 0 → naming s b x ≡ none
   unfolding named
@@ -178,35 +179,35 @@ module _ (s : Forest) (b : Batch) (x : FullNodeId) where
       → naming s b x ≡ some (record { parent = here s b (listed_at b i).id; index = j - length (named_ids (take i b.nodes)) })
   unfolding naming_mark naming listed_at
   naming_link j i e h l m =
-      let is = mark_is (mine s b x && has same_node (named_ids b.nodes) x.node) (position same_node (named_ids b.nodes) x.node) j e in
+      let is = mark_is (mine s b x and has same_node (named_ids b.nodes) x.node) (position same_node (named_ids b.nodes) x.node) j e in
       rw ((both is.0).0, naming, ← is.1) (namer_at b.nodes i h (rw is.1 l) (rw (is.1, ← add-one i) m))
 
 -- ## Which slot a key marks
 
 module _ (s : Forest) (b : Batch) (up : ascending s.nodes ≡ true) (keys : List NodeId) (i : ℕ) (within : i < length s.nodes) where
   -- a key stands in slot i if it is the number there, and the node is of the batch's tree
-  key_test : (j : ℕ) → eqb (slot_at s (here s b (get_or keys j no_node))) i ≡ (mine s b (id_at s i) && same_node (id_at s i).node (get_or keys j no_node))
+  key_test : (j : ℕ) → eqb (slot_at s (here s b (get_or keys j no_node))) i ≡ (mine s b (id_at s i) and same_node (id_at s i).node (get_or keys j no_node))
   unfolding here
   key_test j = iff to from
     where
       n : NodeId
       n = get_or keys j no_node
 
-      to : eqb (slot_at s (here s b n)) i ≡ true → (mine s b (id_at s i) && same_node (id_at s i).node n) ≡ true
+      to : eqb (slot_at s (here s b n)) i ≡ true → (mine s b (id_at s i) and same_node (id_at s i).node n) ≡ true
       to e =
           let at : slot_at s (here s b n) ≡ i = eqb-true (slot_at s (here s b n)) i e in
           let same : id_at s i ≡ here s b n = ap (id_at s) (sym at) ∙ slot_id s (here s b n) (omega arith) in
           rw same (joined (here_mine s b n) (same_node_refl n))
 
-      from : (mine s b (id_at s i) && same_node (id_at s i).node n) ≡ true → eqb (slot_at s (here s b n)) i ≡ true
+      from : (mine s b (id_at s i) and same_node (id_at s i).node n) ≡ true → eqb (slot_at s (here s b n)) i ≡ true
       from e =
           let same : here s b n ≡ id_at s i = ap (here s b) (sym (same_node→≡ (id_at s i).node n (both e).1)) ∙ mine_here s b (id_at s i) (both e).0 in
           eq-eqb (slot_at s (here s b n)) i (ap (slot_at s) same ∙ slot_self s up i within)
 
   -- the first key of slot i is its mark
   mark_first : (r : ℕ) → First (λ j. eqb (slot_at s (here s b (get_or keys j no_node))) i) (length keys) r
-      → (if mine s b (id_at s i) && has same_node keys (id_at s i).node then suc (position same_node keys (id_at s i).node) else 0) ≡ (if ltb r (length keys) then suc r else 0)
-  unfolding ◌&&◌
+      → (if mine s b (id_at s i) and has same_node keys (id_at s i).node then suc (position same_node keys (id_at s i).node) else 0) ≡ (if ltb r (length keys) then suc r else 0)
+  unfolding ◌and◌
   mark_first r h =
       let f = first_cong _ _ (length keys) r (λ j l. key_test j) h in
       by_test (mine s b (id_at s i))

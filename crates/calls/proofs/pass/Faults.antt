@@ -10,7 +10,8 @@ use lib.Dec.{eqb, ltb}
 use lib.ListN.{length, get_or, take, set}
 use lib.Seq.{take-suc, get_or-set_same, get_or-set_other}
 use borrow.Author.Tests.{eqb-true, eqb-false, lt-ltb, le-ltb, eq-eqb, ne_eqb}
-use Rattle.base.specs.Tests.{◌&&◌, if◌then◌else◌, is_some, same_option, has, is_nil}
+use Rattle.std.specs.Prelude.{if◌then◌else◌}
+use Rattle.base.specs.Tests.{◌and◌, is_some, same_option, has, is_nil}
 use Rattle.base.proofs.Tests.{and_false}
 use Rattle.base.proofs.Lists.{any_append, none_of}
 use Rattle.base.specs.Search.{First}
@@ -102,7 +103,7 @@ module _ (b : Batch) (notes done : List ℕ) (i : ℕ) (t : TreeId) where
 
   -- it is the one, and claims its graft
   taken_self : i < length done → claims i ≡ true → is_taken b notes (set done i 1) t i ≡ same i
-  unfolding is_taken ◌&&◌
+  unfolding is_taken ◌and◌
   taken_self k e = rw (get_or-set_same done i 1 0 k, e)
 
   -- it is another
@@ -112,12 +113,12 @@ module _ (b : Batch) (notes done : List ℕ) (i : ℕ) (t : TreeId) where
 
   -- a node that claims nothing, or another tree
   taken_claimless : (marks : List ℕ) (m : ℕ) → claims m ≡ false → is_taken b notes marks t m ≡ false
-  unfolding is_taken ◌&&◌
+  unfolding is_taken ◌and◌
   taken_claimless marks m e = rw (e, and_false (eqb (get_or marks m 0) 1))
 
   taken_apart : (marks : List ℕ) (m : ℕ) → same m ≡ false → is_taken b notes marks t m ≡ false
   unfolding is_taken
-  taken_apart marks m e = rw (e, and_false (eqb (get_or marks m 0) 1 && claims m))
+  taken_apart marks m e = rw (e, and_false (eqb (get_or marks m 0) 1 and claims m))
 
 -- the node that claims a tree among those placed, once listed node i is done
 module _ {s : Forest} {b : Batch} {notes done : List ℕ} {placed : List Listed} (before : Claimed s b notes done placed) (i : ℕ) where
@@ -176,7 +177,7 @@ module _ {state bytes : List ℕ} {c : Scope} {notes : List ℕ} {i : ℕ} (told
 
 -- a graft node with children, as the code asks it
 crowded_is : (d : NodeData) {g v : Bool} {n : ℕ} → g ≡ is_some (graft? d) → n ≡ length d.children → bool.◌&&◌ g (ltb 0 n) ≡ v → crowded d ≡ v
-unfolding ◌&&◌
+unfolding ◌and◌
 crowded_is d g n e = sym (ap₂ bool.◌&&◌ g (ap (ltb 0) n ∙ some_length d.children)) ∙ e
   where
     some_length : (ns : List NodeId) → ltb 0 (length ns) ≡ not (is_nil ns)
@@ -186,15 +187,15 @@ crowded_is d g n e = sym (ap₂ bool.◌&&◌ g (ap (ltb 0) n ∙ some_length d.
 -- ## A node that is done and claims a tree
 
 -- one of two marks is not there
-pub untaken : (a c d : Bool) → (not a || not c) ≡ true → a && c && d ≡ false
-unfolding ◌&&◌
+pub untaken : (a c d : Bool) → (not a || not c) ≡ true → a and c and d ≡ false
+unfolding ◌and◌
 untaken true true d e = absurd (false≢true e)
 untaken true false d e = refl
 untaken false c d e = refl
 
 -- both are, and the node's graft g is compared
-pub taken : (a c : Bool) {g h : TreeId} (t : TreeId) {r : Bool} → (not a || not c) ≡ false → g ≡ h → r ≡ same_tree g t → r ≡ a && c && same_tree h t
-unfolding ◌&&◌
+pub taken : (a c : Bool) {g h : TreeId} (t : TreeId) {r : Bool} → (not a || not c) ≡ false → g ≡ h → r ≡ same_tree g t → r ≡ a and c and same_tree h t
+unfolding ◌and◌
 taken true true t e q s = s ∙ ap (λ x. same_tree x t) q
 taken true false t e q s = absurd (true≢false e)
 taken false c t e q s = absurd (true≢false e)

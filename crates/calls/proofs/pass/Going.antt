@@ -5,7 +5,8 @@ use mathlib.Core.Path.{◌≡◌, sym, ap, ◌∙◌, refl}
 use Prim.Native.Nat.{ℕ, ◌+◌, ◌≤◌, ◌<◌, suc, ◌-◌}
 use native.Mathlib.Omega.{arith}
 use lib.ListN.{length, replicate, set, get_or-replicate, length-set, length-replicate, get_or, take, drop, take-append-drop, length-append, length-take, drop_of_length-le}
-use Rattle.base.specs.Tests.{◌&&◌, if◌then◌else◌, has}
+use Rattle.std.specs.Prelude.{if◌then◌else◌}
+use Rattle.base.specs.Tests.{◌and◌, has}
 use Rattle.base.proofs.Tests.{clash}
 use Rattle.ids.specs.declared.TreeId.{TreeId}
 use Rattle.record.specs.Batch.{Batch, named_ids, NodeData, Listed}
@@ -162,7 +163,7 @@ unfolding claimer_among
 none_done s b notes few = record { free = λ t f. refl; held = λ t m l e. absurd (clash (free t m l) e) }
   where
     free : (t : TreeId) (m : ℕ) → m < length b.nodes → is_taken b notes (replicate 65 0) t m ≡ false
-    free t m l = unfold is_taken ◌&&◌ in (rw (get_or-replicate {A = ℕ} 65 m 0 0 (omega arith)))
+    free t m l = unfold is_taken ◌and◌ in (rw (get_or-replicate {A = ℕ} 65 m 0 0 (omega arith)))
 
 -- at the first child entry
 pub begins : {state bytes : List ℕ} {c : Scope} {notes : List ℕ} → Told READ state bytes c notes → Going (forest state) (asked bytes c) notes (replicate 65 0) 0 0

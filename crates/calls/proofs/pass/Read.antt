@@ -8,7 +8,8 @@ use native.Mathlib.Omega.{arith}
 use lib.Dec.{eqb, ltb, leb}
 use lib.ListN.{length, get_or, take}
 use borrow.Author.Tests.{lt-ltb, le-ltb, eqb-true, eq-eqb, ltb-false, le-leb}
-use Rattle.base.specs.Tests.{◌&&◌, is_some, same_option, has, position, if◌then◌else◌}
+use Rattle.std.specs.Prelude.{if◌then◌else◌}
+use Rattle.base.specs.Tests.{◌and◌, is_some, same_option, has, position}
 use Rattle.base.specs.Search.{First}
 use Rattle.base.proofs.Tests.{has_at, bit_is, iff, or_right}
 use Rattle.ids.specs.Ids.{same_node, same_id}
@@ -169,7 +170,7 @@ first_count f m n r e h = rw e at h
 -- the mark of a child, by its place among all
 naming_is : (s : Forest) (b : Batch) (j : ℕ) → j < length (named_ids b.nodes)
     → naming_mark s b (here s b (get_or (named_ids b.nodes) j no_node)) ≡ suc (position same_node (named_ids b.nodes) (get_or (named_ids b.nodes) j no_node))
-unfolding naming_mark here ◌&&◌
+unfolding naming_mark here ◌and◌
 naming_is s b j h =
     let c = get_or (named_ids b.nodes) j no_node in
     rw (here_mine s b c, has_at same_node (named_ids b.nodes) c no_node j h (same_node_refl c))

@@ -8,7 +8,8 @@ use native.Mathlib.Omega.{arith}
 use lib.Dec.{eqb, ltb}
 use lib.ListN.{length, get_or, set, replicate, get_or-replicate}
 use borrow.Author.Tests.{lt-ltb, le-ltb, eq-eqb, ne_eqb, eqb-true, eqb-false}
-use Rattle.base.specs.Tests.{◌&&◌, if◌then◌else◌, has, position}
+use Rattle.std.specs.Prelude.{if◌then◌else◌}
+use Rattle.base.specs.Tests.{◌and◌, has, position}
 use Rattle.base.specs.Search.{First}
 use Rattle.base.proofs.Tests.{and_false}
 use Rattle.ids.specs.Ids.{same_node}
@@ -135,14 +136,14 @@ module _ {state bytes : List ℕ} {c : Scope} {notes due firsts : List ℕ} (w :
 module _ (s : Forest) (b : Batch) where
   -- a number of the batch's tree is named
   named_here : (x : NodeId) → named s b (here s b x) ≡ has same_node (named_ids b.nodes) x
-  unfolding here ◌&&◌
+  unfolding here ◌and◌
   named_here x = named_is s b (here s b x) ∙ rw (here_mine s b x)
 
   -- whether a listed node is left without a place, after n children, which are all
   placeless_is : (i n : ℕ) → n ≡ length (named_ids b.nodes) → ltb n (due_of s b i) ≡ placeless s b (listed_at b i)
-  unfolding placeless due_of ◌&&◌
+  unfolding placeless due_of ◌and◌
   placeless_is i n e =
-      ap (λ m. ltb m (due_of s b i)) e ∙ go (placed_at_turn s b x) ∙ ap (λ t. not (placed_at_turn s b x) && not t) (sym (named_here x ∙ has_position same_node x all))
+      ap (λ m. ltb m (due_of s b i)) e ∙ go (placed_at_turn s b x) ∙ ap (λ t. not (placed_at_turn s b x) and not t) (sym (named_here x ∙ has_position same_node x all))
     where
       x : NodeId
       x = (listed_at b i).id
@@ -154,7 +155,7 @@ module _ (s : Forest) (b : Batch) where
       beyond (yes h) = le-ltb (length all) (suc (position same_node all x)) h ∙ ap not (sym (lt-ltb (position same_node all x) (length all) h))
       beyond (no h) = lt-ltb (length all) (suc (position same_node all x)) (omega arith) ∙ ap not (sym (le-ltb (position same_node all x) (length all) (omega arith)))
 
-      go : (t : Bool) → ltb (length all) (if t then 0 else suc (position same_node all x)) ≡ (not t && not (ltb (position same_node all x) (length all)))
+      go : (t : Bool) → ltb (length all) (if t then 0 else suc (position same_node all x)) ≡ (not t and not (ltb (position same_node all x) (length all)))
       go true = le-ltb (length all) 0 (omega arith)
       go false = beyond (dec_lt (position same_node all x) (length all))
 
@@ -163,7 +164,7 @@ module _ (s : Forest) (b : Batch) where
   -- a child that is not old is sought among the listed nodes
   sought_nowhere : (x : NodeId) (k p : ℕ) → old s b (here s b x) ≡ false → k ≡ length b.nodes
       → First (λ m. same_node x (listed_at b m).id) (length b.nodes) p → eqb p k ≡ nowhere s b x
-  unfolding nowhere listed here ◌&&◌ listed_at
+  unfolding nowhere listed here ◌and◌ listed_at
   sought_nowhere x k p e count f =
       let ids = listed_ids b.nodes in
       let at : position same_node ids x ≡ p =
@@ -197,7 +198,7 @@ module _ {state bytes : List ℕ} {c : Scope} {notes : List ℕ} (told : Told RE
   -- a child that is old, or not
   module _ {j n : ℕ} (h : j < c.named) (e : n ≡ slots_of state) where
     pub nowhere_old : get_or notes (NAMED_SLOTS + j) 0 < n → false ≡ nowhere (forest state) (asked bytes c) (get_or (named_ids (asked bytes c).nodes) j no_node)
-    unfolding nowhere ◌&&◌
+    unfolding nowhere ◌and◌
     nowhere_old l = rw (named_old told j n h e l)
 
     pub nowhere_new : {p : ℕ} → n ≤ get_or notes (NAMED_SLOTS + j) 0 → PositionIn notes LISTED c.listed (get_or notes (NAMED + j) 0) p
@@ -213,4 +214,4 @@ nowhere_first {state} {bytes} {c} w {j} h l =
     let s = forest state in
     let b = asked bytes c in
     let is = ap (λ y. listed s b (here s b y)) (first_id w j h l) ∙ listed_self s b _ (first_listed w j h l) in
-    sym (ap (λ t. not (old s b (here s b (get_or (named_ids b.nodes) j no_node))) && not t) is ∙ and_false _)
+    sym (ap (λ t. not (old s b (here s b (get_or (named_ids b.nodes) j no_node))) and not t) is ∙ and_false _)

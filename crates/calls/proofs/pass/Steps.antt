@@ -9,7 +9,8 @@ use native.Mathlib.Omega.{arith}
 use lib.Dec.{ltb, leb}
 use lib.ListN.{length, get_or, take}
 use borrow.Author.Tests.{le-ltb, le-leb, lt-leb}
-use Rattle.base.specs.Tests.{if◌then◌else◌, has, position}
+use Rattle.std.specs.Prelude.{if◌then◌else◌}
+use Rattle.base.specs.Tests.{has, position}
 use Rattle.base.specs.Search.{First}
 use Rattle.ids.specs.Ids.{same_node}
 use Rattle.ids.proofs.Ids.{same_node→≡}

@@ -9,7 +9,7 @@ use native.Mathlib.Omega.{arith}
 use lib.ListN.{length, get_or, set}
 use lib.Seq.{get_or-set_same, get_or-set_other}
 use borrow.Author.Tests.{ltb-true}
-use Rattle.base.specs.Tests.{◌&&◌, distinct, has, position}
+use Rattle.base.specs.Tests.{◌and◌, distinct, has, position}
 use Rattle.ids.specs.Ids.{same_node, same_id, before}
 use Rattle.record.specs.Batch.{Batch, listed_ids}
 use Rattle.record_reader.specs.Reader.{listed_at}
@@ -108,11 +108,11 @@ module _ (s : Forest) (b : Batch) (kept : KeptForest s) (few : length b.nodes �
 
   -- such a code is that of a node of the outcome
   coded_present : (code : ℕ) → Among s b (length s.nodes) (length b.nodes) code → present (outcome s b).nodes (code_id s b code) ≡ true
-  unfolding ◌&&◌ old
+  unfolding ◌and◌ old
   coded_present code p = present_after s b kept.ascending u (code_id s b code) ∙ go p
     where
       go : Among s b (length s.nodes) (length b.nodes) code
-          → (not (gone s b (code_id s b code)) && (present s.nodes (code_id s b code) || listed s b (code_id s b code))) ≡ true
+          → (not (gone s b (code_id s b code)) and (present s.nodes (code_id s b code) || listed s b (code_id s b code))) ≡ true
       go (inl p) = rw (code_old s b code (omega (arith, p.0, kept.few_nodes)), p.1, present_at s code p.0)
       go (inr p) =
           rw (p.2, code_listed s b p.0, gone_absent s b (here s b (listed_at b p.0).id) p.3, p.3)

@@ -7,7 +7,8 @@ use mathlib.Core.Path.{◌≡◌, refl, sym, ap, ◌∙◌}
 use Prim.Native.Nat.{ℕ, suc, ◌+◌, ◌-◌, ◌≤◌, ◌<◌}
 use native.Mathlib.Omega.{arith}
 use lib.ListN.{length, get_or}
-use Rattle.base.specs.Tests.{◌&&◌, if◌then◌else◌}
+use Rattle.std.specs.Prelude.{if◌then◌else◌}
+use Rattle.base.specs.Tests.{◌and◌}
 use Rattle.ids.specs.declared.FullNodeId.{FullNodeId}
 use Rattle.record.specs.Batch.{Batch}
 use Rattle.record_reader.specs.Reader.{listed_at}
@@ -45,7 +46,7 @@ module _ (s : Forest) (b : Batch) (kept : KeptForest s) (x : FullNodeId) where
 
   -- a new node's data comes from the batch
   source_new : 320 ≤ code_of s b x → source_of s b x ≡ code_of s b x
-  unfolding source_of code_of ◌&&◌
+  unfolding source_of code_of ◌and◌
   source_new h = rw (code_high h)
 
   module _ (low : code_of s b x < 320) where
@@ -58,7 +59,7 @@ module _ (s : Forest) (b : Batch) (kept : KeptForest s) (x : FullNodeId) where
 
     -- one that is not listed keeps its data
     source_kept : turn_mark s b x ≡ 0 → source_of s b x ≡ code_of s b x
-    unfolding source_of code_of ◌&&◌
+    unfolding source_of code_of ◌and◌
     source_kept e = rw (code_low low, turn_none s b x e)
 
     -- one that is listed has the listed data where that differs
@@ -67,7 +68,7 @@ module _ (s : Forest) (b : Batch) (kept : KeptForest s) (x : FullNodeId) where
       is_listed = turn_listed s b x ∙ rw (e, lt-ltb 0 (suc t) (omega arith))
 
       source_listed : (d : Bool) → differs s b (listed_at b t) ≡ d → source_of s b x ≡ (if d then 320 + t else code_of s b x)
-      unfolding source_of code_of ◌&&◌
+      unfolding source_of code_of ◌and◌
       source_listed true q = rw (code_low low, is_listed, turn_is s b x t e, q)
       source_listed false q = rw (code_low low, is_listed, turn_is s b x t e, q)
 

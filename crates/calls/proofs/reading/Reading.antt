@@ -12,7 +12,8 @@ use Rattle.calls.proofs.notes.Columns.{holds_fill, below_none, below_set}
 use lib.Dec.{ltb, eqb}
 use lib.ListN.{length, get_or, take, length-append, set}
 use lib.Seq.{take-suc, get_or-set_same, get_or-set_other}
-use Rattle.base.specs.Tests.{◌&&◌, if◌then◌else◌, is_some, same_option, position}
+use Rattle.std.specs.Prelude.{if◌then◌else◌}
+use Rattle.base.specs.Tests.{◌and◌, is_some, same_option, position}
 use Rattle.base.specs.Bytes.{list_of}
 use Rattle.base.proofs.Tests.{and_false, and_right}
 use Rattle.base.proofs.Bytes.{length_list_of, list_of_at}
@@ -205,10 +206,10 @@ module _ (state bytes : List ℕ) (c : Scope) (g : Given state bytes c) where
   -- ## Claims
 
   -- a graft is claimed where it is not the one before
-  claims_some : (new old : Option TreeId) → (is_some new && not (same_option same_tree new old)) ≡ is_some (if same_option same_tree new old then none else new)
+  claims_some : (new old : Option TreeId) → (is_some new and not (same_option same_tree new old)) ≡ is_some (if same_option same_tree new old then none else new)
   claims_some new old = go (same_option same_tree new old)
     where
-      go : (t : Bool) → (is_some new && not t) ≡ is_some (if t then none else new)
+      go : (t : Bool) → (is_some new and not t) ≡ is_some (if t then none else new)
       go true = and_false (is_some new)
       go false = and_right (is_some new)
 

@@ -8,7 +8,8 @@ use native.Mathlib.Omega.{arith}
 use lib.Dec.{eqb, ltb}
 use lib.ListN.{length, get_or}
 use borrow.Author.Tests.{lt-ltb, ltb-true, ltb-false, eq-eqb, ne_eqb}
-use Rattle.base.specs.Tests.{◌&&◌, if◌then◌else◌, is_some, all, same_option, distinct}
+use Rattle.std.specs.Prelude.{if◌then◌else◌}
+use Rattle.base.specs.Tests.{◌and◌, is_some, all, same_option, distinct}
 use Rattle.base.proofs.Tests.{both, bit_is}
 use Rattle.ids.specs.Ids.{same_node, same_id}
 use Rattle.ids.specs.declared.FullNodeId.{FullNodeId}
@@ -54,18 +55,18 @@ module _ {k : ℕ} {state bytes : List ℕ} {c : Scope} {notes next : List ℕ} 
 
 module _ (was next : LinkRow) where
   -- a link to no parent does not count as a change
-  pub unlinked_unchanged : next.linked ≡ 0 → false ≡ (is_some (link_of next) && not (same_option same_link (link_of was) (link_of next)))
-  unfolding link_of ◌&&◌
+  pub unlinked_unchanged : next.linked ≡ 0 → false ≡ (is_some (link_of next) and not (same_option same_link (link_of was) (link_of next)))
+  unfolding link_of ◌and◌
   unlinked_unchanged e = rw (eq-eqb next.linked 0 e)
 
   -- any other does where the place or the parent differs
   pub link_changed_is : {v : Bool} → (next.linked ≡ 0 → ⊥) → v ≡ same_id was.parent next.parent
       → ((eqb was.linked 0 || not (eqb was.index next.index)) || not v)
-      ≡ (is_some (link_of next) && not (same_option same_link (link_of was) (link_of next)))
-  unfolding link_of same_link ◌&&◌
+      ≡ (is_some (link_of next) and not (same_option same_link (link_of was) (link_of next)))
+  unfolding link_of same_link ◌and◌
   link_changed_is h same = rw (ne_eqb next.linked 0 h, same) (go (eqb was.linked 0))
     where
-      on : (i p : Bool) → (not i || not p) ≡ not (p && i)
+      on : (i p : Bool) → (not i || not p) ≡ not (p and i)
       on true true = refl
       on true false = refl
       on false true = refl
@@ -101,17 +102,17 @@ module _ (was next : LinkRow) where
 module _ (s : Forest) (b : Batch) (kept : KeptForest s) (i : ℕ) (within : i < length s.nodes) where
   -- a node that is not listed keeps its data
   data_none : turn_mark s b (id_at s i) ≡ 0 → data_changed s b (node_at s i) ≡ false
-  unfolding data_changed ◌&&◌
+  unfolding data_changed ◌and◌
   data_none e = rw (turn_none s b (id_at s i) e)
 
   -- one that is listed has other data where the node listed at its turn differs
   data_at : (k : ℕ) → turn_mark s b (id_at s i) ≡ suc k → differs s b (listed_at b k) ≡ data_changed s b (node_at s i)
-  unfolding differs data_changed ◌&&◌
+  unfolding differs data_changed ◌and◌
   data_at k e =
       let now : listed s b (id_at s i) ≡ true = turn_listed s b (id_at s i) ∙ rw (e, lt-ltb 0 (suc k) (omega arith)) in
       ap (λ (o : Option NodeState). elim o as (λ _. Bool) [ none ↦ false | some n ↦ not (same_data n.body (listed_at b k).body) ])
       (ap (λ x. find x s.nodes) (turn_here s b (id_at s i) k e) ∙ find_at s kept.ascending i within)
-      ∙ sym (ap₂ (λ (c : Bool) (o : Option NodeData). c && elim o as (λ _. Bool) [ none ↦ false | some d ↦ not (same_data (node_at s i).body d) ])
+      ∙ sym (ap₂ (λ (c : Bool) (o : Option NodeData). c and elim o as (λ _. Bool) [ none ↦ false | some d ↦ not (same_data (node_at s i).body d) ])
       now (turn_listing s b (id_at s i) k e))
 
   -- its fields are in order
@@ -212,15 +213,15 @@ module _ (s : Forest) (b : Batch) (kept : KeptForest s) (once : distinct same_no
   -- so it is updated or relinked by these
   updated_by : is_updated s (outcome s b) (pane_root s b) old_node
       ≡ (data_changed s b old_node
-      || (is_some after.parent_and_index && not (same_option same_link old_node.parent_and_index after.parent_and_index))
+      || (is_some after.parent_and_index and not (same_option same_link old_node.parent_and_index after.parent_and_index))
       || pane_root s b after.id)
-  unfolding link_changed ◌&&◌
+  unfolding link_changed ◌and◌
   updated_by =
       updated_is s b kept.ascending once old_node found (fields s b kept (slot_at s after.id) here) (pane_root s b)
       ∙ rw (stays.0, stays.1, slot_id s after.id here)
 
   relinked_by : is_relinked s (outcome s b) after.id ≡ not (same_option same_id (parent_of old_node.parent_and_index) (parent_of after.parent_and_index))
-  unfolding ◌&&◌
+  unfolding ◌and◌
   relinked_by = rw (stays.0, stays.1, slot_id s after.id here) at (relinked_is s b kept.ascending once old_node found)
 
 -- ## The word of a node
@@ -262,7 +263,7 @@ module _ {state bytes : List ℕ} {c : Scope} {notes next : List ℕ} (given : O
     -- an old one
     pub changed_old : (before after : LinkRow) {v : ℕ} {other link pane parent : Bool} {x : FullNodeId} → v ≡ 2 * flag (other || link || pane) + 4 * flag parent
         → other ≡ differ_noted notes (get_or notes (CODES + r) 0)
-        → link ≡ (is_some (link_of after) && not (same_option same_link (link_of before) (link_of after)))
+        → link ≡ (is_some (link_of after) and not (same_option same_link (link_of before) (link_of after)))
         → x ≡ id_in next r → PaneRootIs c x pane
         → parent ≡ not (same_option same_id (parent_of (link_of before)) (parent_of (link_of after)))
         → before ≡ link_in state (get_or notes (CODES + r) 0) → after ≡ link_in next r → v ≡ changed_word state bytes c r

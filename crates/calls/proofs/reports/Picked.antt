@@ -8,7 +8,8 @@ use native.Mathlib.Omega.{arith}
 use lib.Dec.{ltb}
 use lib.ListN.{length, get_or}
 use borrow.Author.Tests.{ltb-true}
-use Rattle.base.specs.Tests.{◌&&◌, if◌then◌else◌, is_some, keep, has, same_option}
+use Rattle.std.specs.Prelude.{if◌then◌else◌}
+use Rattle.base.specs.Tests.{◌and◌, is_some, keep, has, same_option}
 use Rattle.base.specs.Bytes.{bit}
 use Rattle.base.proofs.Lists.{any_append}
 use Rattle.base.proofs.Tests.{both, has_keep}
@@ -93,8 +94,8 @@ host_left o = (sym (unless_nothing o), sym (unless_nothing o))
 abbrev passes : (NodeState → Bool) → Option NodeState → Bool
 passes q o = elim o [ none ↦ false | some n ↦ q n ]
 
-passes_if : (q : NodeState → Bool) (t : Bool) (n : NodeState) → passes q (if t then some n else none) ≡ (t && q n)
-unfolding ◌&&◌
+passes_if : (q : NodeState → Bool) (t : Bool) (n : NodeState) → passes q (if t then some n else none) ≡ (t and q n)
+unfolding ◌and◌
 passes_if q true n = refl
 passes_if q false n = refl
 
@@ -115,8 +116,8 @@ has_kept q (n ∷ ns) x up = go (q n) refl (same_id x n.id) refl (has_kept q ns 
     go false e false f h = h
 
 -- a test beside one that it implies
-and_implied : (p a : Bool) → (a ≡ true → p ≡ true) → (p && a) ≡ a
-unfolding ◌&&◌
+and_implied : (p a : Bool) → (a ≡ true → p ≡ true) → (p and a) ≡ a
+unfolding ◌and◌
 and_implied true a h = refl
 and_implied false true h = h refl
 and_implied false false h = refl
@@ -129,16 +130,16 @@ among : (ns : List NodeState) (xs : List FullNodeId) (q : FullNodeId → Bool) �
 among ns xs q up order says there =
     same_members (keep q (ids_of ns)) xs (sorted_keep q (ids_of ns) (sorted_ids ns up)) order
     (λ x. has_keep same_id same_id→≡ q (ids_of ns) x
-    ∙ ap (λ (t : Bool). t && q x) (sym (present_has ns x))
+    ∙ ap (λ (t : Bool). t and q x) (sym (present_has ns x))
     ∙ and_implied (present ns x) (q x) (there x)
     ∙ sym (says x))
 
 -- an old node that is updated, or relinked, by its id
 abbrev was_updated : Forest → Batch → FullNodeId → Bool
-was_updated s b x = old s b x && is_updated s (outcome s b) (pane_root s b) (node_at s (slot_at s x))
+was_updated s b x = old s b x and is_updated s (outcome s b) (pane_root s b) (node_at s (slot_at s x))
 
 abbrev was_relinked : Forest → Batch → FullNodeId → Bool
-was_relinked s b x = old s b x && is_relinked s (outcome s b) x
+was_relinked s b x = old s b x and is_relinked s (outcome s b) x
 
 module _ (s : Forest) (b : Batch) (up : ascending s.nodes ≡ true) where
   -- among the outcome's nodes
@@ -150,7 +151,7 @@ module _ (s : Forest) (b : Batch) (up : ascending s.nodes ≡ true) where
       (λ x. has_kept (is_updated s (outcome s b) (pane_root s b)) s.nodes x up
       ∙ ap (passes (is_updated s (outcome s b) (pane_root s b))) (slot_found s x)
       ∙ passes_if (is_updated s (outcome s b) (pane_root s b)) (ltb (slot_at s x) (length s.nodes)) (node_at s (slot_at s x))
-      ∙ ap (λ (t : Bool). t && is_updated s (outcome s b) (pane_root s b) (node_at s (slot_at s x))) (sym (slot_present s x)))
+      ∙ ap (λ (t : Bool). t and is_updated s (outcome s b) (pane_root s b) (node_at s (slot_at s x))) (sym (slot_present s x)))
       there
     where
       found : (o : Option NodeState) (f : NodeState → Bool) → passes f o ≡ true → is_some o ≡ true
@@ -168,7 +169,7 @@ module _ (s : Forest) (b : Batch) (up : ascending s.nodes ≡ true) where
       among (outcome s b).nodes (relinked s (outcome s b)) (was_relinked s b) (ascending_outcome s b up)
       (sorted_keep (is_relinked s (outcome s b)) (ids_of s.nodes) (sorted_ids s.nodes up))
       (λ x. has_keep same_id same_id→≡ (is_relinked s (outcome s b)) (ids_of s.nodes) x
-      ∙ ap (λ (t : Bool). t && is_relinked s (outcome s b) x) (sym (present_has s.nodes x)))
+      ∙ ap (λ (t : Bool). t and is_relinked s (outcome s b) x) (sym (present_has s.nodes x)))
       there
     where
       there : (x : FullNodeId) → was_relinked s b x ≡ true → present (outcome s b).nodes x ≡ true
@@ -176,9 +177,9 @@ module _ (s : Forest) (b : Batch) (up : ascending s.nodes ≡ true) where
 
 -- ## The bits of a mark
 
-bits : (o u l : Bool) → (bit 1 (if o then 2 * flag u + 4 * flag l else 1) ≡ not o) × (bit 2 (if o then 2 * flag u + 4 * flag l else 1) ≡ (o && u))
-    × (bit 4 (if o then 2 * flag u + 4 * flag l else 1) ≡ (o && l))
-unfolding ◌&&◌
+bits : (o u l : Bool) → (bit 1 (if o then 2 * flag u + 4 * flag l else 1) ≡ not o) × (bit 2 (if o then 2 * flag u + 4 * flag l else 1) ≡ (o and u))
+    × (bit 4 (if o then 2 * flag u + 4 * flag l else 1) ≡ (o and l))
+unfolding ◌and◌
 bits true true true = (refl, refl, refl)
 bits true true false = (refl, refl, refl)
 bits true false true = (refl, refl, refl)

@@ -8,7 +8,8 @@ use lib.ListN.{length, get_or, set, take, drop, length-append, length-set, lengt
 use lib.Seq.{drop-cons, length-take-le, drop-append-add, drop-drop, set_at, take_at}
 use borrow.Author.Tests.{lt-ltb, le-ltb, leb-true, leb-false}
 use lib.Dec.{leb, ltb}
-use Rattle.base.specs.Tests.{if◌then◌else◌, ◌&&◌, keep, has}
+use Rattle.std.specs.Prelude.{if◌then◌else◌}
+use Rattle.base.specs.Tests.{◌and◌, keep, has}
 use Rattle.ids.specs.declared.FullNodeId.{FullNodeId}
 use Rattle.state_array.specs.View.{id_in, slots_of}
 use Rattle.update.specs.Reports.{Changes, change_words, slice_after}
@@ -119,21 +120,21 @@ module _ (weight : ℕ) (notes : List ℕ) (start : ℕ) (state : List ℕ) (f :
 -- a node is picked where the word of its slot has the bit
 module _ (weight : ℕ) (notes : List ℕ) (start : ℕ) (state : List ℕ) (up : ascending (forest state).nodes ≡ true) (x : FullNodeId) {i n : ℕ}
     (at : i ≡ slot_at (forest state) x) (count : n ≡ slots_of state) where
-  picked_has : has same_id (picked weight notes start state) x ≡ (ltb i n && taken weight notes start i)
+  picked_has : has same_id (picked weight notes start state) x ≡ (ltb i n and taken weight notes start i)
   picked_has =
       let s = forest state in
       let q : FullNodeId → Bool = λ y. taken weight notes start (slot_at s y) in
       ap (λ l. has same_id l x)
       (picked_ids weight notes start state s refl q (λ i h. ap (taken weight notes start) (sym (slot_self s up i (omega (arith, forest_length state))))))
       ∙ has_keep same_id same_id→≡ q (ids_of s.nodes) x
-      ∙ rw (at, count) (ap (λ (t : Bool). t && q x) (sym (present_has s.nodes x) ∙ slot_present s x ∙ ap (ltb (slot_at s x)) (forest_length state)))
+      ∙ rw (at, count) (ap (λ (t : Bool). t and q x) (sym (present_has s.nodes x) ∙ slot_present s x ∙ ap (ltb (slot_at s x)) (forest_length state)))
 
   pub picked_absent : n ≤ i → false ≡ has same_id (picked weight notes start state) x
-  unfolding ◌&&◌
+  unfolding ◌and◌
   picked_absent l = sym (picked_has ∙ rw (le-ltb i n l))
 
   pub picked_there : {v : Bool} → i < n → v ≡ taken weight notes start i → v ≡ has same_id (picked weight notes start state) x
-  unfolding ◌&&◌
+  unfolding ◌and◌
   picked_there l e = e ∙ sym (picked_has ∙ rw (lt-ltb i n l))
 
 -- ## The words of ids

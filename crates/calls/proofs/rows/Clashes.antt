@@ -17,7 +17,7 @@ use native.Mathlib.Omega.{arith}
 use lib.Dec.{eqb, ltb}
 use lib.ListN.{length, get_or, set, replicate, length-replicate}
 use borrow.Author.Tests.{ltb-true, ltb-false, eqb-true, eqb-false, eq-eqb, ne_eqb}
-use Rattle.base.specs.Tests.{◌&&◌, is_some, any, distinct}
+use Rattle.base.specs.Tests.{◌and◌, is_some, any, distinct}
 use Rattle.base.proofs.Cases.{by_test}
 use Rattle.base.proofs.Tests.{and_false, and_right, bit_is}
 use Rattle.record.specs.Batch.{same_data, Listed, Batch, listed_ids}
@@ -135,7 +135,7 @@ module _ (s : Forest) (b : Batch) (l : Listed) where
       go (some n) f = refl
 
   -- the two tests of row 18
-  pub clash_is : updated_and_removed s b l ≡ (gone s b (here s b l.id) && differs s b l)
+  pub clash_is : updated_and_removed s b l ≡ (gone s b (here s b l.id) and differs s b l)
   unfolding updated_and_removed differs
   clash_is = refl
 

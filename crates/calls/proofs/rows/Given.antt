@@ -6,7 +6,8 @@ use mathlib.Core.Path.{◌≡◌, refl, ap, ◌∙◌, sym}
 use Prim.Native.Nat.{ℕ, zero, suc, ◌+◌, ◌<◌}
 use native.Mathlib.Omega.{arith}
 use lib.ListN.{length, get_or, take, length-append}
-use Rattle.base.specs.Tests.{if◌then◌else◌, is_some, ◌&&◌, is_none, position}
+use Rattle.std.specs.Prelude.{if◌then◌else◌}
+use Rattle.base.specs.Tests.{is_some, ◌and◌, is_none, position}
 use Rattle.ids.specs.declared.NodeId.{NodeId}
 use Rattle.record.specs.Batch.{Batch, Listed, named_ids}
 use Rattle.record_reader.specs.Reader.{no_listed, listed_at, field_at, root_or_zero}
@@ -118,7 +119,7 @@ module _ (b : Batch) (root : same_tree b.tree ROOT ≡ true) where
 
   -- ROOT's root
   pub start_root : is_none b.root ≡ false → root_after (seed b) (without_tree_data b) ≡ some (record { tree = record { 0 = 0 }; node = root_or_zero b.root })
-  unfolding root_after seed without_tree_data subtree_of subtree_from subtree_state same_tree ◌&&◌
+  unfolding root_after seed without_tree_data subtree_of subtree_from subtree_state same_tree ◌and◌
   start_root e = rw (same_tree→≡ b.tree ROOT root, root_there b.root (not_false e))
 
 -- ## The batch that is asked

@@ -8,7 +8,7 @@ use Prim.Native.Nat.{ℕ}
 use lib.Dec.{ltb, leb}
 use lib.ListN.{length}
 use borrow.Author.Tests.{lt-ltb, leb-false}
-use Rattle.base.specs.Tests.{◌&&◌, is_some, is_none, distinct}
+use Rattle.base.specs.Tests.{◌and◌, is_some, is_none, distinct}
 use Rattle.base.specs.Tables.{row, found, first}
 use Rattle.base.proofs.Tables.{first_append, first_append_none}
 use Rattle.base.proofs.Tests.{not_false, call_true}
@@ -34,7 +34,7 @@ module _ (s : Forest) (b : Batch) where
 
   -- then 9 to 20
   pub batch_later : first (rows_before_pass s b) ≡ 0 → batch_number s b ≡ later_rows s b
-  unfolding batch_number rows_before_pass ◌&&◌
+  unfolding batch_number rows_before_pass ◌and◌
   batch_later e = first_append_none (rows_before_pass s b) _ refl e
 
   -- a batch that rows 9 to 14 refuse
@@ -54,8 +54,8 @@ module _ (s : Forest) (b : Batch) where
     pub once : distinct same_node (listed_ids b.nodes) ≡ true
     pub numbered : (known s b || ltb (length s.trees) 32) ≡ true
 
-  room_for : (k : Bool) → (not k && leb 32 (length s.trees)) ≡ false → (k || ltb (length s.trees) 32) ≡ true
-  unfolding ◌&&◌
+  room_for : (k : Bool) → (not k and leb 32 (length s.trees)) ≡ false → (k || ltb (length s.trees) 32) ≡ true
+  unfolding ◌and◌
   room_for true e = refl
   room_for false e = lt-ltb (length s.trees) 32 (leb-false 32 (length s.trees) e)
 
@@ -79,8 +79,8 @@ module _ (s : Forest) (bytes : List ℕ) where
 -- ## A start
 
 -- rows 6 to 8 of ROOT, where there is room for its number
-dropped : (x a c d k : Bool) → first (row 5 x ∷ row 6 (a && false && c) ∷ row 7 (not a && false && d) ∷ row 8 (k && false) ∷ []) ≡ first (row 5 x ∷ [])
-unfolding first ◌&&◌
+dropped : (x a c d k : Bool) → first (row 5 x ∷ row 6 (a and false and c) ∷ row 7 (not a and false and d) ∷ row 8 (k and false) ∷ []) ≡ first (row 5 x ∷ [])
+unfolding first ◌and◌
 dropped x true c d true = refl
 dropped x true c d false = refl
 dropped x false c d true = refl

@@ -7,7 +7,8 @@ use Prim.Native.Nat.{ℕ, ◌≤◌, ◌<◌}
 use borrow.Author.Tests.{lt-ltb, le-ltb}
 use lib.Dec.{ltb, leb}
 use lib.ListN.{length}
-use Rattle.base.specs.Tests.{if◌then◌else◌, is_none, ◌&&◌, is_some, same_option}
+use Rattle.std.specs.Prelude.{if◌then◌else◌}
+use Rattle.base.specs.Tests.{is_none, ◌and◌, is_some, same_option}
 use Rattle.base.specs.Tables.{Row, row, found, first}
 use Rattle.base.specs.Search.{First}
 use Rattle.base.proofs.Tests.{call_true}
@@ -42,8 +43,8 @@ module _ (state : List ℕ) (b : Batch) where
         first_given_some (λ (k : NodeState). same_option same_tree (graft? k.body) (some b.tree)) (λ (k : NodeState). k.id) (list_of (slots_of state) (node_in state))
         ∙ sym (first_any (λ (k : NodeState). same_option same_tree (graft? k.body) (some b.tree)) (slots_of state) (node_in state) r search)
 
-    pub ungrafted_is : is_some b.root ≡ true → (not (same_tree b.tree ROOT) && leb (slots_of state) r) ≡ ungrafted (forest state) b
-    unfolding ungrafted with_tree_data ◌&&◌
+    pub ungrafted_is : is_some b.root ≡ true → (not (same_tree b.tree ROOT) and leb (slots_of state) r) ≡ ungrafted (forest state) b
+    unfolding ungrafted with_tree_data ◌and◌
     ungrafted_is given = sym (rw (given, held, not_below r (slots_of state)))
 
   -- ## The number
@@ -69,7 +70,7 @@ module _ (state : List ℕ) (b : Batch) where
     trees_length = length_list_of (trees_of state) (entry_in state)
 
     -- row 8
-    pub full_is : (leb (trees_of state) r && leb 32 (trees_of state)) ≡ full (forest state) b
+    pub full_is : (leb (trees_of state) r and leb 32 (trees_of state)) ≡ full (forest state) b
     unfolding full
     full_is = sym (rw (known_is, trees_length, not_below r (trees_of state)))
 

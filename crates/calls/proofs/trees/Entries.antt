@@ -13,7 +13,8 @@ use lib.Dec.{eqb, ltb}
 use lib.ListN.{length, get_or, length-append, length-map, get_or-append}
 use lib.Seq.{get_or-append-add}
 use borrow.Author.Tests.{lt-ltb, le-ltb, eqb-true, eqb-false, eq-eqb, ne_eqb}
-use Rattle.base.specs.Tests.{◌&&◌, if◌then◌else◌, position}
+use Rattle.std.specs.Prelude.{if◌then◌else◌}
+use Rattle.base.specs.Tests.{◌and◌, position}
 use Rattle.base.specs.Bytes.{list_of}
 use Rattle.base.specs.Search.{First}
 use Rattle.base.proofs.Bytes.{length_list_of, list_of_at, map_list_of}
@@ -124,17 +125,17 @@ root_subtree s b k was e = go b.root (subtree_of s b.tree) was e
 -- the mark of a node, as the code reads it
 module _ (state notes : List ℕ) (x : FullNodeId) {i n : ℕ} (slot : i ≡ slot_at (forest state) x) (count : n ≡ slots_of state) where
   pub absent_stays : n ≤ i → false ≡ marked_gone state notes x
-  unfolding marked_gone ◌&&◌
+  unfolding marked_gone ◌and◌
   absent_stays h = rw (le-ltb (slot_at (forest state) x) (slots_of state) (omega (arith, slot)))
 
   pub mark_tells : i < n → eqb (get_or notes (FATES + i) 0) 1 ≡ marked_gone state notes x
-  unfolding marked_gone ◌&&◌
+  unfolding marked_gone ◌and◌
   mark_tells h = rw (← slot, lt-ltb i (slots_of state) (omega arith))
 
 -- and what it says
 pub marked_gone_lem : {state bytes : List ℕ} {c : Scope} {notes : List ℕ} → Told PLANNED state bytes c notes → (x : FullNodeId)
     → marked_gone state notes x ≡ gone (forest state) (asked bytes c) x
-unfolding marked_gone ◌&&◌ goes_word
+unfolding marked_gone ◌and◌ goes_word
 marked_gone_lem {state} {bytes} {c} {notes} told x = by_order (slot_at (forest state) x) (slots_of state) present absent
   where
     present : slot_at (forest state) x < slots_of state → marked_gone state notes x ≡ gone (forest state) (asked bytes c) x

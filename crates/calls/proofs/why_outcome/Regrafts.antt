@@ -10,7 +10,8 @@ use lib.Dec.{eqb, ltb}
 use lib.ListN.{length, get_or, drop, drop_of_length-le}
 use lib.Seq.{drop-cons}
 use borrow.Author.Tests.{lt-ltb, le-ltb}
-use Rattle.base.specs.Tests.{◌&&◌, if◌then◌else◌, is_some, same_option, first_given, has}
+use Rattle.std.specs.Prelude.{if◌then◌else◌}
+use Rattle.base.specs.Tests.{◌and◌, is_some, same_option, first_given, has}
 use Rattle.base.specs.Bytes.{bit}
 use Rattle.base.proofs.Tests.{bit_is}
 use Rattle.ids.specs.Ids.{same_tree, same_node}
@@ -117,16 +118,16 @@ module _ (s : List ℕ) where
       seeking_ends l = sym (rw (h.same, nodes_over j (omega (arith, h.count))))
 
       module _ (l : j < n) {d : ShapeRow} {g z : Bool} (is : d ≡ shape_in s j) (test : g ≡ bit 8 d.flags) (tree : z ≡ same_tree d.graft t) where
-        step : {b : Bool} → g && z ≡ b → holder (drop j ns) t ≡ (if b then some (id_in s j) else holder (drop (j + 1) ns) t)
+        step : {b : Bool} → g and z ≡ b → holder (drop j ns) t ≡ (if b then some (id_in s j) else holder (drop (j + 1) ns) t)
         unfolding node_in body_in graft? graft_in
         step {b} e =
             ap (λ ms. holder ms t) (nodes_from j (omega (arith, h.count))) ∙ holder_step (node_in s j) (drop (j + 1) ns) t b (graft_test s j t is test tree e)
 
-        pub seeking_hits : {x : FullNodeId} → g && z ≡ true → x ≡ id_in s j → node.At x ≡ found (holder (drop from ns) t)
+        pub seeking_hits : {x : FullNodeId} → g and z ≡ true → x ≡ id_in s j → node.At x ≡ found (holder (drop from ns) t)
         unfolding found
         seeking_hits e id = sym (ap found (h.same ∙ step e ∙ ap some (sym id)))
 
-        pub seeking_goes : g && z ≡ false → Seeking from n (j + 1)
+        pub seeking_goes : g and z ≡ false → Seeking from n (j + 1)
         seeking_goes e = record { count = h.count; same = h.same ∙ step e }
 
   -- ## The node that grafts what the node in slot i grafts
@@ -207,7 +208,7 @@ module _ {state bytes : List ℕ} {c : Scope} {notes : List ℕ} (told : Told PL
 
   -- a node of another tree
   pub claims_other : (x.tree.0 ≡ c.tree.0 → ⊥) → false ≡ claims f b x
-  unfolding claims listed ◌&&◌
+  unfolding claims listed ◌and◌
   claims_other h = sym (rw (mine_false f b c told.given.scoped x h))
 
   -- one of the batch's tree, by its place among the listed nodes
@@ -220,7 +221,7 @@ module _ {state bytes : List ℕ} {c : Scope} {notes : List ℕ} (told : Told PL
         (searched (λ m. get_or notes (LISTED + m) 0) (λ m. (listed_at b m).id) c.listed x.node.0 r (λ m l. told.written 0 (omega arith) m l) search))
 
     is_listed : listed f b x ≡ ltb r c.listed
-    unfolding listed turn ◌&&◌
+    unfolding listed turn ◌and◌
     is_listed =
         let places : has same_node (listed_ids b.nodes) x.node ≡ ltb r c.listed =
         has_position same_node x.node (listed_ids b.nodes) ∙ ap₂ ltb turn_is (listed_length b.nodes ∙ sym told.given.scoped.listed) in
@@ -236,12 +237,12 @@ module _ {state bytes : List ℕ} {c : Scope} {notes : List ℕ} (told : Told PL
 
     claims_by : {d : NodeData} → listed f b x ≡ true → listing b.nodes x.node ≡ some d
         → claims f b x ≡ is_some (claim f b (record { id = x.node; body = d }))
-    unfolding claims ◌&&◌
+    unfolding claims ◌and◌
     claims_by e q = rw (e, q)
 
     -- it is not listed
     pub claims_unlisted : c.listed ≤ r → false ≡ claims f b x
-    unfolding claims ◌&&◌
+    unfolding claims ◌and◌
     claims_unlisted l = sym (rw (is_listed, le-ltb r c.listed l))
 
     -- it is

@@ -5,7 +5,7 @@ use mathlib.Core.Option.{some}
 use mathlib.Core.Path.{◌≡◌, refl, sym, ◌∙◌}
 use Prim.Native.Nat.{ℕ, ◌/◌, ◌%◌, ◌≤◌, ◌<◌}
 use lib.Dec.{eqb}
-use Rattle.base.specs.Tests.{◌&&◌}
+use Rattle.base.specs.Tests.{◌and◌}
 use Rattle.ids.specs.declared.FullNodeId.{FullNodeId}
 use Rattle.geometry_box.specs.declared.BoundingBox.{BoundingBox}
 use Rattle.geometry_box.specs.Boxes.{apart, meet}
@@ -70,7 +70,7 @@ module _ (s : List ℕ) (k i : ℕ) (u : Unhidden s i) (plain : is_transparent (
         rw (same, neighbour_inside, is.levels) refl
 
     abbrev test : Bool → BoundingBox → Bool
-    test lies outer = clips_at v.forest p && lies && not (nearest_inside v Following above.level x outer || nearest_inside v Preceding above.level x outer)
+    test lies outer = clips_at v.forest p and lies and not (nearest_inside v Following above.level x outer || nearest_inside v Preceding above.level x outer)
 
     tests : is_clipped v x ≡ test (apart (bounding_box v.forest x) (bounding_box v.forest p)) (bounding_box v.forest p)
     unfolding is_clipped clipped_by
@@ -78,7 +78,7 @@ module _ (s : List ℕ) (k i : ℕ) (u : Unhidden s i) (plain : is_transparent (
 
     -- it does not clip
     pub clipped_open : clips_at v.forest p ≡ false → false ≡ is_clipped v x
-    unfolding ◌&&◌
+    unfolding ◌and◌
     clipped_open a = sym (tests ∙ rw a refl)
 
     module _ (a : clips_at v.forest p ≡ true) (own outer : BoundingBox) (o : own ≡ bounding_box v.forest x) (q : outer ≡ bounding_box v.forest p) where
@@ -87,15 +87,15 @@ module _ (s : List ℕ) (k i : ℕ) (u : Unhidden s i) (plain : is_transparent (
 
       -- the node is not outside
       pub clipped_inside : apart own outer ≡ false → false ≡ is_clipped v x
-      unfolding ◌&&◌
+      unfolding ◌and◌
       clipped_inside b = sym (by_boxes ∙ rw (a, b) refl)
 
       -- nor is the next neighbour, or the one before
       pub clipped_next : apart own outer ≡ true → nearest_inside v Following above.level x outer ≡ true → false ≡ is_clipped v x
-      unfolding ◌&&◌
+      unfolding ◌and◌
       clipped_next b c = sym (by_boxes ∙ rw (a, b, c) refl)
 
       pub clipped_last : (d : Bool) → apart own outer ≡ true → nearest_inside v Following above.level x outer ≡ false
           → d ≡ nearest_inside v Preceding above.level x outer → not d ≡ is_clipped v x
-      unfolding ◌&&◌
+      unfolding ◌and◌
       clipped_last d b c e = sym (by_boxes ∙ rw (a, b, c, ← e) refl)

@@ -6,7 +6,8 @@ use mathlib.Core.Path.{◌≡◌, refl, sym, ap, ◌∙◌, subst}
 use Prim.Native.Nat.{ℕ, ◌≤◌, ◌<◌}
 use native.Mathlib.Decide.{dec_lt}
 use native.Mathlib.Omega.{arith}
-use Rattle.base.specs.Tests.{if◌then◌else◌, same_option, ◌&&◌}
+use Rattle.std.specs.Prelude.{if◌then◌else◌}
+use Rattle.base.specs.Tests.{same_option, ◌and◌}
 use Rattle.ids.specs.Ids.{same_id}
 use Rattle.ids.specs.declared.FullNodeId.{FullNodeId}
 use Rattle.state.specs.State.{parent_at}
@@ -83,12 +84,12 @@ module _ (v : Seen) (x : FullNodeId) where
   passed_plain WithoutParentChecks a = refl
 
   pub passed_excepted : (filter : Filter) → has_root_exception filter ≡ true
-      → is_exclude_node (without_parent_checks v x) && not (same_option same_id (root_of v.forest) (some x)) ≡ is_exclude_node (filter_of filter v x)
-  unfolding has_root_exception filter_of with_root_exception is_exclude_node ◌&&◌
+      → is_exclude_node (without_parent_checks v x) and not (same_option same_id (root_of v.forest) (some x)) ≡ is_exclude_node (filter_of filter v x)
+  unfolding has_root_exception filter_of with_root_exception is_exclude_node ◌and◌
   passed_excepted Common a = absurd (false≢true a)
-  passed_excepted WithRootException a = ap (λ (b : Bool). b && not (same_option same_id (root_of v.forest) (some x))) passed_common ∙ go (same_option same_id (root_of v.forest) (some x)) (common_filter v x)
+  passed_excepted WithRootException a = ap (λ (b : Bool). b and not (same_option same_id (root_of v.forest) (some x))) passed_common ∙ go (same_option same_id (root_of v.forest) (some x)) (common_filter v x)
     where
-      go : (b : Bool) (r : FilterResult) → is_exclude_node r && not b ≡ is_exclude_node (if b then Include else r)
+      go : (b : Bool) (r : FilterResult) → is_exclude_node r and not b ≡ is_exclude_node (if b then Include else r)
       go true Include = refl
       go true ExcludeNode = refl
       go true ExcludeSubtree = refl
@@ -99,7 +100,7 @@ module _ (v : Seen) (x : FullNodeId) where
 
   -- included, or ROOT's root where it is excepted
   pub kept_filter : (e : Bool) (r : FilterResult) → r ≡ common_filter v x → is_kept v.forest e r x ≡ is_include (filter_of (excepted_filter e) v x)
-  unfolding is_kept ◌&&◌ excepted_filter filter_of with_root_exception is_include
+  unfolding is_kept ◌and◌ excepted_filter filter_of with_root_exception is_include
   kept_filter false r q = or-false (is_include r) ∙ ap is_include q
   kept_filter true r q = rw q (go (same_option same_id (root_of v.forest) (some x)))
     where

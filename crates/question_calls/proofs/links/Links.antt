@@ -8,7 +8,7 @@ use native.Mathlib.Decide.{dec_lt}
 use native.Mathlib.Omega.{arith}
 use lib.ListN.{length, get_or}
 use borrow.Author.Tests.{eq-eqb, ne_eqb}
-use Rattle.base.specs.Tests.{if◌then◌else◌}
+use Rattle.std.specs.Prelude.{if◌then◌else◌}
 use Rattle.base.specs.Bytes.{bit, list_of}
 use Rattle.base.proofs.Bytes.{map_list_of, length_list_of, list_of_at}
 use Rattle.ids.specs.declared.FullNodeId.{FullNodeId}

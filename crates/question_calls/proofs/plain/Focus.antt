@@ -8,7 +8,8 @@ use native.Mathlib.Decide.{dec_lt}
 use native.Mathlib.Omega.{arith}
 use lib.Dec.{ltb}
 use borrow.Author.Tests.{ltb-false, eq-eqb, ne_eqb}
-use Rattle.base.specs.Tests.{if◌then◌else◌, same_option}
+use Rattle.std.specs.Prelude.{if◌then◌else◌}
+use Rattle.base.specs.Tests.{same_option}
 use Rattle.ids.specs.Ids.{same_id}
 use Rattle.ids.proofs.Ids.{same_id→≡, same_id_refl}
 use Rattle.ids.specs.declared.FullNodeId.{FullNodeId}

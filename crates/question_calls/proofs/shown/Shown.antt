@@ -7,7 +7,8 @@ use Prim.Native.Nat.{ℕ, suc, ◌-◌, ◌≤◌, ◌<◌}
 use native.Mathlib.Decide.{dec_lt}
 use native.Mathlib.Omega.{arith}
 use lib.ListN.{length, get_elem?}
-use Rattle.base.specs.Tests.{if◌then◌else◌, is_nil}
+use Rattle.std.specs.Prelude.{if◌then◌else◌}
+use Rattle.base.specs.Tests.{is_nil}
 use Rattle.ids.specs.declared.FullNodeId.{FullNodeId}
 use Rattle.state.specs.State.{Forest, present}
 use Rattle.state_array.specs.View.{id_in, slots_of, view}

@@ -9,7 +9,8 @@ use native.Mathlib.Omega.{arith}
 use lib.Dec.{eqb, ltb}
 use lib.ListN.{length, get_elem?}
 use borrow.Author.Tests.{lt-ltb, ltb-false}
-use Rattle.base.specs.Tests.{◌&&◌, if◌then◌else◌, is_some}
+use Rattle.std.specs.Prelude.{if◌then◌else◌}
+use Rattle.base.specs.Tests.{◌and◌, is_some}
 use Rattle.base.specs.Tables.{row, first}
 use Rattle.ids.specs.declared.FullNodeId.{FullNodeId}
 use Rattle.state.specs.State.{Forest, State, present}
@@ -54,14 +55,14 @@ filter_ours (suc (suc (suc (suc n)))) = ap not (sym (lt-ltb 3 (suc (suc (suc (su
 
 -- 2 stands between 1 and 22
 pub number_walk : (v : Forest) (w : Walk) → number_for (ask_number v w.node) w.side w.filter ≡ walk_number v w
-unfolding number_for ask_number walk_number first ◌&&◌
+unfolding number_for ask_number walk_number first ◌and◌
 number_walk v w =
     go (sound v) (present v.nodes w.node) (ltb 1 w.side) (ltb 3 w.filter) (is_some (side_of w.side)) (is_some (filter_choice w.filter))
     (side_ours w.side) (filter_ours w.filter)
   where
     go : (a b c d s f : Bool) → s ≡ not c → f ≡ not d
         → (if eqb (first (row 1 (not a) ∷ row 22 (not b) ∷ [])) 1 then 1 else if c then 2 else if d then 2 else first (row 1 (not a) ∷ row 22 (not b) ∷ []))
-        ≡ first (row 1 (not a) ∷ row 2 (not (s && f)) ∷ row 22 (not b) ∷ [])
+        ≡ first (row 1 (not a) ∷ row 2 (not (s and f)) ∷ row 22 (not b) ∷ [])
     go false b c d s f p q = refl
     go true true true d s f p q = rw p refl
     go true true false true s f p q = rw (p, q) refl

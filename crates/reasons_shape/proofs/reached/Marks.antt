@@ -8,7 +8,8 @@ use lib.Dec.{eqb}
 use lib.ListN.{length, get_or, set, replicate, length-set, length-replicate, get_or-replicate}
 use lib.Seq.{get_or-set_same, get_or-set_other}
 use borrow.Author.Tests.{eq-eqb, ne_eqb, eqb-true}
-use Rattle.base.specs.Tests.{◌&&◌, if◌then◌else◌, any, has}
+use Rattle.std.specs.Prelude.{if◌then◌else◌}
+use Rattle.base.specs.Tests.{◌and◌, any, has}
 use Rattle.base.specs.Bytes.{all_below}
 use Rattle.base.proofs.Cases.{by_test, by_last}
 use Rattle.base.proofs.Tests.{joined, and_false, has_keep, clash, or_right}
@@ -80,11 +81,11 @@ mark_old s marks i e = rw (ne_eqb (get_or marks i 0) 0 e)
 
 module _ (s marks : List ℕ) (x : FullNodeId) (p : ℕ) where
   pub leads_not : (get_or marks p 0 ≡ 2 → ⊥) → false ≡ leads_to s marks x p
-  unfolding leads_to ◌&&◌
+  unfolding leads_to ◌and◌
   leads_not e = rw (ne_eqb (get_or marks p 0) 2 e)
 
   pub leads_if : get_or marks p 0 ≡ 2 → {r : Bool} → r ≡ below_at s x p → r ≡ leads_to s marks x p
-  unfolding leads_to ◌&&◌
+  unfolding leads_to ◌and◌
   leads_if e test = test ∙ rw (eq-eqb (get_or marks p 0) 2 e)
 
 -- ## One step further
@@ -116,26 +117,26 @@ module _ {s : List ℕ} {xs : List FullNodeId} {marks : List ℕ} (g : Spread s 
 
   -- a node of xs above x
   abbrev over : FullNodeId → NodeState → Bool
-  over x n = has same_id xs n.id && has same_id (ids_below f n) x
+  over x n = has same_id xs n.id and has same_id (ids_below f n) x
 
   -- a present node is among those one step further where it is among xs, or below one that is
   wider_has : (i : ℕ) → i < slots_of s → has same_id (wider f xs) (id_in s i) ≡ (has same_id xs (id_in s i) || any (over (id_in s i)) f.nodes)
-  unfolding wider ◌&&◌
+  unfolding wider ◌and◌
   wider_has i l =
       has_keep same_id same_id→≡ (λ x. has same_id xs x || any (over x) f.nodes) (ids_of f.nodes) (id_in s i)
       ∙ rw (view_ids s, has_list_of same_id same_id_refl (slots_of s) (id_in s) i l)
 
   -- by index
-  over_is : (x : FullNodeId) → any (over x) f.nodes ≡ not (all_below (slots_of s) (λ p. not (has same_id xs (id_in s p) && below_at s x p)))
+  over_is : (x : FullNodeId) → any (over x) f.nodes ≡ not (all_below (slots_of s) (λ p. not (has same_id xs (id_in s p) and below_at s x p)))
   unfolding view node_in below_at
   over_is x = any_indexed (over x) (slots_of s) (node_in s)
 
   -- of a slot without a mark, the nodes above it that are among xs have the mark 2
   leads_is : (i p : ℕ) → i < slots_of s → get_or marks i 0 ≡ 0 → p < slots_of s
-      → (has same_id xs (id_in s p) && below_at s (id_in s i) p) ≡ leads_to s marks (id_in s i) p
+      → (has same_id xs (id_in s p) and below_at s (id_in s i) p) ≡ leads_to s marks (id_in s i) p
   unfolding leads_to
   leads_is i p l e b =
-      by_test (below_at s (id_in s i) p) (λ t. rw (t, ← g.says p b) (ap (λ z. z && true) (two (get_or marks p 0) refl t)))
+      by_test (below_at s (id_in s i) p) (λ t. rw (t, ← g.says p b) (ap (λ z. z and true) (two (get_or marks p 0) refl t)))
       (λ t. rw t (and_false (has same_id xs (id_in s p)) ∙ sym (and_false (eqb (get_or marks p 0) 2))))
     where
       bare : has same_id xs (id_in s i) ≡ false
@@ -182,7 +183,7 @@ module _ {s : List ℕ} {xs : List FullNodeId} {marks : List ℕ} (g : Spread s 
     says = λ i l. rw (m.each i l) (next_says i l);
     settled = λ p i l b e h.
         let among : has same_id xs (id_in s p) ≡ true = sym (g.says p l) ∙ ap not (next_one p (sym (m.each p l) ∙ e)) in
-        rw (wider_has i b, over_is (id_in s i), all_below_fails (λ p. not (has same_id xs (id_in s p) && below_at s (id_in s i) p)) (slots_of s) p l (ap not (joined among h)))
+        rw (wider_has i b, over_is (id_in s i), all_below_fails (λ p. not (has same_id xs (id_in s p) and below_at s (id_in s i) p)) (slots_of s) p l (ap not (joined among h)))
         (or_right (has same_id xs (id_in s i)) refl);
   }
 

@@ -7,7 +7,8 @@ use Prim.Native.Nat.{ℕ, ◌+◌, ◌≤◌, ◌<◌}
 use native.Mathlib.Omega.{arith}
 use lib.ListN.{get_or, drop, length-append}
 use borrow.Author.Tests.{eq-eqb, ne_eqb}
-use Rattle.base.specs.Tests.{if◌then◌else◌, keep, same_option, has}
+use Rattle.std.specs.Prelude.{if◌then◌else◌}
+use Rattle.base.specs.Tests.{keep, same_option, has}
 use Rattle.base.specs.Bytes.{list_of}
 use Rattle.base.proofs.Bytes.{list_of_more}
 use Rattle.base.proofs.Tests.{call_true, call_false}

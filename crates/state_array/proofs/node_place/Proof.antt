@@ -1,12 +1,12 @@
 -- `state_array::node_place` meets its contract: a field of a slot. Assumes nothing.
 use borrow.Author.Tests.{lt-ltb, le-ltb}
-use Rattle.base.specs.Tests.{◌&&◌}
+use Rattle.base.specs.Tests.{◌and◌}
 use borrow.Author.Rules.{rules}
 use Rattle.state_array.proofs.node_place.Statement.{statement}
 use Rattle.state_array.proofs.node_place.Tie as tie
 
 pub node_place_spec : {M : Type 1} → statement M
-unfolding ◌&&◌
+unfolding ◌and◌
 node_place_spec =
     tie.close
     (tie.spec

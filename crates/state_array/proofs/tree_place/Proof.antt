@@ -1,12 +1,12 @@
 -- `state_array::tree_place` meets its contract: a field of a tree. Assumes nothing.
 use borrow.Author.Tests.{lt-ltb, le-ltb}
-use Rattle.base.specs.Tests.{◌&&◌}
+use Rattle.base.specs.Tests.{◌and◌}
 use borrow.Author.Rules.{rules}
 use Rattle.state_array.proofs.tree_place.Statement.{statement}
 use Rattle.state_array.proofs.tree_place.Tie as tie
 
 pub tree_place_spec : {M : Type 1} → statement M
-unfolding ◌&&◌
+unfolding ◌and◌
 tree_place_spec =
     tie.close
     (tie.spec

@@ -1,6 +1,6 @@
 -- `state_sound::shape_noting` meets its contract: the rules that do not go down, and the way down. Assumes nothing.
 use borrow.Author.Rules.{rules}
-use Rattle.base.specs.Tests.{◌&&◌}
+use Rattle.base.specs.Tests.{◌and◌}
 use Rattle.base.proofs.Tests.{call_true}
 use Rattle.state_lookup.proofs.Order.{ordered_is}
 use Rattle.state_sound.proofs.Decide.{shape_ordered, shape_unordered}
@@ -16,6 +16,6 @@ pub is_linked-requires : goal.is_linked-requires
 is_linked-requires c = rw (← ordered_is _) (call_true c.ordered.ensures c.if-not-ordered.false)
 
 pub returns : goal.returns
-unfolding ◌&&◌
+unfolding ◌and◌
 returns c =
     cc (shape_ordered c.args.state.now (call_true c.ordered.ensures c.if-not-ordered.false))

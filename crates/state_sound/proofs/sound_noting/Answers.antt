@@ -1,7 +1,7 @@
 -- `state_sound::sound_noting` meets its contract: the three parts are those of the definition where there are not too many nodes and trees. Assumes nothing.
 use native.Mathlib.Omega.{arith}
 use borrow.Author.Rules.{rules}
-use Rattle.base.specs.Tests.{◌&&◌}
+use Rattle.base.specs.Tests.{◌and◌}
 use Rattle.state_sound.proofs.Decide.{sound_crowded, sound_overgrown, sound_small}
 use Rattle.state_sound.proofs.sound_noting.Goals as goal
 
@@ -12,5 +12,5 @@ pub returns-then-trees-gt-TREES : goal.returns-then-trees-gt-TREES
 returns-then-trees-gt-TREES c = search (rules, sound_overgrown)
 
 pub returns : goal.returns
-unfolding ◌&&◌
+unfolding ◌and◌
 returns c = cc (sound_small c.args.state.now (omega arith) (omega arith))

@@ -1,7 +1,7 @@
 -- `notes::same_graft` meets its contract: none on both sides, or one tree on both. Assumes nothing.
 use mathlib.Core.Bool.{not}
 use mathlib.Core.Path.{ap, ap₂, ◌∙◌}
-use Rattle.base.specs.Tests.{◌&&◌}
+use Rattle.base.specs.Tests.{◌and◌}
 use Rattle.base.proofs.Tests.{call_false, call_true}
 use Rattle.ids.specs.Ids.{same_tree}
 use Rattle.calls.proofs.notes.Grafts.{same_graft_none, same_graft_some}
@@ -14,9 +14,9 @@ returns-then-not-grafts_new c =
     ∙ same_graft_none _ a.state.now a.slot (call_false c.grafts_new.ensures c.if-not-grafts_new.true)
 
 pub returns : goal.returns
-unfolding ◌&&◌
+unfolding ◌and◌
 returns c =
     let a = c.args in
-    ap₂ ◌&&◌ c.grafts_old-old.ensures
+    ap₂ ◌and◌ c.grafts_old-old.ensures
     (c.same_tree.ensures ∙ ap₂ same_tree c.graft.ensures (ap (λ d. d.graft) c.shape_at-d.ensures))
     ∙ same_graft_some _ a.state.now a.slot (call_true c.grafts_new.ensures c.if-not-grafts_new.false)

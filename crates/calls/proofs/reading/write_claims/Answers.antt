@@ -3,7 +3,7 @@ use mathlib.Core.Bool.{Bool, not}
 use mathlib.Core.Path.{ap, ap₂, ◌∙◌, refl}
 use Prim.Native.Nat.{◌+◌}
 use lib.ListN.{get_or}
-use Rattle.base.specs.Tests.{◌&&◌}
+use Rattle.base.specs.Tests.{◌and◌}
 use Rattle.calls.specs.Layout.{CLAIMS, LISTED_SLOTS}
 use Rattle.base.proofs.Regions.{fill_kept}
 use Rattle.calls.specs.Codes.{flag}
@@ -18,12 +18,12 @@ pub loop-i-init : goal.loop-i-init
 loop-i-init c = filling_begins (omega (arith, few_listed))
 
 pub loop-i-preserved : goal.loop-i-preserved
-unfolding claim_of ◌&&◌
+unfolding claim_of ◌and◌
 loop-i-preserved c =
     let l = c.loop-i in
     let slot = ap (λ s. get_or s (LISTED_SLOTS + l.i) 0) l.invariant.filled ∙ fill_kept CLAIMS _ l.i _ (LISTED_SLOTS + l.i) (λ p q. omega arith) in
     filling_goes l.invariant c.loop-i-test.true
-    (c.flag_of.ensures ∙ ap (λ (t : Bool). flag t) (ap₂ (λ t u. t && not u) c.grafts_new.ensures (rw slot at c.same_graft.ensures)))
+    (c.flag_of.ensures ∙ ap (λ (t : Bool). flag t) (ap₂ (λ t u. t and not u) c.grafts_new.ensures (rw slot at c.same_graft.ensures)))
 
 pub returns : goal.returns
 returns c =

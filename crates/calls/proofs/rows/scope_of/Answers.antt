@@ -1,7 +1,7 @@
 -- `rows::scope_of` meets its contract, part by part. Assumes nothing.
 use mathlib.Core.Option.{none, some}
 use mathlib.Core.Path.{ap, ◌∙◌}
-use Rattle.base.specs.Tests.{if◌then◌else◌}
+use Rattle.std.specs.Prelude.{if◌then◌else◌}
 use Rattle.ids.specs.Ids.{ROOT, same_tree}
 use Rattle.ids.specs.declared.TreeIndex.{TreeIndex}
 use Rattle.record.specs.Parse.{batch_of}

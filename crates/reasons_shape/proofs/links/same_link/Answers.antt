@@ -1,5 +1,5 @@
 -- `reasons_shape::links::same_link` meets its contract: a law for each way out. Assumes nothing.
-use Rattle.base.specs.Tests.{◌&&◌}
+use Rattle.base.specs.Tests.{◌and◌}
 use Rattle.reasons_shape.proofs.LinkRules.{same_none, same_some}
 use borrow.Author.Rules.{rules}
 use Rattle.reasons_shape.proofs.links.same_link.Goals as goal
@@ -8,5 +8,5 @@ pub returns-then-k-eq0 : goal.returns-then-k-eq0
 returns-then-k-eq0 c = search (rules, same_none)
 
 pub returns : goal.returns
-unfolding ◌&&◌
+unfolding ◌and◌
 returns c = let a = c.args in cc (same_some a.k a.l c.if-k-eq0.false)
