@@ -1,6 +1,6 @@
 // A view that holds the lent bytes of a batch, with thin functions for the header, a node record and a child entry. Each takes the view apart and
-// calls an accessor of `record_reader` on the slice, so it answers for any bytes and any index; each is proved by a walk of its MIR, by hand. The
-// functions `read_..` have plain parameters and read through the view: whoever calls them needs no walk.
+// calls an accessor of `record_reader` on the slice, so it answers for any bytes and any index. The functions `read_..` have plain parameters and
+// read through the view.
 #![tactic(auto)]
 
 ghost use Rattle.std.specs.Prelude.{◌≡◌};
