@@ -192,7 +192,8 @@ def turn_operators():
         if path == "crates/base/specs/Tests.antt":
             named = ["◌&&◌"]
             text = re.sub(r"infix 5 if◌.*?= y\n\n", "", text, flags=re.S).replace("-- a choice by a test\n", "")
-            text = PRELUDE.sub(lambda m: f"{m.group(1)}{m.group(2)}, {IF}}}", text, count=1)
+            if IF not in PRELUDE.search(text).group(2):
+                text = PRELUDE.sub(lambda m: f"{m.group(1)}{m.group(2)}, {IF}}}", text, count=1)
         if IF in named:
             text = with_std_if(text)
         if "◌&&◌" in named:
