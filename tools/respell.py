@@ -6,7 +6,7 @@ usage: tools/respell.py [--check | --operators]     at the top of the repository
 The names are those that the .antt files below crates/ declare. A name in camel case or with a dash gets underscores. Where a definition and a lemma
 that one file cites would have one name then (`rootOf` and `root-of`), the lemma gets `_lem` after it. Rust names, words in strings, names that the kit makes (`loop-i-kept`)
 and quoted text stay. In comments a name with a dash turns inside backquotes alone, since it may be plain words.
-Files of crates/ turn: code, definitions, proofs, edits. The table goes to docs/PORT-NAMES.tsv; --check prints it and writes nothing.
+Files of crates/ turn: code, definitions, proofs, edits. --check prints the table and writes nothing; docs/PORT-NAMES.tsv has the names from before port.py on.
 Then the conjunction `&&` of base/Tests becomes `and` and its `if` gives way to the library's, as a reader takes both for the library's; --operators does that alone.
 """
 
@@ -225,8 +225,6 @@ def main():
         for name in sorted(turned):
             print(f"{name}\t{turned[name]}")
         return
-    with open("docs/PORT-NAMES.tsv", "w", encoding="utf-8") as f:
-        f.write("".join(f"{name}\t{turned[name]}\n" for name in sorted(turned)))
     kinds = ((".antt", turn_antt), (".rt", turn_rust), (".edit", turn_edit))
     for ending, turn in kinds:
         for path in texts((ending,)):
