@@ -33,21 +33,22 @@ pub(crate) fn run<R: Read, N: Read>(
     let mut draft = draft::blank();
     let mut state = state_array::blank();
     let mut status = RIGHT;
-    let mut turns = u64::MAX;
-    loop {
+    // Nothing says that a text ends: this is a number that no run uses up.
+    for _ in 0..u64::MAX {
         flush_at_read(out, input);
         input = lines::next(input, file, &mut chunk, &mut text);
         if input.ended {
-            let last = script::at_end(out, call, input.number);
-            wanted = wanted::up_to(
+            let ended = at_end(
                 out,
+                call,
+                input,
                 wanted,
-                past(last.number),
                 numbers,
                 &mut list,
                 &mut entry,
+                show.expect,
             );
-            return worse(status, finish(out, last, input, wanted, show.expect));
+            return worse(status, ended);
         }
         let line = lines::line(&text, input);
         call = with_line(out, call, &mut draft, line, input, &mut roles);
@@ -60,11 +61,24 @@ pub(crate) fn run<R: Read, N: Read>(
             status = worse(status, answered);
             call = script::finished(call);
         }
-        if turns < 1 {
-            return status;
-        }
-        turns -= 1;
     }
+    status
+}
+
+// The last call of a text, and what is said at its end.
+fn at_end<N: Read>(
+    out: &mut Out,
+    call: Call,
+    input: Input,
+    wanted: Wanted,
+    numbers: &mut N,
+    list: &mut [u8; 65536],
+    entry: &mut [u8; 8192],
+    expect: bool,
+) -> u8 {
+    let last = script::at_end(out, call, input.number);
+    let numbered = wanted::up_to(out, wanted, past(last.number), numbers, list, entry);
+    finish(out, last, input, numbered, expect)
 }
 
 // The number after a number.

@@ -7,7 +7,7 @@ use Rattle.base.specs.Tests.{◌and◌}
 use Rattle.ids.specs.Ids.{ROOT, same_tree, same_index, same_node, same_id, before}
 use Rattle.record.specs.Batch.{graft?, Batch}
 use Rattle.record.specs.ExampleNodes.{node, T, parent, leaf, grafts, lists, batch_for, batch}
-use Rattle.state.specs.ExampleStates.{id, root, tree}
+use Rattle.state.specs.ExampleStates.{id, tree}
 use Rattle.book.specs.Book.{entry_of, enter, enter_all, strike, line_after, lines_after, number_in, new_line, enter_batch, opened_by, is_entered, tree_of_line, trees_of_lines}
 
 -- `unfolding computed` unfolds the definitions of the book

@@ -91,6 +91,14 @@ module _ (s : List ℕ) (h : Sound s) (i : ℕ) (there : i < slots_of s) (side :
                 rw (pq, iq) (ap (λ (ys : List FullNodeId). get_elem? ys k) same ∙ (beside_at side l.index k kids (id_in s p) run_index o).1);
           }
 
+      -- the same by the number of the parent's children
+      module _ {k : ℕ} (children : k ≡ length (child_ids f (id_in s p))) where
+        pub run_within : l.index < k
+        run_within = rw children run_index
+
+        pub run_counted : {n : ℕ} → n ≡ count_beside side l.index k → RunOf s side aside (record { parent = p; index = l.index; count = n })
+        run_counted e = run_linked _ refl refl (e ∙ ap (count_beside side l.index) children)
+
 module _ (s : List ℕ) (side : Side) (r : Run) (k : ℕ) (b : InRun s side r k) where
   abbrev kids : List FullNodeId
   kids = child_ids (view s).forest (id_in s r.parent)

@@ -1,56 +1,7 @@
 -- `record_layout::transform_finite` meets its contract. Assumes nothing.
 use Rattle.base.specs.Tests.{◌and◌}
 use Rattle.geometry.specs.Geometry.{affine_test}
-use borrow.Author.Rules.{rules}
 use Rattle.record_layout.proofs.transform_finite.Goals as goal
-
-pub overflow_add-at : goal.overflow_add-at
-unfolding ◌and◌ affine_test
-overflow_add-at c = search rules
-
-pub finite_at-requires : goal.finite_at-requires
-unfolding ◌and◌ affine_test
-finite_at-requires c = search rules
-
-pub overflow_add-at-2 : goal.overflow_add-at-2
-unfolding ◌and◌ affine_test
-overflow_add-at-2 c = search rules
-
-pub finite_at-requires-2 : goal.finite_at-requires-2
-unfolding ◌and◌ affine_test
-finite_at-requires-2 c = search rules
-
-pub overflow_add-at-3 : goal.overflow_add-at-3
-unfolding ◌and◌ affine_test
-overflow_add-at-3 c = search rules
-
-pub finite_at-requires-3 : goal.finite_at-requires-3
-unfolding ◌and◌ affine_test
-finite_at-requires-3 c = search rules
-
-pub overflow_add-at-4 : goal.overflow_add-at-4
-unfolding ◌and◌ affine_test
-overflow_add-at-4 c = search rules
-
-pub finite_at-requires-4 : goal.finite_at-requires-4
-unfolding ◌and◌ affine_test
-finite_at-requires-4 c = search rules
-
-pub overflow_add-at-5 : goal.overflow_add-at-5
-unfolding ◌and◌ affine_test
-overflow_add-at-5 c = search rules
-
-pub finite_at-requires-5 : goal.finite_at-requires-5
-unfolding ◌and◌ affine_test
-finite_at-requires-5 c = search rules
-
-pub overflow_add-at-6 : goal.overflow_add-at-6
-unfolding ◌and◌ affine_test
-overflow_add-at-6 c = search rules
-
-pub finite_at-requires-6 : goal.finite_at-requires-6
-unfolding ◌and◌ affine_test
-finite_at-requires-6 c = search rules
 
 pub returns : goal.returns
 unfolding ◌and◌ affine_test

@@ -1,34 +1,17 @@
 -- `state_lookup::tree_of` meets its contract: a law for each way out. Assumes nothing.
 use mathlib.Core.Path.{sym}
 use native.Mathlib.Omega.{arith}
-use borrow.Author.Rules.{rules}
 use Rattle.state_lookup.specs.Lookup.{ends_of}
 use Rattle.state_lookup.proofs.Trees.{tree_absent, tree_unborn, tree_there}
 use Rattle.state_lookup.proofs.tree_of.Goals as goal
-
-pub find_tree-k-requires : goal.find_tree-k-requires
-unfolding ends_of
-find_tree-k-requires c = search rules
-
-pub trees-requires : goal.trees-requires
-unfolding ends_of
-trees-requires c = search rules
 
 pub returns-then-trees-k : goal.returns-then-trees-k
 unfolding ends_of
 returns-then-trees-k c = sym (tree_absent _ _ _ c.find_tree-k.ensures (omega arith))
 
-pub tree_at-t-requires : goal.tree_at-t-requires
-unfolding ends_of
-tree_at-t-requires c = search rules
-
 pub returns-then-t-eq0 : goal.returns-then-t-eq0
 unfolding ends_of
 returns-then-t-eq0 c = sym (tree_unborn _ _ _ c.find_tree-k.ensures (omega arith) (rw c.tree_at-t.ensures at c.if-t-eq0.true))
-
-pub overflow_cast-tree : goal.overflow_cast-tree
-unfolding ends_of
-overflow_cast-tree c = search rules
 
 pub returns : goal.returns
 unfolding ends_of

@@ -1,9 +1,9 @@
 -- `lists::siblings_run` meets its contract: without a link there is no sibling; else they stand beside the node's place. Assumes nothing.
-use mathlib.Core.Path.{refl, sym, ap, ◌∙◌}
+use mathlib.Core.Path.{refl, sym, ap}
 use native.Mathlib.Omega.{arith}
 use Rattle.questions.specs.declared.Side.{Side}
 use Rattle.questions.specs.Ahead.{count_beside}
-use Rattle.question_calls.proofs.lists.Lists.{run_none, run_parent, run_index, run_linked}
+use Rattle.question_calls.proofs.lists.Lists.{run_none, run_parent, run_within, run_counted}
 use Rattle.question_calls.proofs.lists.siblings_run.Goals as goal
 
 pub returns-then-link-eq0 : goal.returns-then-link-eq0
@@ -18,8 +18,7 @@ overflow_sub-result c =
     let sound = c.requires.sound in
     let up = c.parent_slot-parent.ensures sound c.requires.i_bound in
     let there = run_parent a.state.now sound a.i c.requires.i_bound a.side _ c.link_at-link.ensures c.if-link-eq0.false _ up in
-    let within = run_index a.state.now sound a.i c.requires.i_bound a.side _ c.link_at-link.ensures c.if-link-eq0.false _ up in
-    omega (arith, within, c.child_count-children.ensures sound there)
+    omega (arith, run_within a.state.now sound a.i c.requires.i_bound a.side _ c.link_at-link.ensures c.if-link-eq0.false _ up (c.child_count-children.ensures sound there))
 
 pub overflow_sub-result-in-Following : goal.overflow_sub-result-in-Following
 overflow_sub-result-in-Following c =
@@ -27,8 +26,7 @@ overflow_sub-result-in-Following c =
     let sound = c.requires.sound in
     let up = c.parent_slot-parent.ensures sound c.requires.i_bound in
     let there = run_parent a.state.now sound a.i c.requires.i_bound a.side _ c.link_at-link.ensures c.if-link-eq0.false _ up in
-    let within = run_index a.state.now sound a.i c.requires.i_bound a.side _ c.link_at-link.ensures c.if-link-eq0.false _ up in
-    omega (arith, within, c.child_count-children.ensures sound there)
+    omega (arith, run_within a.state.now sound a.i c.requires.i_bound a.side _ c.link_at-link.ensures c.if-link-eq0.false _ up (c.child_count-children.ensures sound there))
 
 pub returns-in-Following : goal.returns-in-Following
 returns-in-Following c =
@@ -36,9 +34,8 @@ returns-in-Following c =
     let sound = c.requires.sound in
     let up = c.parent_slot-parent.ensures sound c.requires.i_bound in
     let there = run_parent a.state.now sound a.i c.requires.i_bound a.side _ c.link_at-link.ensures c.if-link-eq0.false _ up in
-    let beside = ap (λ (side : Side). count_beside side c.link_at-link.result.index c.child_count-children.result) (sym c.in-Following.is) in
-    run_linked a.state.now sound a.i c.requires.i_bound a.side _ c.link_at-link.ensures c.if-link-eq0.false _ up _ refl refl
-    (beside ∙ ap (count_beside a.side c.link_at-link.result.index) (c.child_count-children.ensures sound there))
+    run_counted a.state.now sound a.i c.requires.i_bound a.side _ c.link_at-link.ensures c.if-link-eq0.false _ up (c.child_count-children.ensures sound there)
+    (ap (λ (side : Side). count_beside side c.link_at-link.result.index c.child_count-children.result) (sym c.in-Following.is))
 
 pub returns-in-Preceding : goal.returns-in-Preceding
 returns-in-Preceding c =
@@ -46,6 +43,5 @@ returns-in-Preceding c =
     let sound = c.requires.sound in
     let up = c.parent_slot-parent.ensures sound c.requires.i_bound in
     let there = run_parent a.state.now sound a.i c.requires.i_bound a.side _ c.link_at-link.ensures c.if-link-eq0.false _ up in
-    let beside = ap (λ (side : Side). count_beside side c.link_at-link.result.index c.child_count-children.result) (sym c.in-Preceding.is) in
-    run_linked a.state.now sound a.i c.requires.i_bound a.side _ c.link_at-link.ensures c.if-link-eq0.false _ up _ refl refl
-    (beside ∙ ap (count_beside a.side c.link_at-link.result.index) (c.child_count-children.ensures sound there))
+    run_counted a.state.now sound a.i c.requires.i_bound a.side _ c.link_at-link.ensures c.if-link-eq0.false _ up (c.child_count-children.ensures sound there)
+    (ap (λ (side : Side). count_beside side c.link_at-link.result.index c.child_count-children.result) (sym c.in-Preceding.is))

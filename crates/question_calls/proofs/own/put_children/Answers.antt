@@ -7,39 +7,14 @@ use lib.ListN.{length, set, length-set}
 use Rattle.state_array.specs.View.{id_in, view}
 use Rattle.questions.specs.Links.{child_ids}
 use Rattle.questions.proofs.Answers.{ids_none, ids_more, ids_all}
-use borrow.Author.Rules.{rules}
 use Rattle.question_calls.proofs.own.put_children.Goals as goal
 
 pub loop-k-init : goal.loop-k-init
 loop-k-init c =
     (omega arith, c.requires.n_value.0, c.requires.n_value.1, sym (ids_none (child_ids (view c.args.state.now).forest (id_in c.args.state.now c.args.i)) c.args.out.now), refl)
 
-pub overflow_mul-at : goal.overflow_mul-at
-overflow_mul-at c = omega arith
-
-pub overflow_cast-out : goal.overflow_cast-out
-overflow_cast-out c = search rules
-
-pub offset_bounds-out-at : goal.offset_bounds-out-at
-offset_bounds-out-at c = omega arith
-
-pub bounds-out-at : goal.bounds-out-at
-bounds-out-at c = omega arith
-
-pub overflow_add-out : goal.overflow_add-out
-overflow_add-out c = omega arith
-
-pub offset_bounds-out-at-in-loop-k : goal.offset_bounds-out-at-in-loop-k
-offset_bounds-out-at-in-loop-k c = omega arith
-
 pub bounds-out-at-in-loop-k : goal.bounds-out-at-in-loop-k
 bounds-out-at-in-loop-k c = simp length-set (omega arith)
-
-pub overflow_add-k : goal.overflow_add-k
-overflow_add-k c = omega arith
-
-pub loop-k-smaller : goal.loop-k-smaller
-loop-k-smaller c = omega arith
 
 pub loop-k-preserved : goal.loop-k-preserved
 loop-k-preserved c =

@@ -21,12 +21,6 @@ bounds-out-j c =
     let a = c.args in
     omega (arith, ap length l.invariant.3, written_length (label_byte a.state.now a.i) a.out.now l.j (omega arith))
 
-pub overflow_add-j : goal.overflow_add-j
-overflow_add-j c = omega arith
-
-pub loop-j-smaller : goal.loop-j-smaller
-loop-j-smaller c = omega arith
-
 pub loop-j-preserved : goal.loop-j-preserved
 loop-j-preserved c =
     let l = c.loop-j in

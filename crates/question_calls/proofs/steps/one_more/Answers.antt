@@ -2,11 +2,7 @@ use mathlib.Core.Path.{refl}
 use native.Mathlib.Omega.{arith}
 use borrow.Author.Tests.{lt-ltb, le-ltb}
 use Rattle.question_calls.specs.Places.{one_more}
-use borrow.Author.Rules.{rules}
 use Rattle.question_calls.proofs.steps.one_more.Goals as goal
-
-pub overflow_add-result : goal.overflow_add-result
-overflow_add-result c = search rules
 
 pub returns-then-level-lt-SLOTS : goal.returns-then-level-lt-SLOTS
 unfolding one_more
