@@ -38,17 +38,7 @@ pub(crate) fn run<R: Read, N: Read>(
         flush_at_read(out, input);
         input = lines::next(input, file, &mut chunk, &mut text);
         if input.ended {
-            let ended = at_end(
-                out,
-                call,
-                input,
-                wanted,
-                numbers,
-                &mut list,
-                &mut entry,
-                show.expect,
-            );
-            return worse(status, ended);
+            break;
         }
         let line = lines::line(&text, input);
         call = with_line(out, call, &mut draft, line, input, &mut roles);
@@ -62,23 +52,10 @@ pub(crate) fn run<R: Read, N: Read>(
             call = script::finished(call);
         }
     }
-    status
-}
-
-// The last call of a text, and what is said at its end.
-fn at_end<N: Read>(
-    out: &mut Out,
-    call: Call,
-    input: Input,
-    wanted: Wanted,
-    numbers: &mut N,
-    list: &mut [u8; 65536],
-    entry: &mut [u8; 8192],
-    expect: bool,
-) -> u8 {
     let last = script::at_end(out, call, input.number);
-    let numbered = wanted::up_to(out, wanted, past(last.number), numbers, list, entry);
-    finish(out, last, input, numbered, expect)
+    let n = past(last.number);
+    wanted = wanted::up_to(out, wanted, n, numbers, &mut list, &mut entry);
+    worse(status, finish(out, last, input, wanted, show.expect))
 }
 
 // The number after a number.
