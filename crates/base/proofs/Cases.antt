@@ -1,6 +1,6 @@
 -- Proofs by cases: a test, an option, an order. Assumes nothing.
 use mathlib.Core.Bool.{Bool, true, false}
-use mathlib.Core.Option.{Option, none, some}
+use Rattle.std.specs.Prelude.{Option, None, Some}
 use mathlib.Core.Path.{◌≡◌, refl}
 use Prim.Native.Nat.{ℕ, ◌+◌, ◌≤◌, ◌<◌}
 use native.Mathlib.Decide.{dec_lt}
@@ -13,9 +13,9 @@ module _ {P : Type 0} where
   by_test false f g = g refl
 
   -- an option has a value, or none
-  pub by_option : {A : Type 0} (o : Option A) → (o ≡ none → P) → ((x : A) → o ≡ some x → P) → P
-  by_option none f g = f refl
-  by_option (some x) f g = g x refl
+  pub by_option : {A : Type 0} (o : Option A) → (o ≡ None → P) → ((x : A) → o ≡ Some x → P) → P
+  by_option None f g = f refl
+  by_option (Some x) f g = g x refl
 
   -- a number is below another, or not
   pub by_order : (i n : ℕ) → (i < n → P) → (n ≤ i → P) → P

@@ -10,6 +10,7 @@ use batchcheck_decode::decode;
 use batchcheck_files::{descriptors, records};
 use batchcheck_options::Options;
 use perform::Show;
+use program_text::lines::part;
 use program_text::print::{Out, put};
 use program_text::{cursor, decimal, print};
 use run::run;
@@ -27,14 +28,13 @@ fn main(rt: HostRuntime) {
     let o = batchcheck_options::all(&rt);
     let status = run_all(&rt, &mut out, o);
     print::flush(&mut out);
-    tell_status(&rt, o.status, status);
+    if let Some(i) = o.status {
+        tell_status(&rt, i, status);
+    }
 }
 
-// Writes the status to the descriptor that an argument names, if one does.
+// Writes the status to the descriptor that an argument names.
 fn tell_status(rt: &HostRuntime, i: usize, status: u8) {
-    if i < 1 {
-        return;
-    }
     let mut text = [0u8; 4096];
     let n = batchcheck_options::argument(rt, i, &mut text);
     let word = &text[..n];
@@ -75,14 +75,11 @@ fn run_all(rt: &HostRuntime, out: &mut Out, o: Options) -> u8 {
 
 // Everything that the arguments name, each text from the blank state.
 fn run_tasks(rt: &HostRuntime, out: &mut Out, all: Options) -> u8 {
-    let count = batchcheck_options::count(rt);
     let mut o = batchcheck_options::again(all);
     let mut status = RIGHT;
-    let mut i: usize = 1;
-    while i < count {
+    for i in 1..batchcheck_options::count(rt) {
         o = batchcheck_options::with_argument(rt, o, i);
         status = worse(status, run_task(rt, out, i, o, 1 < all.tasks));
-        i += 1;
     }
     status
 }
@@ -103,15 +100,15 @@ fn run_record(rt: &HostRuntime, out: &mut Out, i: usize) -> u8 {
     let n = batchcheck_options::argument(rt, i, &mut text);
     let name = &text[..n];
     let mut bytes = [0u8; 12489];
-    let l = records::read(rt, name, &mut bytes);
+    let read = records::read(rt, name, &mut bytes);
     put(out, b"# ");
     put(out, name);
-    if !l.good {
+    let Ok(length) = read else {
         put(out, b": cannot be read\n");
         return UNREAD;
-    }
+    };
     put(out, b"\n");
-    if decode(out, records::bytes_of(&bytes, l.length)) {
+    if decode(out, part(&bytes, length)) {
         return RIGHT;
     }
     REFUSED
@@ -163,14 +160,14 @@ fn run_open<R: Read>(rt: &HostRuntime, out: &mut Out, file: &mut R, name: &[u8],
         quiet: o.quiet,
         tree: o.tree,
         heard: o.heard,
-        expect: 0 < o.expect,
+        expect: o.expect.is_some(),
         record: o.record,
     };
-    if o.expect < 1 {
+    let Some(i) = o.expect else {
         return run(rt, out, file, &mut io::empty(), name, show);
-    }
+    };
     let mut text = [0u8; 4096];
-    let n = batchcheck_options::argument(rt, o.expect, &mut text);
+    let n = batchcheck_options::argument(rt, i, &mut text);
     match opened(rt, out, &text[..n]) {
         Some(mut numbers) => run(rt, out, file, &mut numbers, name, show),
         None => UNREAD,

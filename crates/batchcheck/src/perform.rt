@@ -9,6 +9,7 @@ use batchcheck_nodes::draw::draw;
 use batchcheck_record::draft;
 use batchcheck_record::draft::Draft;
 use batchcheck_say::Seen;
+use program_text::lines::part;
 use program_text::print::{Out, put};
 use program_text::{cursor, faults};
 use replies::Reply;
@@ -22,8 +23,8 @@ pub(crate) struct Show {
     pub(crate) heard: bool,
     // Whether a file has the numbers that the calls should answer.
     pub(crate) expect: bool,
-    // The argument that names a file for records, or 0.
-    pub(crate) record: usize,
+    // The argument that names a file for records.
+    pub(crate) record: Option<usize>,
 }
 
 // Runs a call that is due on a state, with its record; a question is answered from its line. The status of the call.
@@ -41,12 +42,9 @@ pub(crate) fn perform<'a>(
         return good(ask(out, state, line, p.line, roles));
     }
     if p.bad {
-        let place = p.name;
-        faults::tell(out, p.line, line, cursor::failed(place, faults::FILE));
-        script::skipped(out, p);
-        return UNREAD;
+        return unread(out, p, line);
     }
-    let batch = records::bytes_of(bytes, p.length);
+    let batch = part(bytes, p.length);
     let kept = keep(rt, out, show.record, p, batch);
     let seen = batchcheck_say::unanswered(p.kind, p.number, p.line, p.expected, state, batch);
     let number = if show.quiet {
@@ -58,12 +56,18 @@ pub(crate) fn perform<'a>(
     worse(kept, good(is_right(p.expected, number)))
 }
 
-// Whether a call answers what it should, or is taken where nothing is said.
-fn is_right(expected: u64, number: u32) -> bool {
-    if expected == script::NOT_SAID {
-        return number == 0;
+// A call whose file cannot be read.
+fn unread(out: &mut Out, p: Call, line: &[u8]) -> u8 {
+    if let Some(name) = p.raw {
+        faults::tell(out, p.line, line, cursor::failed(name, faults::FILE));
     }
-    expected == number as u64
+    script::skipped(out, p);
+    UNREAD
+}
+
+// Whether a call answers what it should, or is taken where nothing is said.
+fn is_right(expected: Option<u64>, number: u32) -> bool {
+    number as u64 == expected.unwrap_or(0)
 }
 
 // The state after a call, as the options ask for it.
@@ -76,8 +80,8 @@ fn show_state<'a>(out: &mut Out, state: &'a State, show: Show, roles: &'a [u8; 4
     }
 }
 
-// A call with its record put into `bytes`, which are zeros: what its draft has, or a file that its line names. `name` is the text's own. It is bad where the file
-// cannot be read.
+// A call with its record put into `bytes`, which are zeros: what its draft has, or a file that its line names. `name` is the text's own. It is bad
+// where the file cannot be read.
 pub(crate) fn loaded<'a>(
     rt: &HostRuntime,
     call: Call,
@@ -90,11 +94,11 @@ pub(crate) fn loaded<'a>(
     if (call.kind == script::HOST) | (call.kind == script::ASK) {
         return p;
     }
-    if call.raw {
-        let place = call.name;
-        let l = records::read_beside(rt, name, cursor::word(line, place), bytes);
-        p.length = l.length;
-        p.bad = !l.good;
+    if let Some(place) = call.raw {
+        match records::read_beside(rt, name, cursor::word(line, place), bytes) {
+            Ok(length) => p.length = length,
+            Err(_) => p.bad = true,
+        }
         return p;
     }
     p.length = draft::write(draft, bytes);
@@ -102,14 +106,17 @@ pub(crate) fn loaded<'a>(
 }
 
 // Writes the record of a start or a batch to the file that an argument names, if one does.
-fn keep(rt: &HostRuntime, out: &mut Out, i: usize, p: Call, batch: &[u8]) -> u8 {
-    if (i < 1) | (p.kind == script::HOST) {
+fn keep(rt: &HostRuntime, out: &mut Out, argument: Option<usize>, p: Call, batch: &[u8]) -> u8 {
+    let Some(i) = argument else {
+        return RIGHT;
+    };
+    if p.kind == script::HOST {
         return RIGHT;
     }
     let mut text = [0u8; 4096];
     let n = batchcheck_options::argument(rt, i, &mut text);
     let name = &text[..n];
-    if records::write(rt, name, p.number, batch) {
+    if records::write(rt, name, p.number, batch).is_ok() {
         return RIGHT;
     }
     put(out, name);

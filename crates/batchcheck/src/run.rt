@@ -85,12 +85,12 @@ fn with_line(
 // A call that is due, with the number of a file that it should answer, unless a line of the text says one.
 fn with_number(call: Call, w: Wanted, expects: bool) -> Call {
     let mut p = call;
-    if expects & (call.expected == script::NOT_SAID) {
-        p.expected = if w.count == call.number {
+    if expects & call.expected.is_none() {
+        p.expected = Some(if w.count == call.number {
             w.number
         } else {
             batchcheck_say::MISSING
-        };
+        });
     }
     p
 }

@@ -3,19 +3,15 @@ use crate::question;
 use crate::question::Question;
 use batchcheck_floats::{value, values};
 use batchcheck_nodes::print;
-use geometry::Affine;
+use geometry::{Affine, Rect};
 use geometry_box::BoundingBox;
-use ids::FullNodeId;
-use node_answers::{
-    BoxAnswer, FilterAnswer, HiddenAnswer, ListAnswer, NodeAnswer, NodeReading, OptionalAffine,
-    OptionalNode, OptionalRect, OptionalTree, TransformAnswer,
-};
+use ids::{FullNodeId, NodeId, TreeId};
+use node_answers::{NodeReading, Refusal};
 use program_text::print::{Out, count, of_number, put, tree_name};
 use program_text::{cursor, faults};
 use question_calls::{iterators, node, walk};
 use questions::{Filter, FilterResult, Side, Walk};
 use state_array::State;
-use state_focus::FoundNode;
 
 // Answers the question of a line, or says what is wrong with the line; whether it is good.
 pub fn ask<'a>(
@@ -40,38 +36,49 @@ pub fn ask<'a>(
 // The words of a line, a space before each.
 fn words(out: &mut Out, line: &[u8]) {
     let mut c = cursor::first(line);
-    let mut turns = line.len();
-    while 0 < turns {
+    for _ in 0..line.len() {
         if cursor::is_done(c) {
-            put(out, b"\n");
-            return;
+            break;
         }
         put(out, b" ");
         put(out, cursor::word(line, c));
         c = cursor::next(line, c);
-        turns -= 1;
     }
     put(out, b"\n");
 }
 
-// Asks and tells the answer.
+// Asks and tells the answer, or the number with which the question is refused.
 fn answer<'a>(out: &mut Out, state: &'a State, q: Question, roles: &'a [u8; 4096]) {
+    if let Err(refusal) = tell(out, state, q, roles) {
+        put(out, b"  refused: ");
+        print::row(out, refusal.number());
+        put(out, b"\n");
+    }
+}
+
+// The same of a question that is not refused.
+fn tell<'a>(
+    out: &mut Out,
+    state: &'a State,
+    q: Question,
+    roles: &'a [u8; 4096],
+) -> Result<(), Refusal> {
     let id = q.id;
     let what = q.what;
     if what < question::CHILDREN {
-        own(out, state, id, what, roles);
-        return;
+        return own(out, state, id, what, roles);
     }
     if what < question::PARENT {
-        list(out, state, id, what, q.side, q.filter, roles);
-        return;
+        return list(out, state, id, what, q.side, q.filter, roles);
     }
     if what < question::FILTER {
-        let found = one_node(state, id, what, q.side, q.filter, q.count);
+        let found = one_node(state, id, what, q.side, q.filter, q.count)?;
         tell_node(out, state, found, roles);
-        return;
+        return Ok(());
     }
-    tell_filter(out, question_calls::filter(state, id, filter_of(q.filter)));
+    let result = question_calls::filter(state, id, filter_of(q.filter))?;
+    tell_result(out, result);
+    Ok(())
 }
 
 // The side that a number means.
@@ -92,35 +99,28 @@ fn filter_of(filter: u64) -> Filter {
     }
 }
 
-// Tells a number but 0; whether it is one.
-fn is_refused(out: &mut Out, number: u8) -> bool {
-    if number == 0 {
-        return false;
-    }
-    put(out, b"  refused: ");
-    print::row(out, number);
-    put(out, b"\n");
-    true
-}
-
 // ## What a node has itself or from its ancestors
 
 // The questions about one node alone.
-fn own<'a>(out: &mut Out, state: &'a State, id: FullNodeId, what: u64, roles: &'a [u8; 4096]) {
+fn own<'a>(
+    out: &mut Out,
+    state: &'a State,
+    id: FullNodeId,
+    what: u64,
+    roles: &'a [u8; 4096],
+) -> Result<(), Refusal> {
     match what {
-        question::READ => tell_reading(out, node::read(state, id), roles),
-        question::LABEL => tell_label(out, state, id),
-        question::HIDDEN => tell_hidden(out, node::is_hidden(state, id)),
-        question::TRANSFORM => tell_transform(out, node::transform(state, id)),
-        _ => tell_box(out, node::bounding_box(state, id)),
+        question::READ => tell_reading(out, node::read(state, id)?, roles),
+        question::LABEL => tell_label(out, state, id)?,
+        question::HIDDEN => tell_hidden(out, node::is_hidden(state, id)?),
+        question::TRANSFORM => tell_transform(out, node::transform(state, id)?),
+        _ => tell_box(out, node::bounding_box(state, id)?),
     }
+    Ok(())
 }
 
 // What a node says of itself, in the words of a node line.
 fn tell_reading(out: &mut Out, r: NodeReading, roles: &[u8; 4096]) {
-    if is_refused(out, r.number) {
-        return;
-    }
     put(out, b"  ");
     print::role(out, roles, r.role as u64);
     put(out, b", ");
@@ -133,14 +133,10 @@ fn tell_reading(out: &mut Out, r: NodeReading, roles: &[u8; 4096]) {
     count(out, r.child_count as u64, b" child", b" children");
     tell_flag(out, r.hidden, b", hidden");
     tell_flag(out, r.clips_children, b", clips");
-    let active = r.active_descendant;
-    tell_active(out, active);
-    let graft = r.graft;
-    tell_graft(out, graft);
-    let bounds = r.bounds;
-    tell_bounds(out, bounds);
-    let transform = r.transform;
-    tell_own_transform(out, transform);
+    tell_active(out, r.active_descendant);
+    tell_graft(out, r.graft);
+    tell_bounds(out, r.bounds);
+    tell_own_transform(out, r.transform);
     put(out, b"\n");
 }
 
@@ -152,16 +148,16 @@ fn tell_flag(out: &mut Out, set: bool, word: &[u8]) {
 }
 
 // The active descendant, if there is one; so with the three below.
-fn tell_active(out: &mut Out, active: OptionalNode) {
+fn tell_active(out: &mut Out, active: Option<NodeId>) {
     match active {
-        OptionalNode::Given(n) => of_number(out, b", active #", n.0),
-        OptionalNode::None => {}
+        Some(n) => of_number(out, b", active #", n.0),
+        None => {}
     }
 }
 
 // The graft.
-fn tell_graft(out: &mut Out, graft: OptionalTree) {
-    let OptionalTree::Given(t) = graft else {
+fn tell_graft(out: &mut Out, graft: Option<TreeId>) {
+    let Some(t) = graft else {
         return;
     };
     put(out, b", grafts ");
@@ -169,8 +165,8 @@ fn tell_graft(out: &mut Out, graft: OptionalTree) {
 }
 
 // The bounds.
-fn tell_bounds(out: &mut Out, bounds: OptionalRect) {
-    let OptionalRect::Given(r) = bounds else {
+fn tell_bounds(out: &mut Out, bounds: Option<Rect>) {
+    let Some(r) = bounds else {
         return;
     };
     put(out, b", bounds");
@@ -178,8 +174,8 @@ fn tell_bounds(out: &mut Out, bounds: OptionalRect) {
 }
 
 // The transform.
-fn tell_own_transform(out: &mut Out, transform: OptionalAffine) {
-    let OptionalAffine::Given(t) = transform else {
+fn tell_own_transform(out: &mut Out, transform: Option<Affine>) {
+    let Some(t) = transform else {
         return;
     };
     put(out, b", transform");
@@ -194,23 +190,18 @@ fn affine(out: &mut Out, t: Affine) {
 }
 
 // The label, in quotes.
-fn tell_label(out: &mut Out, state: &State, id: FullNodeId) {
+fn tell_label(out: &mut Out, state: &State, id: FullNodeId) -> Result<(), Refusal> {
     let mut bytes = [0u8; 32];
-    let a = node::label(state, id, &mut bytes);
-    if is_refused(out, a.number) {
-        return;
-    }
+    let length = node::label(state, id, &mut bytes)?;
     put(out, b"  ");
-    print::first_quoted(out, &bytes, a.length);
+    print::first_quoted(out, &bytes, length);
     put(out, b"\n");
+    Ok(())
 }
 
 // Whether it is hidden.
-fn tell_hidden(out: &mut Out, a: HiddenAnswer) {
-    if is_refused(out, a.number) {
-        return;
-    }
-    if a.hidden {
+fn tell_hidden(out: &mut Out, hidden: bool) {
+    if hidden {
         put(out, b"  yes\n");
         return;
     }
@@ -218,22 +209,14 @@ fn tell_hidden(out: &mut Out, a: HiddenAnswer) {
 }
 
 // The transform, its ancestors' included.
-fn tell_transform(out: &mut Out, a: TransformAnswer) {
-    if is_refused(out, a.number) {
-        return;
-    }
+fn tell_transform(out: &mut Out, t: Affine) {
     put(out, b" ");
-    let t = a.transform;
     affine(out, t);
     put(out, b"\n");
 }
 
 // The bounding box.
-fn tell_box(out: &mut Out, a: BoxAnswer) {
-    if is_refused(out, a.number) {
-        return;
-    }
-    let bounding_box = a.bounding_box;
+fn tell_box(out: &mut Out, bounding_box: BoundingBox) {
     let BoundingBox::Box(x0, y0, x1, y1) = bounding_box else {
         put(out, b"  none\n");
         return;
@@ -254,17 +237,15 @@ fn list<'a>(
     side: u64,
     filter: u64,
     roles: &'a [u8; 4096],
-) {
+) -> Result<(), Refusal> {
     let mut numbers = [0u64; 512];
-    let a = listed(state, id, what, side, filter, &mut numbers);
-    if is_refused(out, a.number) {
-        return;
-    }
-    if a.length < 1 {
+    let length = listed(state, id, what, side, filter, &mut numbers)?;
+    if length < 1 {
         put(out, b"  none\n");
-        return;
+        return Ok(());
     }
-    print::list(out, b"  ", state, &numbers, 0, a.length, roles);
+    print::list(out, b"  ", state, &numbers, 0, length, roles);
+    Ok(())
 }
 
 // The list, written into a lent slice, two numbers a node.
@@ -275,7 +256,7 @@ fn listed<'a, 'b>(
     side: u64,
     filter: u64,
     out: &'b mut [u64],
-) -> ListAnswer {
+) -> Result<usize, Refusal> {
     match what {
         question::CHILDREN => node::children(state, id, out),
         question::FILTERED_CHILDREN => {
@@ -296,7 +277,7 @@ fn one_node(
     side: u64,
     filter: u64,
     count: u64,
-) -> NodeAnswer {
+) -> Result<Option<FullNodeId>, Refusal> {
     match what {
         question::PARENT => node::parent(state, id),
         question::WALK => walked(state, id, side, filter, count),
@@ -306,7 +287,13 @@ fn one_node(
 }
 
 // The next sibling of a kept walk.
-fn walked(state: &State, id: FullNodeId, side: u64, filter: u64, count: u64) -> NodeAnswer {
+fn walked(
+    state: &State,
+    id: FullNodeId,
+    side: u64,
+    filter: u64,
+    count: u64,
+) -> Result<Option<FullNodeId>, Refusal> {
     let walk = Walk {
         node: id,
         side: (side % 2) as u32,
@@ -318,7 +305,12 @@ fn walked(state: &State, id: FullNodeId, side: u64, filter: u64, count: u64) -> 
 }
 
 // The first, the last or a deepest filtered child.
-fn filtered_child(state: &State, id: FullNodeId, what: u64, filter: Filter) -> NodeAnswer {
+fn filtered_child(
+    state: &State,
+    id: FullNodeId,
+    what: u64,
+    filter: Filter,
+) -> Result<Option<FullNodeId>, Refusal> {
     match what {
         question::FIRST_CHILD => iterators::first_filtered_child(state, id, filter),
         question::LAST_CHILD => iterators::last_filtered_child(state, id, filter),
@@ -330,12 +322,13 @@ fn filtered_child(state: &State, id: FullNodeId, what: u64, filter: Filter) -> N
 }
 
 // A node, if there is one.
-fn tell_node<'a>(out: &mut Out, state: &'a State, a: NodeAnswer, roles: &'a [u8; 4096]) {
-    if is_refused(out, a.number) {
-        return;
-    }
-    let found = a.node;
-    let FoundNode::At(x) = found else {
+fn tell_node<'a>(
+    out: &mut Out,
+    state: &'a State,
+    found: Option<FullNodeId>,
+    roles: &'a [u8; 4096],
+) {
+    let Some(x) = found else {
         put(out, b"  none\n");
         return;
     };
@@ -346,17 +339,7 @@ fn tell_node<'a>(out: &mut Out, state: &'a State, a: NodeAnswer, roles: &'a [u8;
 
 // ## A filter
 
-// What a filter says of a node.
-fn tell_filter(out: &mut Out, a: FilterAnswer) {
-    match a {
-        FilterAnswer::Refused(number) => {
-            is_refused(out, number);
-        }
-        FilterAnswer::Result(result) => tell_result(out, result),
-    }
-}
-
-// By the crate's names.
+// What a filter says of a node, by the crate's names.
 fn tell_result(out: &mut Out, res: FilterResult) {
     match res {
         FilterResult::Include => put(out, b"  Include\n"),

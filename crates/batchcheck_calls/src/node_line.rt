@@ -30,27 +30,22 @@ const HIDDEN: u64 = 1024;
 
 const CLIPS: u64 = 2048;
 
-// A byte of a label, how long its text is, and whether that is well written.
+// A byte of a label, and how long its text is.
 #[derive(Clone, Copy)]
 struct Spelled {
     byte: u8,
     length: usize,
-    good: bool,
 }
 
 // Lists each node of a row, with all that the line says of it.
 pub(crate) fn all_listed(draft: &mut Draft, line: &[u8], at: Cursor, roles: &[u8; 4096]) -> Cursor {
     let row = decimal::row(line, at, faults::ROW);
-    let mut id = row.number;
-    let mut left = std::num::wrapping_sub_u64(row.last, id);
-    let mut c = listed(draft, line, at, row, id, roles);
-    while 0 < left {
+    let mut c = listed(draft, line, at, row, row.number, roles);
+    for before in row.number..row.last {
         if c.fault != 0 {
-            return c;
+            break;
         }
-        id = std::num::wrapping_add_u64(id, 1);
-        c = listed(draft, line, at, row, id, roles);
-        left -= 1;
+        c = listed(draft, line, at, row, before + 1, roles);
     }
     c
 }
@@ -83,13 +78,11 @@ pub(crate) fn once(draft: &mut Draft, line: &[u8], c: Cursor, what: u64) -> Curs
 // Every word that is left, which is said of the node listed last.
 fn properties(draft: &mut Draft, line: &[u8], from: Cursor, roles: &[u8; 4096]) -> Cursor {
     let mut c = from;
-    let mut turns = line.len();
-    while 0 < turns {
+    for _ in 0..line.len() {
         if cursor::is_done(c) {
-            return c;
+            break;
         }
         c = property(draft, line, c, roles);
-        turns -= 1;
     }
     c
 }
@@ -197,13 +190,11 @@ fn named_role(draft: &mut Draft, line: &[u8], c: Cursor, roles: &[u8; 4096]) -> 
 fn children(draft: &mut Draft, line: &[u8], at: Cursor) -> Cursor {
     let first = once(draft, line, at, CHILDREN);
     let mut c = row_of_children(draft, line, first);
-    let mut turns = line.len();
-    while 0 < turns {
+    for _ in 0..line.len() {
         if !decimal::is_digit(cursor::first_byte(line, c)) {
-            return c;
+            break;
         }
         c = row_of_children(draft, line, c);
-        turns -= 1;
     }
     c
 }
@@ -211,16 +202,12 @@ fn children(draft: &mut Draft, line: &[u8], at: Cursor) -> Cursor {
 // A row of children.
 fn row_of_children(draft: &mut Draft, line: &[u8], at: Cursor) -> Cursor {
     let row = decimal::row(line, at, faults::ROW);
-    let mut id = row.number;
-    let mut left = std::num::wrapping_sub_u64(row.last, id);
-    let mut c = child(draft, row, at, id);
-    while 0 < left {
+    let mut c = child(draft, row, at, row.number);
+    for before in row.number..row.last {
         if c.fault != 0 {
-            return c;
+            break;
         }
-        id = std::num::wrapping_add_u64(id, 1);
-        c = child(draft, row, at, id);
-        left -= 1;
+        c = child(draft, row, at, before + 1);
     }
     c
 }
@@ -237,11 +224,9 @@ fn child(draft: &mut Draft, row: Cursor, at: Cursor, id: u64) -> Cursor {
 // Its numbers from one place to before another.
 fn floats(draft: &mut Draft, line: &[u8], from: Cursor, first: usize, end: usize) -> Cursor {
     let mut c = from;
-    let mut place = first;
-    while place < end {
+    for place in first..end {
         c = decimal::float(line, c, faults::FLOAT);
         draft::set_float(draft, place, c.number);
-        place += 1;
     }
     c
 }
@@ -251,76 +236,66 @@ fn label(draft: &mut Draft, line: &[u8], c: Cursor) -> Cursor {
     let d = once(draft, line, c, LABEL);
     let before = draft::label_length(draft);
     let mut at = decimal::past(c.from);
-    let mut turns = line.len();
-    while 0 < turns {
-        let l = letter(line, at);
-        let fault = label_fault(l, at, c.end, draft::label_length(draft));
-        if fault != 0 {
-            draft::cut_labels(draft, before);
-            return cursor::failed(c, fault);
+    for _ in 0..line.len() {
+        match letter(line, at, c.end, draft::label_length(draft)) {
+            Ok(Some(l)) => {
+                draft::add_letter(draft, l.byte);
+                at = std::num::wrapping_add_usize(at, l.length);
+            }
+            Ok(None) => break,
+            Err(fault) => {
+                draft::cut_labels(draft, before);
+                return cursor::failed(c, fault);
+            }
         }
-        if is_quote(l) {
-            return d;
-        }
-        draft::add_letter(draft, l.byte);
-        at = std::num::wrapping_add_usize(at, l.length);
-        turns -= 1;
     }
     d
 }
 
-// What is wrong with a letter at a place of a label that ends before another, or 0.
-fn label_fault(l: Spelled, at: usize, end: usize, length: usize) -> u8 {
+// The letter at a place of a label that ends before another, none at the closing quote; or what is wrong with it. `length` is how many label bytes
+// there are.
+fn letter(line: &[u8], at: usize, end: usize, length: usize) -> Result<Option<Spelled>, u8> {
     if end <= at {
-        return faults::QUOTE;
+        return Err(faults::QUOTE);
     }
-    if is_quote(l) {
-        return 0;
+    if record_wire::u8_at(line, at) == b'"' {
+        return Ok(None);
     }
-    if !l.good {
-        return faults::ESCAPE;
-    }
+    let l = spelling(line, at).ok_or(faults::ESCAPE)?;
     if draft::LABEL_ROOM <= length {
-        return faults::LABEL_ROOM;
+        return Err(faults::LABEL_ROOM);
     }
-    0
+    Ok(Some(l))
 }
 
-// Whether this is the closing quote.
-fn is_quote(l: Spelled) -> bool {
-    (l.byte == b'"') & (l.length < 2)
-}
-
-// The byte of a label that is written at a place.
-fn letter(line: &[u8], at: usize) -> Spelled {
+// The byte of a label that is written at a place, if it is well written.
+fn spelling(line: &[u8], at: usize) -> Option<Spelled> {
     let byte = record_wire::u8_at(line, at);
     if byte != b'\\' {
-        return Spelled {
-            byte,
-            length: 1,
-            good: true,
-        };
+        return Some(Spelled { byte, length: 1 });
     }
     let next = decimal::past(at);
     let escaped = record_wire::u8_at(line, next);
-    if escaped == b'x' {
-        return hex_letter(line, next);
-    }
-    Spelled {
-        byte: escaped,
-        length: 2,
-        good: (escaped == b'"') | (escaped == b'\\'),
+    match escaped {
+        b'x' => hex_byte(line, next),
+        b'"' | b'\\' => Some(Spelled {
+            byte: escaped,
+            length: 2,
+        }),
+        _ => None,
     }
 }
 
 // The byte of two hexadecimal digits behind a place.
-fn hex_letter(line: &[u8], at: usize) -> Spelled {
+fn hex_byte(line: &[u8], at: usize) -> Option<Spelled> {
     let next = decimal::past(at);
     let high = decimal::hex_digit(record_wire::u8_at(line, next));
     let low = decimal::hex_digit(record_wire::u8_at(line, decimal::past(next)));
-    Spelled {
-        byte: 16 * (high % 16) + low % 16,
-        length: 4,
-        good: (high < 16) & (low < 16),
+    if (15 < high) | (15 < low) {
+        return None;
     }
+    Some(Spelled {
+        byte: 16 * high + low,
+        length: 4,
+    })
 }

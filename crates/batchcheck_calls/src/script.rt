@@ -34,20 +34,16 @@ pub struct Call {
     // Whether the host has the focus, and how many elements are lent for the lists.
     pub focused: bool,
     pub room: usize,
-    // Whether the record is the bytes of a file, and the place of the file's name in the line.
-    pub raw: bool,
-    pub name: Cursor,
+    // The place of the file's name in the line, where the record is the bytes of a file.
+    pub raw: Option<Cursor>,
     // How long the record is, once it is made.
     pub length: usize,
-    // The number that it should answer, or `NOT_SAID`.
-    pub expected: u64,
+    // The number that it should answer, where one is said.
+    pub expected: Option<u64>,
     // Whether a line of it was bad, and whether a line of the file was so far.
     pub bad: bool,
     pub faulty: bool,
 }
-
-// No number of document 01's table: where no `expect` line says one.
-pub const NOT_SAID: u64 = 255;
 
 // The largest number of document 01's table that a call answers.
 const MOST_ANSWER: u64 = 21;
@@ -61,10 +57,9 @@ pub fn blank() -> Call {
         line: 0,
         focused: true,
         room: 1024,
-        raw: false,
-        name: cursor::first(b""),
+        raw: None,
         length: 0,
-        expected: NOT_SAID,
+        expected: None,
         bad: false,
         faulty: false,
     }
@@ -118,7 +113,7 @@ pub fn at_end(out: &mut Out, call: Call, number: u64) -> Call {
         faults::tell(out, number, b"", cursor::failed(c, faults::FILE_END));
         return skipped(out, call);
     }
-    if call.expected == NOT_SAID {
+    if call.expected.is_none() {
         return call;
     }
     reported(out, call, b"", number, cursor::failed(c, faults::CALL))
@@ -167,8 +162,8 @@ fn asked(call: Call, line: u64) -> Call {
 fn expects(out: &mut Out, call: Call, line: &[u8], number: u64, c: Cursor) -> Call {
     let d = decimal::whole(line, c, MOST_ANSWER, faults::ANSWER);
     let mut p = call;
-    p.expected = d.number;
-    if call.expected != NOT_SAID {
+    p.expected = Some(d.number);
+    if call.expected.is_some() {
         return reported(
             out,
             call,
@@ -178,7 +173,7 @@ fn expects(out: &mut Out, call: Call, line: &[u8], number: u64, c: Cursor) -> Ca
         );
     }
     if d.fault != 0 {
-        p.expected = NOT_SAID;
+        p.expected = None;
     }
     reported(out, p, line, number, d)
 }
@@ -236,17 +231,16 @@ fn named(call: Call, line: &[u8], c: Cursor) -> Call {
         name = cursor::failed(name, faults::FILE);
     }
     let mut p = call;
-    p.raw = true;
-    p.name = name;
+    p.raw = Some(name);
     p
 }
 
 // On the word after the name, if there is one.
 fn after_name(call: Call, line: &[u8], c: Cursor) -> Cursor {
-    if call.raw {
-        return cursor::next(line, call.name);
+    match call.raw {
+        Some(name) => cursor::next(line, name),
+        None => c,
     }
-    c
 }
 
 // Where nothing more may stand in a line that begins a call.
@@ -256,7 +250,7 @@ fn begun(out: &mut Out, call: Call, line: &[u8], number: u64, c: Cursor, fault: 
         d = cursor::failed(c, fault);
     }
     let p = reported(out, call, line, number, d);
-    if p.raw {
+    if p.raw.is_some() {
         return closed(out, p);
     }
     p
@@ -379,7 +373,7 @@ pub fn finished(call: Call) -> Call {
     let mut p = call;
     p.stage = NONE;
     if call.kind != ASK {
-        p.expected = NOT_SAID;
+        p.expected = None;
     }
     p
 }

@@ -1,7 +1,7 @@
 // A record of bytes as a text of calls says it, so that `batchcheck` makes the same bytes of that text. Proved safe and ending, no more.
 #![tactic(auto)]
 
-ghost use Rattle.std.specs.Prelude.{◌<◌};
+ghost use Rattle.std.specs.Prelude.{◌<◌, ◌≤◌};
 
 use batchcheck_floats::exact;
 use batchcheck_nodes::print::quoted;
@@ -50,13 +50,12 @@ const TRANSFORM: usize = 80;
 fn count_at(bytes: &[u8], at: usize) -> usize
     ensures { result < 65536 }
 {
-    (u16_at(bytes, at) as usize) % 65536
+    u16_at(bytes, at) as usize
 }
 
 // Prints a call with this record, a start where it gives ROOT a root, else a batch; whether the bytes are a record.
 pub fn decode(out: &mut Out, bytes: &[u8]) -> bool {
-    let found = record_layout::offence(bytes);
-    if found.rule != 0 {
+    if let Some(found) = record_layout::offence(bytes) {
         put(out, b"# no record: ");
         malformed::reason(out, bytes, found);
         put(out, b"\n");
@@ -85,7 +84,7 @@ fn plus(at: usize, more: usize) -> usize {
 
 // The lines before the nodes.
 fn head(out: &mut Out, bytes: &[u8], t: TreeId, is_given: bool) {
-    let is_root = ids::same_tree(t, TreeId { high: 0, low: 0 });
+    let is_root = t == TreeId { high: 0, low: 0 };
     if is_root & is_given {
         put(out, b"start\n");
     } else {
@@ -104,11 +103,8 @@ fn head(out: &mut Out, bytes: &[u8], t: TreeId, is_given: bool) {
 
 // A line for each node.
 fn all_nodes(out: &mut Out, bytes: &[u8]) {
-    let n = count_at(bytes, 0);
-    let mut i = 0usize;
-    while i < n {
-        node(out, bytes, plus(HEADER, NODE * i));
-        i += 1;
+    for i in 0..count_at(bytes, 0) {
+        node(out, bytes, HEADER + NODE * i);
     }
 }
 
@@ -152,11 +148,9 @@ fn children(out: &mut Out, bytes: &[u8], at: usize) {
     let n = count_at(bytes, plus(at, CHILD_COUNT));
     let first = 8 * count_at(bytes, plus(at, FIRST_CHILD));
     let from = plus(children_at(bytes), first);
-    let mut k = 0usize;
-    while k < n {
+    for k in 0..n {
         put(out, b" ");
         number(out, u64_at(bytes, plus(from, 8 * k)));
-        k += 1;
     }
 }
 
@@ -186,12 +180,10 @@ fn flagged(out: &mut Out, bytes: &[u8], at: usize, flags: u8) {
 }
 
 // So many numbers from a place on.
-fn floats(out: &mut Out, bytes: &[u8], from: usize, n: usize) {
-    let mut at = from;
-    let mut left = n;
-    while 0 < left {
-        exact(out, u64_at(bytes, at));
-        at = plus(at, 8);
-        left -= 1;
+fn floats(out: &mut Out, bytes: &[u8], from: usize, n: usize)
+    requires { n ≤ 6 }
+{
+    for i in 0..n {
+        exact(out, u64_at(bytes, plus(from, 8 * i)));
     }
 }

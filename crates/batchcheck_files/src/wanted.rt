@@ -40,14 +40,12 @@ pub fn up_to<R: Read>(
     text: &mut [u8; 8192],
 ) -> Wanted {
     let mut w = before;
-    // Nothing says that a file ends, so the turns are counted down from a number that no run uses up.
-    let mut turns = u64::MAX;
-    while 0 < turns {
+    // Nothing says that a file ends: this is a number that no run uses up.
+    for _ in 0..u64::MAX {
         if is_read(w, n) {
-            return w;
+            break;
         }
         w = with_line(out, w, file, chunk, text);
-        turns -= 1;
     }
     w
 }

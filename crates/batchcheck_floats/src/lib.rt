@@ -54,7 +54,7 @@ pub fn value(out: &mut Out, x: f64) {
 pub fn exact(out: &mut Out, bits: u64) {
     let x = record_wire::f64_of(bits % SIGN);
     let d = shorter(rounded(x));
-    if geometry::is_finite(x) & is_exactly(d, x) {
+    if x.is_finite() & is_exactly(d, x) {
         value(out, record_wire::f64_of(bits));
         return;
     }
@@ -64,7 +64,7 @@ pub fn exact(out: &mut Out, bits: u64) {
 
 // A sign and a number that is not negative.
 fn magnitude(out: &mut Out, sign: &[u8], x: f64) {
-    if !geometry::is_finite(x) {
+    if !x.is_finite() {
         put(out, sign);
         put(out, b"inf");
         return;
@@ -101,29 +101,25 @@ fn rounded(x: f64) -> Decimal {
 // The least power of ten by which a number is divided to have at most 15 digits before the point.
 fn divided_by(x: f64) -> u64 {
     let mut bound = TOO_MANY;
-    let mut power: u64 = 0;
-    while power < MOST_POWER {
+    for power in 0..MOST_POWER {
         if x < bound {
             return power;
         }
-        bound = bound * 10.0;
-        power += 1;
+        bound *= 10.0;
     }
-    power
+    MOST_POWER
 }
 
 // The largest power of ten by which a number can be multiplied and have at most 15 digits before the point.
 fn multiplied_by(x: f64) -> u64 {
     let mut factor = 10.0;
-    let mut power: u64 = 0;
-    while power < MOST_POWER {
+    for power in 0..MOST_POWER {
         if TOO_MANY <= x * factor {
             return power;
         }
-        factor = factor * 10.0;
-        power += 1;
+        factor *= 10.0;
     }
-    power
+    MOST_POWER
 }
 
 // A number without its fraction; 0 where that is no u64.
@@ -138,17 +134,18 @@ fn whole_part(x: f64) -> u64 {
 
 // Without the zeros at the end of its fraction.
 fn shorter(d: Decimal) -> Decimal {
-    let up = d.up;
     let mut digits = d.digits;
-    let mut down = d.down;
-    while 0 < down {
+    for down in (1..=d.down).rev() {
         if digits % 10 != 0 {
-            return Decimal { digits, up, down };
+            return Decimal { digits, down, ..d };
         }
-        digits = digits / 10;
-        down -= 1;
+        digits /= 10;
     }
-    Decimal { digits, up, down }
+    Decimal {
+        digits,
+        down: 0,
+        ..d
+    }
 }
 
 // Whether a decimal is read as a number.
@@ -159,7 +156,7 @@ fn is_exactly(d: Decimal, x: f64) -> bool {
 // Digits, so many of them behind the point.
 fn with_point(out: &mut Out, digits: u64, down: u64) {
     let unit = whole_part(decimal::ten_to(down));
-    number(out, quotient(digits, unit));
+    number(out, digits.checked_div(unit).unwrap_or(0));
     if 0 < down {
         put(out, b".");
         fraction(out, digits, unit / 10);
@@ -169,16 +166,9 @@ fn with_point(out: &mut Out, digits: u64, down: u64) {
 // The digits from a place of a number on.
 fn fraction(out: &mut Out, digits: u64, first: u64) {
     let mut place = first;
+    // Not a `for`: each turn goes on to a tenth of the place.
     while 0 < place {
         number(out, digits / place % 10);
-        place = place / 10;
+        place /= 10;
     }
-}
-
-// A quotient, 0 where there is none.
-fn quotient(n: u64, d: u64) -> u64 {
-    if d == 0 {
-        return 0;
-    }
-    n / d
 }

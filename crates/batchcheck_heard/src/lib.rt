@@ -8,16 +8,12 @@ use batchcheck_nodes::draw;
 use batchcheck_nodes::draw::Place;
 use batchcheck_nodes::print::spoken;
 use ids::FullNodeId;
-use node_answers::FilterAnswer;
+use node_answers::Refusal;
 use program_text::print::{Out, put};
 use question_calls::node::tree_state;
 use question_calls::{iterators, walk};
 use questions::{Filter, FilterResult, Walk};
 use state_array::State;
-use state_focus::FoundNode;
-
-// Past every slot.
-const NOWHERE: usize = state_array::SLOTS;
 
 // A walk's numbers for the siblings that follow, and for `common_filter_with_root_exception`.
 const FOLLOWING: u32 = 0;
@@ -26,27 +22,30 @@ const WITH_ROOT_EXCEPTION: u32 = 2;
 
 // Prints the items of a state, each two spaces to the right of the one above it.
 pub fn items<'a>(out: &mut Out, state: &'a State, roles: &'a [u8; 4096]) {
-    let first = first_item(state);
-    if NOWHERE <= first.slot {
+    let Some(first) = first_item(state) else {
         put(out, b"  items: none\n");
         return;
-    }
+    };
     put(out, b"  items:\n");
     lines(out, state, first, focused_slot(state), roles);
 }
 
 // A line for each item from the first on. There are at most as many as nodes.
-fn lines<'a>(out: &mut Out, state: &'a State, first: Place, focused: usize, roles: &'a [u8; 4096]) {
-    let mut at = first;
-    let mut left = state_array::slots(state);
-    while 0 < left {
-        if NOWHERE <= at.slot {
+fn lines<'a>(
+    out: &mut Out,
+    state: &'a State,
+    first: Place,
+    focused: Option<usize>,
+    roles: &'a [u8; 4096],
+) {
+    let mut at = Some(first);
+    for _ in 0..state_array::slots(state) {
+        let Some(place) = at else {
             return;
-        }
-        draw::indent(out, level(first.depth, at.depth));
-        line(out, state, at.slot, focused, roles);
-        at = next(state, at);
-        left -= 1;
+        };
+        draw::indent(out, level(first.depth, place.depth));
+        line(out, state, place.slot, focused, roles);
+        at = next(state, place);
     }
 }
 
@@ -56,25 +55,29 @@ fn level(first: usize, depth: usize) -> usize {
 }
 
 // The item in a slot, marked where it has the focus.
-fn line<'a>(out: &mut Out, state: &'a State, i: usize, focused: usize, roles: &'a [u8; 4096]) {
+fn line<'a>(
+    out: &mut Out,
+    state: &'a State,
+    i: usize,
+    focused: Option<usize>,
+    roles: &'a [u8; 4096],
+) {
     spoken(out, state, state_array::id_at(state, i), roles);
-    if i == focused {
+    if focused == Some(i) {
         put(out, b" <- focus");
     }
     put(out, b"\n");
 }
 
 // The slot of what has the focus, as `TreeState::focus` answers it.
-fn focused_slot(state: &State) -> usize {
-    let answer = tree_state::focus(state);
-    let found = answer.node;
-    slot_of(state, found)
+fn focused_slot(state: &State) -> Option<usize> {
+    slot_of(state, tree_state::focus(state))
 }
 
-// The slot of a node, if there is one.
-fn slot_of(state: &State, found: FoundNode) -> usize {
-    let FoundNode::At(x) = found else {
-        return NOWHERE;
+// The slot of a node, if the question finds one.
+fn slot_of(state: &State, found: Result<Option<FullNodeId>, Refusal>) -> Option<usize> {
+    let Ok(Some(x)) = found else {
+        return None;
     };
     draw::present(state, x)
 }
@@ -82,80 +85,56 @@ fn slot_of(state: &State, found: FoundNode) -> usize {
 // ## The way
 
 // The first item: ROOT's root if it is one, else the first below it.
-fn first_item(state: &State) -> Place {
-    let answer = tree_state::root(state);
-    let found = answer.node;
-    let FoundNode::At(root) = found else {
-        return Place {
-            slot: NOWHERE,
-            depth: 0,
-        };
+fn first_item(state: &State) -> Option<Place> {
+    let Ok(Some(root)) = tree_state::root(state) else {
+        return None;
     };
     if is_item(question_calls::filter(state, root, Filter::Common)) {
-        return Place {
-            slot: draw::present(state, root),
-            depth: 0,
-        };
+        let slot = draw::present(state, root)?;
+        return Some(Place { slot, depth: 0 });
     }
-    Place {
-        slot: below(state, root),
-        depth: 1,
-    }
+    let slot = below(state, root)?;
+    Some(Place { slot, depth: 1 })
 }
 
 // Whether the filter includes a node.
-fn is_item(answer: FilterAnswer) -> bool {
-    let FilterAnswer::Result(result) = answer else {
-        return false;
-    };
-    match result {
-        FilterResult::Include => true,
-        FilterResult::ExcludeNode => false,
-        FilterResult::ExcludeSubtree => false,
-    }
+fn is_item(answer: Result<FilterResult, Refusal>) -> bool {
+    matches!(answer, Ok(FilterResult::Include))
 }
 
 // The item after an item.
-fn next(state: &State, p: Place) -> Place {
-    let i = p.slot;
-    let depth = p.depth;
-    let slot = below(state, state_array::id_at(state, i));
-    if slot < NOWHERE {
-        return Place {
-            slot,
-            depth: std::num::wrapping_add_usize(depth, 1),
-        };
-    }
-    next_beside(state, i, depth)
+fn next(state: &State, p: Place) -> Option<Place> {
+    let Some(slot) = below(state, state_array::id_at(state, p.slot)) else {
+        return next_beside(state, p);
+    };
+    Some(Place {
+        slot,
+        depth: std::num::wrapping_add_usize(p.depth, 1),
+    })
 }
 
 // The next filtered sibling of an item or of the nearest item above it that has one.
-fn next_beside(state: &State, i: usize, deep: usize) -> Place {
-    let mut at = i;
-    let mut depth = deep;
-    while 0 < depth {
-        let slot = beside(state, state_array::id_at(state, at));
-        if slot < NOWHERE {
-            return Place { slot, depth };
+fn next_beside(state: &State, p: Place) -> Option<Place> {
+    let mut at = p.slot;
+    for depth in (1..=p.depth).rev() {
+        if let Some(slot) = beside(state, state_array::id_at(state, at)) {
+            return Some(Place { slot, depth });
         }
-        at = above(state, state_array::id_at(state, at));
-        depth -= 1;
+        at = above(state, state_array::id_at(state, at))?;
     }
-    Place {
-        slot: NOWHERE,
-        depth: 0,
-    }
+    None
 }
 
 // The first filtered child; a slot, so with the two below.
-fn below(state: &State, x: FullNodeId) -> usize {
-    let answer = iterators::first_filtered_child(state, x, Filter::WithRootException);
-    let found = answer.node;
-    slot_of(state, found)
+fn below(state: &State, x: FullNodeId) -> Option<usize> {
+    slot_of(
+        state,
+        iterators::first_filtered_child(state, x, Filter::WithRootException),
+    )
 }
 
 // The next filtered sibling: where a walk begins.
-fn beside(state: &State, x: FullNodeId) -> usize {
+fn beside(state: &State, x: FullNodeId) -> Option<usize> {
     let walk = Walk {
         node: x,
         side: FOLLOWING,
@@ -163,14 +142,13 @@ fn beside(state: &State, x: FullNodeId) -> usize {
         count: 0,
     };
     let stepped = walk::step(state, walk);
-    let answer = stepped.answer;
-    let found = answer.node;
-    slot_of(state, found)
+    slot_of(state, stepped.answer)
 }
 
 // The filtered parent.
-fn above(state: &State, x: FullNodeId) -> usize {
-    let answer = iterators::filtered_parent(state, x, Filter::WithRootException);
-    let found = answer.node;
-    slot_of(state, found)
+fn above(state: &State, x: FullNodeId) -> Option<usize> {
+    slot_of(
+        state,
+        iterators::filtered_parent(state, x, Filter::WithRootException),
+    )
 }

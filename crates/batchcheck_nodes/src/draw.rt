@@ -4,10 +4,8 @@ use crate::print::node;
 use ids::{FullNodeId, TreeId, TreeIndex};
 use program_text::print::{Out, id, put, tree_name};
 use state_array::State;
-use state_focus::FoundNode;
-use state_lookup::FoundTree;
 
-// A node on the way: its slot, state_array::SLOTS past the end, and how deep it is.
+// A node on the way: its slot, and how deep it is.
 #[derive(Clone, Copy)]
 pub struct Place {
     pub slot: usize,
@@ -16,37 +14,32 @@ pub struct Place {
 
 // Draws a state's tree.
 pub fn draw<'a>(out: &mut Out, state: &'a State, roles: &'a [u8; 4096]) {
-    let mut left = state_array::slots(state);
-    if left < 1 {
+    let n = state_array::slots(state);
+    if n < 1 {
         put(out, b"  no nodes\n");
         return;
     }
     let mut at = top(state);
-    while 0 < left {
-        if state_array::SLOTS <= at.slot {
-            kept_focuses(out, state);
-            return;
-        }
-        indent(out, at.depth);
-        line(out, state, at.slot, roles);
-        at = next(state, at);
-        left -= 1;
+    for _ in 0..n {
+        let Some(place) = at else {
+            break;
+        };
+        indent(out, place.depth);
+        line(out, state, place.slot, roles);
+        at = next(state, place);
     }
     kept_focuses(out, state);
 }
 
 // The focus that each tree keeps, a line for each.
 fn kept_focuses(out: &mut Out, state: &State) {
-    let m = state_array::trees(state);
-    let mut k = 0usize;
-    while k < m {
+    for k in 0..state_array::trees(state) {
         let t = state_array::tree_at(state, k);
         if t.exists != 0 {
             put(out, b"  ");
             kept_focus(out, state, k);
             put(out, b"\n");
         }
-        k += 1;
     }
 }
 
@@ -62,18 +55,15 @@ pub fn kept_focus(out: &mut Out, state: &State, k: usize) {
     tree_name(out, t.id);
     put(out, b": ");
     id(out, x);
-    if 320 <= present(state, x) {
+    if present(state, x).is_none() {
         put(out, b", which is absent");
     }
 }
 
 // Two spaces, and two more a level.
 pub fn indent(out: &mut Out, depth: usize) {
-    put(out, b"  ");
-    let mut left = depth;
-    while 0 < left {
+    for _ in 0..=depth {
         put(out, b"  ");
-        left -= 1;
     }
 }
 
@@ -95,76 +85,57 @@ fn line<'a>(out: &mut Out, state: &'a State, i: usize, roles: &'a [u8; 4096]) {
 
 // Whether the focus is at a node, or what is heard is.
 fn focus_mark(out: &mut Out, state: &State, x: FullNodeId) {
-    if is_at(state_focus::effective_focus(state), x) {
+    if state_focus::effective_focus(state) == Some(x) {
         put(out, b" <- focus");
         return;
     }
-    if is_at(state_focus::focus(state), x) {
+    if state_focus::focus(state) == Some(x) {
         put(out, b" <- heard");
     }
-}
-
-// Whether a found node is x.
-fn is_at(found: FoundNode, x: FullNodeId) -> bool {
-    let FoundNode::At(y) = found else {
-        return false;
-    };
-    ids::same_id(x, y)
 }
 
 // ## The way
 
 // ROOT's root.
-fn top(state: &State) -> Place {
-    Place {
-        slot: root_slot(state, TreeId { high: 0, low: 0 }),
-        depth: 0,
-    }
+fn top(state: &State) -> Option<Place> {
+    let slot = root_slot(state, TreeId { high: 0, low: 0 })?;
+    Some(Place { slot, depth: 0 })
 }
 
 // The node after a node.
-pub fn next(state: &State, p: Place) -> Place {
-    let i = p.slot;
-    let depth = p.depth;
-    let slot = below(state, i);
-    if slot < state_array::SLOTS {
-        return Place {
-            slot,
-            depth: std::num::wrapping_add_usize(depth, 1),
-        };
-    }
-    next_beside(state, i, depth)
+pub fn next(state: &State, p: Place) -> Option<Place> {
+    let Some(slot) = below(state, p.slot) else {
+        return next_beside(state, p);
+    };
+    Some(Place {
+        slot,
+        depth: std::num::wrapping_add_usize(p.depth, 1),
+    })
 }
 
 // The next sibling of a node or of the nearest node above it that has one.
-fn next_beside(state: &State, i: usize, deep: usize) -> Place {
-    let mut at = i;
-    let mut depth = deep;
-    while 0 < depth {
-        let slot = beside(state, at);
-        if slot < state_array::SLOTS {
-            return Place { slot, depth };
+fn next_beside(state: &State, p: Place) -> Option<Place> {
+    let mut at = p.slot;
+    for depth in (1..=p.depth).rev() {
+        if let Some(slot) = beside(state, at) {
+            return Some(Place { slot, depth });
         }
-        at = above(state, at);
-        depth -= 1;
+        at = above(state, at)?;
     }
-    Place {
-        slot: state_array::SLOTS,
-        depth: 0,
-    }
+    None
 }
 
-// The slot of the node above the one in a slot, state_array::SLOTS where there is none; so with the slots below.
-fn above(state: &State, i: usize) -> usize {
+// The slot of the node above the one in a slot, if there is one; so with the slots below.
+fn above(state: &State, i: usize) -> Option<usize> {
     let l = state_array::link_at(state, i);
     if l.linked == 0 {
-        return state_array::SLOTS;
+        return None;
     }
     present(state, l.parent)
 }
 
 // The first child; a graft's is the root of its tree.
-fn below(state: &State, i: usize) -> usize {
+fn below(state: &State, i: usize) -> Option<usize> {
     let d = state_array::shape_at(state, i);
     if state_array::is_graft(d.flags) {
         return root_slot(state, d.graft);
@@ -173,39 +144,34 @@ fn below(state: &State, i: usize) -> usize {
 }
 
 // The next sibling.
-fn beside(state: &State, i: usize) -> usize {
+fn beside(state: &State, i: usize) -> Option<usize> {
     let l = state_array::link_at(state, i);
-    let p = above(state, i);
+    let p = above(state, i)?;
     let d = state_array::shape_at(state, p);
     if state_array::is_graft(d.flags) {
-        return state_array::SLOTS;
+        return None;
     }
     nth_child(state, p, (l.index % 512) as usize + 1)
 }
 
 // Child j of the node in a slot.
-fn nth_child(state: &State, i: usize, j: usize) -> usize {
+fn nth_child(state: &State, i: usize, j: usize) -> Option<usize> {
     if child_count(state, i) <= j {
-        return state_array::SLOTS;
+        return None;
     }
     present(state, child(state, i, j))
 }
 
 // The root of a tree that exists.
-fn root_slot(state: &State, t: TreeId) -> usize {
-    let FoundTree::At(e) = state_lookup::tree_of(state, t) else {
-        return state_array::SLOTS;
-    };
+fn root_slot(state: &State, t: TreeId) -> Option<usize> {
+    let e = state_lookup::tree_of(state, t)?;
     present(state, e.root)
 }
 
 // A node that is present.
-pub fn present(state: &State, x: FullNodeId) -> usize {
+pub fn present(state: &State, x: FullNodeId) -> Option<usize> {
     let i = state_lookup::find_in(state, x);
-    if state_array::slots(state) <= i {
-        return state_array::SLOTS;
-    }
-    i
+    (i < state_array::slots(state)).then_some(i)
 }
 
 // How many children the node in a slot names.

@@ -5,7 +5,6 @@ use ids::{FullNodeId, NodeId, TreeIndex};
 use program_text::print::{Out, count, id, letter, number, of_number, put, put_line};
 use program_text::{lines, utf8};
 use state_array::State;
-use state_focus::FoundNode;
 
 // A number of document 01's table and its row.
 pub fn row(out: &mut Out, n: u8) {
@@ -47,29 +46,14 @@ pub fn sizes(out: &mut Out, state: &State) {
         b" node, ",
         b" nodes, ",
     );
-    count(out, existing(state), b" tree\n", b" trees\n");
+    count(out, existing(state) as u64, b" tree\n", b" trees\n");
 }
 
 // How many trees exist.
-fn existing(state: &State) -> u64 {
-    let m = state_array::trees(state);
-    let mut found = 0u64;
-    let mut k = 0usize;
-    while k < m {
-        let t = state_array::tree_at(state, k);
-        found = plus_one_if(found, t.exists != 0);
-        k += 1;
-    }
-    found
-}
-
-// A number, or one more.
-fn plus_one_if(n: u64, more: bool) -> u64 {
-    if more {
-        std::num::wrapping_add_u64(n, 1)
-    } else {
-        n
-    }
+fn existing(state: &State) -> usize {
+    (0..state_array::trees(state))
+        .filter(|&k| state_array::tree_at(state, k).exists != 0)
+        .count()
 }
 
 // A node as the lists and the drawing have it: id, role, and its label in quotes.
@@ -89,8 +73,13 @@ pub fn node<'a>(out: &mut Out, state: &'a State, x: FullNodeId, roles: &'a [u8; 
 }
 
 // A node as it is heard: label, role, and then its id.
-pub fn heard<'a>(out: &mut Out, state: &'a State, found: FoundNode, roles: &'a [u8; 4096]) {
-    let FoundNode::At(x) = found else {
+pub fn heard<'a>(
+    out: &mut Out,
+    state: &'a State,
+    found: Option<FullNodeId>,
+    roles: &'a [u8; 4096],
+) {
+    let Some(x) = found else {
         put(out, b"nothing");
         return;
     };
@@ -122,16 +111,14 @@ pub fn list<'a>(
     roles: &'a [u8; 4096],
 ) -> usize {
     let mut at = from;
-    let mut left = n;
-    while 0 < left {
+    for _ in 0..n {
         if numbers.len() <= at {
-            return at;
+            break;
         }
         put(out, word);
         node(out, state, listed_id(numbers, at), roles);
         put(out, b"\n");
         at = std::num::wrapping_add_usize(at, 2);
-        left -= 1;
     }
     at
 }
@@ -151,40 +138,31 @@ fn element(numbers: &[u64], i: usize) -> u64 {
 
 // A role's name, or its number where it has none.
 pub fn role(out: &mut Out, roles: &[u8; 4096], r: u64) {
-    let names: &[u8] = roles;
-    let at = 16 * ((r % 256) as usize);
-    let end = name_end(roles, at);
-    if end <= at {
+    let name = role_name(roles, r);
+    if name.is_empty() {
         put(out, b"role ");
         number(out, r);
         return;
     }
-    put(out, &names[at..end]);
+    put(out, name);
 }
 
-// Where the name of at most 16 bytes ends that starts at a place.
-fn name_end(roles: &[u8; 4096], at: usize) -> usize
-    requires { at ≤ 4080 }
-    ensures { (at ≤ result) × (result ≤ 4096) }
-{
-    let mut k = 0usize;
-    while k < 16 {
-        if roles[at + k] == 0 {
-            return at + k;
-        }
-        k += 1;
+// A role's name: 16 bytes, or those before a zero.
+fn role_name(roles: &[u8; 4096], r: u64) -> &[u8] {
+    let at = 16 * ((r % 256) as usize);
+    let name = &roles[at..at + 16];
+    match name.iter().position(|&byte| byte == 0) {
+        Some(end) => &name[..end],
+        None => name,
     }
-    at + k
 }
 
 // The label of the node in a slot, in quotes.
 fn label(out: &mut Out, state: &State, i: usize) {
     let n = label_length(state, i);
     let mut bytes = [0u8; 32];
-    let mut k = 0usize;
-    while k < n {
+    for k in 0..n {
         bytes[k] = state_array::label_byte(state, i, k);
-        k += 1;
     }
     first_quoted(out, &bytes, n);
 }
@@ -206,10 +184,8 @@ fn label_length(state: &State, i: usize) -> usize
 pub fn quoted(out: &mut Out, label: &[u8]) {
     let plain = utf8::is_plain(label);
     put(out, b"\"");
-    let mut i = 0usize;
-    while i < label.len() {
-        quoted_letter(out, label[i], plain);
-        i += 1;
+    for &byte in label {
+        quoted_letter(out, byte, plain);
     }
     put(out, b"\"");
 }

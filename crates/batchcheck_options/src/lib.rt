@@ -13,16 +13,16 @@ pub struct Options {
     pub quiet: bool,
     pub tree: bool,
     pub heard: bool,
-    // The arguments that name a file of expected numbers, one for records, and the descriptor for the status; 0 where there is none.
-    pub expect: usize,
-    pub record: usize,
-    pub status: usize,
+    // The arguments that name a file of expected numbers, one for records, and the descriptor for the status.
+    pub expect: Option<usize>,
+    pub record: Option<usize>,
+    pub status: Option<usize>,
     // What the last argument is: nothing that is run, a text of calls, or a record to be decoded.
     pub task: u8,
     // How many arguments are run.
     pub tasks: usize,
     // Which option waits for its value, and whether options have ended.
-    waits: u64,
+    waits: Option<u64>,
     ended: bool,
     // Whether every option is known.
     pub good: bool,
@@ -59,12 +59,12 @@ fn none() -> Options {
         quiet: false,
         tree: false,
         heard: false,
-        expect: 0,
-        record: 0,
-        status: 0,
+        expect: None,
+        record: None,
+        status: None,
         task: NOTHING,
         tasks: 0,
-        waits: OPTIONS,
+        waits: None,
         ended: false,
         good: true,
     }
@@ -85,22 +85,16 @@ pub fn count(rt: &impl Env) -> usize {
 pub fn argument(rt: &impl Env, i: usize, text: &mut [u8; 4096]) -> usize
     ensures { result ≤ 4096 }
 {
-    match rt.arg(i, text) {
-        Ok(n) => n,
-        Err(_) => 0,
-    }
+    rt.arg(i, text).unwrap_or(0)
 }
 
 // What all arguments say: how many are run, and the options that hold from the first on.
 pub fn all(rt: &impl Env) -> Options {
-    let count = count(rt);
     let mut o = none();
-    let mut i: usize = 1;
-    while i < count {
+    for i in 1..count(rt) {
         o = after_task(with_argument(rt, o, i));
-        i += 1;
     }
-    o.good = o.good & (o.waits == OPTIONS);
+    o.good = o.good & o.waits.is_none();
     o
 }
 
@@ -132,8 +126,8 @@ pub fn with_argument(rt: &impl Env, options: Options, i: usize) -> Options {
     let word = &text[..n];
     let mut o = options;
     o.task = NOTHING;
-    if options.waits != OPTIONS {
-        return with_value(o, i);
+    if let Some(which) = options.waits {
+        return with_value(o, which, i);
     }
     if options.ended | !is_option(word) {
         return with_task(o, TEXT);
@@ -166,22 +160,21 @@ fn with_option(options: Options, which: u64) -> Options {
     o.tree = options.tree | (which == TREE);
     o.heard = options.heard | (which == HEARD);
     o.ended = which == END;
-    if EXPECT <= which {
-        o.waits = which;
+    if (EXPECT <= which) & (which < OPTIONS) {
+        o.waits = Some(which);
     }
     o.good = options.good & (which < OPTIONS);
     o
 }
 
 // With the value of the option that waits for it.
-fn with_value(options: Options, i: usize) -> Options {
+fn with_value(options: Options, which: u64, i: usize) -> Options {
     let mut o = options;
-    o.waits = OPTIONS;
-    let which = options.waits;
+    o.waits = None;
     match which {
-        EXPECT => o.expect = i,
-        KEEP => o.record = i,
-        STATUS => o.status = i,
+        EXPECT => o.expect = Some(i),
+        KEEP => o.record = Some(i),
+        STATUS => o.status = Some(i),
         _ => return with_task(o, RECORD),
     }
     o

@@ -67,11 +67,6 @@ fn id_of(x: OptionalId) -> FullNodeId {
     }
 }
 
-// Whether two are one node, or none both.
-fn same(x: OptionalId, y: OptionalId) -> bool {
-    (x.present == y.present) & (x.tree == y.tree) & (x.node == y.node)
-}
-
 // What a row says: `@` is the node at fault, `&` the other one, `$` the tree, `#` a count.
 fn row(out: &mut Out, e: Explanation) {
     tell_line(
@@ -138,7 +133,7 @@ fn places(out: &mut Out, e: Explanation) {
 
 // 9: who names the child again.
 fn second_namer(out: &mut Out, e: Explanation) {
-    if same(e.by, e.also) {
+    if e.by == e.also {
         put(out, b" twice");
         return;
     }
@@ -156,17 +151,12 @@ fn second_graft(out: &mut Out, e: Explanation) {
 
 // 15 and 17: the grafts on the way to the last node.
 fn led(out: &mut Out, way: &Way, length: usize) {
-    let mut i: usize = 0;
-    while i < 32 {
-        if length <= std::num::wrapping_add_usize(i, 1) {
-            return;
-        }
+    for i in 0..length.saturating_sub(1).min(32) {
         of_node(
             out,
             b"the focus is node @, which is a graft; ",
             step(way, i),
         );
-        i += 1;
     }
 }
 
@@ -185,7 +175,7 @@ fn lost(out: &mut Out, e: Explanation, one: &[u8], alone: &[u8]) {
     if e.also.present == 0 {
         return;
     }
-    if !same(e.node, e.also) {
+    if e.node != e.also {
         of_node(out, b"; it hangs on node @", id_of(e.also));
     }
     if e.by.present == 0 {
@@ -236,7 +226,7 @@ fn broken(out: &mut Out, e: Explanation) {
 
 // A link that disagrees with the way down.
 fn link(out: &mut Out, e: Explanation) {
-    if same(e.by, e.also) {
+    if e.by == e.also {
         of_node(
             out,
             b"records another place under node @ than it has",

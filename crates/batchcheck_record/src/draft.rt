@@ -70,27 +70,26 @@ pub fn blank() -> Draft {
 
 // Makes a batch blank.
 pub fn clear(draft: &mut Draft) {
-    let nothing = [0u64; 3355];
-    *draft = nothing;
+    *draft = blank();
 }
 
 // How many nodes are listed, children named, label bytes said.
 pub fn node_count(draft: &Draft) -> usize
     ensures { result ≤ 65 }
 {
-    record_wire::least(draft[NODE_COUNT] as usize, 65)
+    (draft[NODE_COUNT] as usize).min(65)
 }
 
 pub fn child_count(draft: &Draft) -> usize
     ensures { result ≤ 257 }
 {
-    record_wire::least(draft[CHILD_COUNT] as usize, 257)
+    (draft[CHILD_COUNT] as usize).min(257)
 }
 
 pub fn label_length(draft: &Draft) -> usize
     ensures { result ≤ 2049 }
 {
-    record_wire::least(draft[LABEL_LENGTH] as usize, 2049)
+    (draft[LABEL_LENGTH] as usize).min(2049)
 }
 
 // Whether something was said, by its bit; the lowest three are said of the call, the others of the node listed last.
@@ -224,12 +223,9 @@ pub fn write(draft: &Draft, bytes: &mut [u8; 12489]) -> usize {
     let k = label_length(draft);
     let children_at = 64 + 128 * n;
     let labels_at = children_at + 8 * c;
-    let nodes_end = NODES + 16 * n;
-    let children_end = CHILDREN + c;
-    let labels_end = LABELS + k;
-    put_words(bytes, 64, draft, NODES, nodes_end);
-    put_words(bytes, children_at, draft, CHILDREN, children_end);
-    put_bytes(bytes, labels_at, draft, LABELS, labels_end);
+    put_words(&mut bytes[64..], &draft[NODES..NODES + 16 * n]);
+    put_words(&mut bytes[children_at..], &draft[CHILDREN..CHILDREN + c]);
+    put_bytes(&mut bytes[labels_at..], &draft[LABELS..LABELS + k]);
     put_header(bytes, draft, children_at, labels_at)
 }
 
@@ -244,14 +240,14 @@ fn put_header(
     let c = child_count(draft);
     let k = label_length(draft);
     let total = std::num::wrapping_add_usize(labels_at, k);
-    put_word(
-        bytes,
-        0,
-        quarters(n, c, k, record_wire::least(draft[TREE_DATA] as usize, 1)),
-    );
-    put_word(bytes, 8, quarters(64, 0, children_at, 0));
-    put_word(bytes, 16, quarters(labels_at, 0, total, 0));
-    put_words(bytes, 24, draft, HIGH, TREE_DATA);
+    let tree_data = (draft[TREE_DATA] as usize).min(1);
+    let words = [
+        quarters(n, c, k, tree_data),
+        quarters(64, 0, children_at, 0),
+        quarters(labels_at, 0, total, 0),
+    ];
+    put_words(bytes, &words);
+    put_words(&mut bytes[24..], &draft[HIGH..TREE_DATA]);
     total
 }
 
@@ -262,50 +258,16 @@ fn quarters(a: usize, b: usize, c: usize, d: usize) -> u64 {
     low + 4294967296 * high
 }
 
-// Writes the words of a draft from one place to before another, at a place of the bytes.
-fn put_words(bytes: &mut [u8; 12489], at: usize, draft: &Draft, from: usize, end: usize) {
-    let mut i = from;
-    let mut to = at;
-    while i < end {
-        if 3354 < i {
-            return;
-        }
-        if 12481 < to {
-            return;
-        }
-        put_word(bytes, to, draft[i]);
-        to += 8;
-        i += 1;
-    }
-}
-
-// Writes a word, its lowest byte first.
-fn put_word(bytes: &mut [u8; 12489], at: usize, word: u64) {
-    if 12481 < at {
-        return;
-    }
-    let mut rest = word;
-    let mut i: usize = 0;
-    while i < 8 {
-        bytes[at + i] = (rest % 256) as u8;
-        rest /= 256;
-        i += 1;
+// Writes words at the start of bytes, the lowest byte of each first.
+fn put_words(bytes: &mut [u8], words: &[u64]) {
+    for (place, word) in bytes.chunks_exact_mut(8).zip(words) {
+        place.copy_from_slice(&word.to_le_bytes());
     }
 }
 
 // The same, one byte a word.
-fn put_bytes(bytes: &mut [u8; 12489], at: usize, draft: &Draft, from: usize, end: usize) {
-    let mut i = from;
-    let mut to = at;
-    while i < end {
-        if 3354 < i {
-            return;
-        }
-        if 12488 < to {
-            return;
-        }
-        bytes[to] = (draft[i] % 256) as u8;
-        to += 1;
-        i += 1;
+fn put_bytes(bytes: &mut [u8], words: &[u64]) {
+    for (byte, word) in bytes.iter_mut().zip(words) {
+        *byte = (word % 256) as u8;
     }
 }

@@ -36,10 +36,9 @@ pub(crate) fn changed_list<'a>(
     roles: &'a [u8; 4096],
 ) -> usize {
     let mut at = from;
-    let mut left = n;
-    while 0 < left {
+    for _ in 0..n {
         if numbers.len() <= at {
-            return at;
+            break;
         }
         let x = listed_id(numbers, at);
         put(out, b"  updated  ");
@@ -49,7 +48,6 @@ pub(crate) fn changed_list<'a>(
         names(out, before, i, now, j);
         put(out, b"\n");
         at = std::num::wrapping_add_usize(at, 2);
-        left -= 1;
     }
     at
 }
@@ -57,14 +55,12 @@ pub(crate) fn changed_list<'a>(
 // The names of what differs between the nodes in a slot of one state and of another. Of a root that is given again nothing may differ.
 fn names<'a>(out: &mut Out, before: &'a State, i: usize, now: &'a State, j: usize) {
     let mut told: u64 = 0;
-    let mut k: u64 = 0;
-    while k < THINGS {
+    for k in 0..THINGS {
         if differs(before, i, now, j, k) {
             put_line(out, b": \n, \n", told);
             name(out, k);
             told = 1;
         }
-        k += 1;
     }
     if told == 0 {
         put(out, b": given again");
@@ -136,14 +132,9 @@ fn words_differ<'a>(
     requires first_bound { first ≤ 20 }
     requires n_bound { n ≤ 8 }
 {
-    let mut k = 0usize;
-    while k < n {
-        if state_array::word_at(before, first + k, i) != state_array::word_at(now, first + k, j) {
-            return true;
-        }
-        k += 1;
-    }
-    false
+    (first..first + n).any(|field| {
+        state_array::word_at(before, field, i) != state_array::word_at(now, field, j)
+    })
 }
 
 // Whether two finite numbers differ by value: other bits, and not a zero each.
@@ -163,16 +154,13 @@ fn floats_differ<'a>(
     requires first_bound { first ≤ 4 }
     requires n_bound { n ≤ 6 }
 {
-    let mut k = 0usize;
-    while k < n {
-        let field = state_array::FLOATS + first + k;
-        let was = state_array::word_at(before, field, i);
-        if is_other(was, state_array::word_at(now, field, j)) {
-            return true;
-        }
-        k += 1;
-    }
-    false
+    let from = state_array::FLOATS + first;
+    (from..from + n).any(|field| {
+        is_other(
+            state_array::word_at(before, field, i),
+            state_array::word_at(now, field, j),
+        )
+    })
 }
 
 // Whether the children differ.
@@ -187,17 +175,16 @@ fn children_differ<'a>(before: &'a State, i: usize, now: &'a State, j: usize) ->
 }
 
 // Whether one of n child entries differs, from one place of each state on.
-fn entries_differ<'a>(before: &'a State, first: u64, now: &'a State, second: u64, n: usize) -> bool
-    requires { n ≤ 512 }
-{
-    let mut k = 0usize;
-    while k < n {
+fn entries_differ<'a>(
+    before: &'a State,
+    first: u64,
+    now: &'a State,
+    second: u64,
+    n: usize,
+) -> bool {
+    (0..n).any(|k| {
         let was = state_array::child_at(before, NodeId(0), first, k);
         let is = state_array::child_at(now, NodeId(0), second, k);
-        if was.0 != is.0 {
-            return true;
-        }
-        k += 1;
-    }
-    false
+        was.0 != is.0
+    })
 }

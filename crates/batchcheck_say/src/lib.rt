@@ -15,16 +15,13 @@ use program_text::print;
 use program_text::print::{Out, count, number, put, put_line, tree_name};
 use replies::{Lengths, OptionalId, Reply, Report};
 use state_array::State;
-use state_focus::FoundNode;
 
 // Kinds of calls.
 const START: u8 = 0;
 
 const BATCH: u8 = 1;
 
-// Where no number is expected, and where one should be and the file of them has none.
-pub const NOT_SAID: u64 = 255;
-
+// Where a number is expected and the file of them has none: no number of document 01's table.
 pub const MISSING: u64 = 254;
 
 // A call and how it is told. `kind`: 0 start, 1 batch, 2 host focus change. `line`: where the call begins. `call`: its place in the file, from 1.
@@ -33,11 +30,10 @@ pub struct Seen {
     pub kind: u8,
     pub call: u64,
     pub line: u64,
-    // The number that it should answer.
-    pub expected: u64,
-    // The focus that the batch's tree kept before it, and whether the tree existed.
-    pub focus: u64,
-    pub had_focus: bool,
+    // The number that it should answer, where one is said.
+    pub expected: Option<u64>,
+    // The focus that the batch's tree kept before it, where the tree existed.
+    pub focus: Option<u64>,
     // What it answers.
     pub reply: Reply,
 }
@@ -47,7 +43,7 @@ pub fn unanswered<'a>(
     kind: u8,
     call: u64,
     line: u64,
-    expected: u64,
+    expected: Option<u64>,
     state: &'a State,
     batch: &'a [u8],
 ) -> Seen {
@@ -62,8 +58,7 @@ pub fn unanswered<'a>(
         call,
         line,
         expected,
-        focus: focus.0,
-        had_focus: t.exists != 0,
+        focus: (t.exists != 0).then_some(focus.0),
         reply: none,
     }
 }
@@ -100,7 +95,7 @@ pub fn tell<'a>(
         verdict(seen.expected, r.number),
     );
     told_wrong(out, seen.expected, r.number);
-    if seen.expected != NOT_SAID {
+    if seen.expected.is_some() {
         put(out, b"\n");
     }
 }
@@ -166,11 +161,11 @@ fn row_of(r: Reply) -> u8 {
 }
 
 // An id, or none.
-fn found(x: OptionalId) -> FoundNode {
+fn found(x: OptionalId) -> Option<FullNodeId> {
     if x.present == 0 {
-        return FoundNode::Nothing;
+        return None;
     }
-    FoundNode::At(FullNodeId {
+    Some(FullNodeId {
         tree: TreeIndex(x.tree),
         node: NodeId(x.node),
     })
@@ -179,24 +174,25 @@ fn found(x: OptionalId) -> FoundNode {
 // ## What was expected
 
 // 0 where no number is expected, 1 where the answer is right, 2 where it is wrong.
-fn verdict(expected: u64, answered: u32) -> u64 {
-    if expected == NOT_SAID {
-        return 0;
+fn verdict(expected: Option<u64>, answered: u32) -> u64 {
+    match expected {
+        Some(n) if n == answered as u64 => 1,
+        Some(_) => 2,
+        None => 0,
     }
-    if expected == answered as u64 { 1 } else { 2 }
 }
 
 // What should have been answered, where it was not.
-fn told_wrong(out: &mut Out, expected: u64, answered: u32) {
-    if verdict(expected, answered) < 2 {
-        return;
+fn told_wrong(out: &mut Out, expected: Option<u64>, answered: u32) {
+    match expected {
+        Some(n) if n == answered as u64 => {}
+        Some(MISSING) => put(out, b"there is no number for it"),
+        Some(n) => {
+            put(out, b"expected ");
+            row(out, (n % 256) as u8);
+        }
+        None => {}
     }
-    if expected == MISSING {
-        put(out, b"there is no number for it");
-        return;
-    }
-    put(out, b"expected ");
-    row(out, (expected % 256) as u8);
 }
 
 // ## One line
@@ -256,7 +252,7 @@ fn focus_is_told(seen: Seen, now: &State, k: usize) -> bool {
         tree: TreeIndex((k % 4294967296) as u32),
         node,
     };
-    (seen.had_focus & (seen.focus != node.0)) | (320 <= draw::present(now, x))
+    seen.focus.is_some_and(|focus| focus != node.0) | draw::present(now, x).is_none()
 }
 
 // ## A block
@@ -298,8 +294,8 @@ fn report<'a>(out: &mut Out, before: &'a State, now: &'a State, r: Report, roles
 }
 
 // An extra id, unless there is none.
-fn extra<'a>(out: &mut Out, now: &'a State, x: FoundNode, roles: &'a [u8; 4096]) {
-    let FoundNode::At(y) = x else {
+fn extra<'a>(out: &mut Out, now: &'a State, x: Option<FullNodeId>, roles: &'a [u8; 4096]) {
+    let Some(y) = x else {
         return;
     };
     put(out, b"  extra    ");

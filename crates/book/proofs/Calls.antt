@@ -1,11 +1,11 @@
 -- What one call leaves: the state stays sound and the book's; an accepted batch's nodes are counted. Assumes nothing.
 use mathlib.Core.Bool.{Bool, true, false, not, ◌||◌}
 use mathlib.Core.List.{List, [], ◌++◌, map}
-use mathlib.Core.Option.{Option, none, some, none-ne-some}
+use Rattle.std.proofs.lemmas.Option.{none-some}
 use mathlib.Core.Path.{◌≡◌, refl, sym, ap, ◌∙◌, subst}
 use Prim.Native.Nat.{ℕ, zero, suc}
 use native.Mathlib.Omega.{arith}
-use Rattle.std.specs.Prelude.{if◌then◌else◌}
+use Rattle.std.specs.Prelude.{if◌then◌else◌, Option, None, Some}
 use Rattle.base.specs.Tests.{◌and◌, is_some, all, has}
 use Rattle.base.proofs.Tests.{both, not_false, not_true}
 use Rattle.base.specs.Tables.{first}
@@ -18,7 +18,8 @@ use Rattle.ids.specs.declared.FullNodeId.{FullNodeId}
 use Rattle.record.specs.Batch.{fields_ok, Batch}
 use Rattle.record.specs.Parse.{parse}
 use Rattle.record.proofs.Parse.{batch_facts}
-use Rattle.state.specs.State.{Forest, State, present, SubtreeState, subtree_of}
+use Rattle.state.specs.State.{Forest, State, present, subtree_of}
+use Rattle.state.specs.declared.SubtreeState.{SubtreeState}
 use Rattle.state.specs.Down.{root_of}
 use Rattle.state.specs.Sound.{sound}
 use Rattle.state.proofs.Sound.{shape_parts, Sound, sound_parts, Root, root_of_shape}
@@ -44,13 +45,13 @@ pub record Held (s : Forest) (k : Book) : Type 0 where
 -- ## An accepted batch
 
 -- without tree data the batch's tree exists: ROOT always, any other by row 7
-tree_exists : (s : Forest) (b : Batch) → Passed s b → Root s → b.root ≡ none → is_some (subtree_of s b.tree) ≡ true
+tree_exists : (s : Forest) (b : Batch) → Passed s b → Root s → b.root ≡ None → is_some (subtree_of s b.tree) ≡ true
 unfolding with_tree_data root_of ◌and◌
 tree_exists s b p r e = go (same_tree b.tree ROOT) refl
   where
-    root_exists : (o : Option SubtreeState) → (elim o as (λ _. Option FullNodeId) [ none ↦ none | some u ↦ some u.root ]) ≡ some r.root → is_some o ≡ true
-    root_exists none q = absurd (none-ne-some r.root q)
-    root_exists (some u) q = refl
+    root_exists : (o : Option SubtreeState) → (elim o as (λ _. Option FullNodeId) [ None ↦ None | Some u ↦ Some u.root ]) ≡ Some r.root → is_some o ≡ true
+    root_exists None q = absurd (none-some r.root q)
+    root_exists (Some u) q = refl
 
     go : (c : Bool) → same_tree b.tree ROOT ≡ c → is_some (subtree_of s b.tree) ≡ true
     go true q = ap (λ (t : TreeId). is_some (subtree_of s t)) (same_tree→≡ b.tree ROOT q) ∙ root_exists (subtree_of s ROOT) r.is_the_root
@@ -94,24 +95,24 @@ module _ (s : Forest) (b : Batch) where
 
 -- ## A batch as its bytes say it
 
-entered_parsed : (k : Book) (bytes slice : List ℕ) (b : Batch) (xs : List FullNodeId) → parse bytes ≡ some b
+entered_parsed : (k : Book) (bytes slice : List ℕ) (b : Batch) (xs : List FullNodeId) → parse bytes ≡ Some b
     → entered k (batch bytes slice) 0 xs ≡ enter_batch k b xs
 unfolding entered
-entered_parsed k bytes slice b xs e = ap (λ (o : Option Batch). elim o as (λ _. Book) [ none ↦ k | some c ↦ enter_batch k c xs ]) e
+entered_parsed k bytes slice b xs e = ap (λ (o : Option Batch). elim o as (λ _. Book) [ None ↦ k | Some c ↦ enter_batch k c xs ]) e
 
 -- what a call leaves of a state and its book
 abbrev Leaves : Book → Call → Answer → Type 0
 Leaves k c a = Held a.state.forest (entered k c a.number a.changes.removed)
 
-leaves_batch : (s : State) (k : Book) (bytes slice : List ℕ) (b : Batch) → parse bytes ≡ some b → Held s.forest k
+leaves_batch : (s : State) (k : Book) (bytes slice : List ℕ) (b : Batch) → parse bytes ≡ Some b → Held s.forest k
     → Leaves k (batch bytes slice) (update_batch s b slice)
 unfolding update_batch update_number batch_rows judged accepted refused changes_of changes_with entered
-leaves_batch s k bytes slice b e i = go (update_number s (some b) slice) refl
+leaves_batch s k bytes slice b e i = go (update_number s (Some b) slice) refl
   where
     after : State
     after = record { forest = outcome s.forest b; host_focused = s.host_focused }
 
-    go : (n : ℕ) → update_number s (some b) slice ≡ n → Leaves k (batch bytes slice) (judged n s slice (accepted s after (changes_of s.forest b) slice))
+    go : (n : ℕ) → update_number s (Some b) slice ≡ n → Leaves k (batch bytes slice) (judged n s slice (accepted s after (changes_of s.forest b) slice))
     go zero q =
         let after1 = first_zero _ _ (λ z _. omega arith) q in
         let after2 = first_zero _ _ (λ z _. omega arith) after1.1 in
@@ -120,9 +121,9 @@ leaves_batch s k bytes slice b e i = go (update_number s (some b) slice) refl
         (held_batch s.forest b k i (batch_facts bytes b e).fields after20.0)
     go (suc n) q = i
 
-entered_unparsed : (k : Book) (bytes slice : List ℕ) (n : ℕ) (xs : List FullNodeId) → parse bytes ≡ none → entered k (batch bytes slice) n xs ≡ k
+entered_unparsed : (k : Book) (bytes slice : List ℕ) (n : ℕ) (xs : List FullNodeId) → parse bytes ≡ None → entered k (batch bytes slice) n xs ≡ k
 unfolding entered
-entered_unparsed k bytes slice zero xs e = ap (λ (o : Option Batch). elim o as (λ _. Book) [ none ↦ k | some c ↦ enter_batch k c xs ]) e
+entered_unparsed k bytes slice zero xs e = ap (λ (o : Option Batch). elim o as (λ _. Book) [ None ↦ k | Some c ↦ enter_batch k c xs ]) e
 entered_unparsed k bytes slice (suc n) xs e = refl
 
 leaves_update : (s : State) (k : Book) (bytes slice : List ℕ) → Held s.forest k → Leaves k (batch bytes slice) (update s bytes slice)
@@ -130,10 +131,10 @@ unfolding refused no_changes
 leaves_update s k bytes slice i = go (parse bytes) refl
   where
     go : (o : Option Batch) → parse bytes ≡ o → Leaves k (batch bytes slice) (update s bytes slice)
-    go none e =
-        subst (λ (a : Answer). Leaves k (batch bytes slice) a) (sym (update_is s bytes slice none e))
-        (subst (λ (c : Book). Held s.forest c) (sym (entered_unparsed k bytes slice (update_of s slice none).number [] e)) i)
-    go (some b) e = subst (λ (a : Answer). Leaves k (batch bytes slice) a) (sym (update_is s bytes slice (some b) e)) (leaves_batch s k bytes slice b e i)
+    go None e =
+        subst (λ (a : Answer). Leaves k (batch bytes slice) a) (sym (update_is s bytes slice None e))
+        (subst (λ (c : Book). Held s.forest c) (sym (entered_unparsed k bytes slice (update_of s slice None).number [] e)) i)
+    go (Some b) e = subst (λ (a : Answer). Leaves k (batch bytes slice) a) (sym (update_is s bytes slice (Some b) e)) (leaves_batch s k bytes slice b e i)
 
 -- ## A host focus change touches neither nodes nor trees
 
@@ -180,7 +181,7 @@ pub accepted_update : (s : State) (bytes slice : List ℕ) (P : Answer → Type 
 unfolding update_batch update_number judged refused first
 accepted_update s bytes slice P holds = go (parse bytes) refl
   where
-    refusal : (c : Bool) → ◌≡◌ {A = ℕ} (if not c then 1 else 2) 0 → P (update_of s slice none)
+    refusal : (c : Bool) → ◌≡◌ {A = ℕ} (if not c then 1 else 2) 0 → P (update_of s slice None)
     refusal true e = absurd (omega arith)
     refusal false e = absurd (omega arith)
 
@@ -189,8 +190,8 @@ accepted_update s bytes slice P holds = go (parse bytes) refl
     judging (suc n) a p e = absurd (omega arith)
 
     by : (o : Option Batch) → (update_of s slice o).number ≡ 0 → P (update_of s slice o)
-    by none e = refusal (sound s.forest) e
-    by (some b) e = judging (update_number s (some b) slice) _ (holds b) e
+    by None e = refusal (sound s.forest) e
+    by (Some b) e = judging (update_number s (Some b) slice) _ (holds b) e
 
     go : (o : Option Batch) → parse bytes ≡ o → (update s bytes slice).number ≡ 0 → P (update s bytes slice)
     go o e = subst (λ (a : Answer). a.number ≡ 0 → P a) (sym (update_is s bytes slice o e)) (by o)

@@ -1,9 +1,8 @@
 -- The book's nodes after an accepted batch are the outcome's. Assumes nothing.
 use mathlib.Core.Bool.{Bool, true, false, not, ◌||◌}
 use mathlib.Core.List.{List, [], ◌∷◌, map}
-use mathlib.Core.Option.{none}
 use mathlib.Core.Path.{◌≡◌, refl, sym, ap, ◌∙◌, fun_ext}
-use Rattle.std.specs.Prelude.{if◌then◌else◌}
+use Rattle.std.specs.Prelude.{if◌then◌else◌, None}
 use Rattle.base.specs.Tests.{keep, has}
 use Rattle.base.proofs.Tests.{both, same_list→≡, map_keep}
 use borrow.Author.Tests.{eqb-true}
@@ -48,7 +47,7 @@ entries_write x d (n ∷ ns) = go (same_id x n.id) refl (before x n.id) (entries
   where
     go : (c : Bool) → same_id x n.id ≡ c → (k : Bool) → map entry_of_node (write x d ns) ≡ enter x d (map entry_of_node ns)
         → map entry_of_node (if c then record { id = n.id; parent_and_index = n.parent_and_index; body = renewed n.body d } ∷ ns
-        else if k then record { id = x; parent_and_index = none; body = d } ∷ n ∷ ns else n ∷ write x d ns)
+        else if k then record { id = x; parent_and_index = None; body = d } ∷ n ∷ ns else n ∷ write x d ns)
         ≡ (if c then entry_of x d ∷ map entry_of_node ns else if k then entry_of x d ∷ entry_of_node n ∷ map entry_of_node ns else entry_of_node n ∷ enter x d (map entry_of_node ns))
     go true q k h =
         ap {B = List Entry} (λ e. e ∷ map entry_of_node ns)

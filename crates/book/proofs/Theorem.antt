@@ -1,7 +1,7 @@
 -- Demand 3: any accepted start, any list of calls after it. Assumes nothing.
 use mathlib.Core.Bool.{Bool, true, false, true≢false}
 use mathlib.Core.List.{List, [], ◌∷◌, map}
-use mathlib.Core.Option.{Option, none, some}
+use Rattle.std.specs.Prelude.{Option, None, Some}
 use mathlib.Core.Path.{◌≡◌, refl, sym, ap, ◌∙◌, subst}
 use Prim.Native.Nat.{ℕ, zero, suc}
 use native.Mathlib.Omega.{arith}
@@ -71,12 +71,12 @@ unfolding strike
 strike_none [] = refl
 strike_none (k ∷ ks) = ap {B = List Entry} (λ l. k ∷ l) (strike_none ks)
 
-module _ (b : Batch) (for-ROOT : b.tree ≡ ROOT) (r : NodeId) (has-root : b.root ≡ some r) where
+module _ (b : Batch) (for-ROOT : b.tree ≡ ROOT) (r : NodeId) (has-root : b.root ≡ Some r) where
   first_number : tree_number (seed b) (without_tree_data b) ≡ record { 0 = 0 }
   unfolding tree_number seed without_tree_data same_tree ◌and◌
   first_number = rw for-ROOT refl
 
-  first_trees : (outcome (seed b) (without_tree_data b)).trees ≡ record { id = ROOT; subtree = some (record { root = r; focus = b.focus }) } ∷ []
+  first_trees : (outcome (seed b) (without_tree_data b)).trees ≡ record { id = ROOT; subtree = Some (record { root = r; focus = b.focus }) } ∷ []
   unfolding outcome entries_after entry_after subtree_here new_entry known tree_number seed without_tree_data same_tree ◌and◌
   first_trees = rw (for-ROOT, has-root) refl
 
@@ -101,7 +101,7 @@ module _ (b : Batch) (for-ROOT : b.tree ≡ ROOT) (r : NodeId) (has-root : b.roo
       ∙ (both (both (subst (λ (ts : List TreeEntry). all_grafted (outcome (seed b) (without_tree_data b)).nodes 0 ts ≡ true) first_trees e)).0).0
 
   trees_opened : is_entered (opened_by b).nodes (record { tree = record { 0 = 0 }; node = r }) ≡ true
-      → trees_of_lines (opened_by b).nodes 0 (opened_by b).trees ≡ record { id = ROOT; subtree = some (record { root = r; focus = b.focus }) } ∷ []
+      → trees_of_lines (opened_by b).nodes 0 (opened_by b).trees ≡ record { id = ROOT; subtree = Some (record { root = r; focus = b.focus }) } ∷ []
   unfolding opened_by trees_of_lines tree_of_line
   trees_opened e = rw (has-root, e) refl
 
@@ -130,8 +130,8 @@ held_start_batch b h f = go (start_number b) refl
 
     rooted : same_tree b.tree ROOT ≡ true → batch_number (seed b) (without_tree_data b) ≡ 0 → (o : Option NodeId) → b.root ≡ o → is_none o ≡ false
         → Held (outcome (seed b) (without_tree_data b)) (opened_by b)
-    rooted t v none e q = absurd (true≢false q)
-    rooted t v (some r) e q = held_start b (same_tree→≡ b.tree ROOT t) r e f v
+    rooted t v None e q = absurd (true≢false q)
+    rooted t v (Some r) e q = held_start b (same_tree→≡ b.tree ROOT t) r e f v
 
     go : (n : ℕ) → start_number b ≡ n → (judged n blank [] begun).number ≡ 0 → Held (judged n blank [] begun).state.forest (opened_by b)
     go zero q z =
@@ -146,14 +146,14 @@ unfolding start opened refused
 held_started bytes h z = go (parse bytes) refl z
   where
     begun : Option Batch → Answer
-    begun o = elim o [ none ↦ refused 2 blank [] | some b ↦ start_batch b h ]
+    begun o = elim o [ None ↦ refused 2 blank [] | Some b ↦ start_batch b h ]
 
     book : Option Batch → Book
-    book o = elim o [ none ↦ record { nodes = []; trees = [] } | some b ↦ opened_by b ]
+    book o = elim o [ None ↦ record { nodes = []; trees = [] } | Some b ↦ opened_by b ]
 
     go : (o : Option Batch) → parse bytes ≡ o → (begun o).number ≡ 0 → Held (begun o).state.forest (book o)
-    go none e q = absurd (omega arith)
-    go (some b) e q = held_start_batch b h (batch_facts bytes b e).fields q
+    go None e q = absurd (omega arith)
+    go (Some b) e q = held_start_batch b h (batch_facts bytes b e).fields q
 
 -- ## The demand
 

@@ -1,7 +1,6 @@
 -- The book's lines after an accepted batch give the trees of the outcome. Assumes nothing.
 use mathlib.Core.Bool.{Bool, true, false, not, ◌||◌, false≢true}
 use mathlib.Core.List.{List, [], ◌∷◌, ◌++◌, map}
-use mathlib.Core.Option.{Option, none, some}
 use mathlib.Core.Path.{◌≡◌, refl, sym, ap, ◌∙◌, subst}
 use Prim.Native.Nat.{ℕ, zero, suc, ◌+◌, ◌<◌}
 use native.Mathlib.Omega.{arith}
@@ -9,7 +8,7 @@ use native.Mathlib.Nat.{add-zero, add-suc, suc-add, zero-add}
 use lib.Dec.{eqb}
 use lib.ListN.{length}
 use borrow.Author.Tests.{eqb-true}
-use Rattle.std.specs.Prelude.{if◌then◌else◌}
+use Rattle.std.specs.Prelude.{if◌then◌else◌, Option, None, Some}
 use Rattle.base.specs.Tests.{◌and◌, is_some, has, position}
 use Rattle.base.proofs.Tests.{both, joined}
 use Rattle.ids.specs.Ids.{same_tree, same_index}
@@ -17,7 +16,8 @@ use Rattle.ids.specs.declared.TreeId.{TreeId}
 use Rattle.ids.specs.declared.NodeId.{NodeId}
 use Rattle.ids.specs.declared.FullNodeId.{FullNodeId}
 use Rattle.record.specs.Batch.{Batch}
-use Rattle.state.specs.State.{NodeState, Subtree, TreeEntry, Forest, SubtreeState, subtree_state, subtree_from, subtree_of}
+use Rattle.state.specs.State.{NodeState, Subtree, TreeEntry, Forest, subtree_state, subtree_from, subtree_of}
+use Rattle.state.specs.declared.SubtreeState.{SubtreeState}
 use Rattle.state.specs.Sound.{grafted, all_grafted}
 use Rattle.state.proofs.State.{present_has}
 use Rattle.update.specs.Words.{known, tree_number}
@@ -77,14 +77,14 @@ unfolding subtree_from
 exists_from id t i k [] h e = tt
 exists_from id t i k (u ∷ es) h e = go (same_tree id u.id) h e (exists_from id t (suc i) (suc k) es)
   where
-    there : (o : Option Subtree) → is_some {A = SubtreeState} (elim o as (λ _. Option SubtreeState) [ none ↦ none | some p ↦ some (subtree_state k p) ]) ≡ true
+    there : (o : Option Subtree) → is_some {A = SubtreeState} (elim o as (λ _. Option SubtreeState) [ None ↦ None | Some p ↦ Some (subtree_state k p) ]) ≡ true
         → is_some o ≡ true
-    there none q = q
-    there (some p) q = refl
+    there None q = q
+    there (Some p) q = refl
 
     go : (c : Bool) → t ≡ i + (if c then zero else suc (position same_tree (map (λ e. e.id) es) id))
         → is_some {A = SubtreeState}
-        (if c then elim u.subtree as (λ _. Option SubtreeState) [ none ↦ none | some p ↦ some (subtree_state k p) ] else subtree_from (suc k) es id) ≡ true
+        (if c then elim u.subtree as (λ _. Option SubtreeState) [ None ↦ None | Some p ↦ Some (subtree_state k p) ] else subtree_from (suc k) es id) ≡ true
         → (t ≡ suc i + position same_tree (map (λ e. e.id) es) id → is_some (subtree_from (suc k) es id) ≡ true → Exists t (suc i) es)
         → Exists t i (u ∷ es)
     go true q f r = ((λ _. there u.subtree f), exists_past t (suc i) es (omega arith))
@@ -98,7 +98,7 @@ has_number id k (u ∷ es) e = go (same_tree id u.id) e (has_number id (suc k) e
   where
     go : (c : Bool)
         → is_some {A = SubtreeState}
-        (if c then elim u.subtree as (λ _. Option SubtreeState) [ none ↦ none | some p ↦ some (subtree_state k p) ] else subtree_from (suc k) es id) ≡ true
+        (if c then elim u.subtree as (λ _. Option SubtreeState) [ None ↦ None | Some p ↦ Some (subtree_state k p) ] else subtree_from (suc k) es id) ≡ true
         → (is_some (subtree_from (suc k) es id) ≡ true → has same_tree (map (λ e. e.id) es) id ≡ true)
         → (c || has same_tree (map (λ e. e.id) es) id) ≡ true
     go true f r = refl
@@ -122,10 +122,10 @@ module _ (s : Forest) (b : Batch) where
       → subtree_elsewhere s b i (tree_of_line (map entry_of_node s.nodes) i (record { id = b.tree; root = o; focus = focus })).subtree
       ≡ (tree_of_line (map entry_of_node (outcome s b).nodes) i (record { id = b.tree; root = o; focus = focus })).subtree
   unfolding tree_of_line subtree_elsewhere same_index ◌and◌
-  subtree_other i focus q none = refl
-  subtree_other i focus q (some r) =
+  subtree_other i focus q None = refl
+  subtree_other i focus q (Some r) =
       keeps (is_entered (map entry_of_node s.nodes) x)
-      ∙ ap {B = Option Subtree} (λ c. if c then some u else none) (sym (elsewhere x q))
+      ∙ ap {B = Option Subtree} (λ c. if c then Some u else None) (sym (elsewhere x q))
     where
       x : FullNodeId
       x = record { tree = record { 0 = i }; node = r }
@@ -133,11 +133,11 @@ module _ (s : Forest) (b : Batch) where
       u : Subtree
       u = record { root = r; focus = focus }
 
-      flips : (g : Bool) → ◌≡◌ {A = Option Subtree} (if g then none else some u) (if not g then some u else none)
+      flips : (g : Bool) → ◌≡◌ {A = Option Subtree} (if g then None else Some u) (if not g then Some u else None)
       flips true = refl
       flips false = refl
 
-      keeps : (d : Bool) → ◌≡◌ {A = Option Subtree} (subtree_elsewhere s b i (if d then some u else none)) (if d and not (gone s b x) then some u else none)
+      keeps : (d : Bool) → ◌≡◌ {A = Option Subtree} (subtree_elsewhere s b i (if d then Some u else None)) (if d and not (gone s b x) then Some u else None)
       keeps true = flips (gone s b x)
       keeps false = refl
 
@@ -153,47 +153,47 @@ module _ (s : Forest) (b : Batch) where
       o = (tree_of_line (map entry_of_node s.nodes) i l).subtree
 
       own : Line
-      own = record { id = l.id; root = elim b.root [ some r ↦ some r | none ↦ l.root ]; focus = b.focus }
+      own = record { id = l.id; root = elim b.root [ Some r ↦ Some r | None ↦ l.root ]; focus = b.focus }
 
   -- the batch's tree has a root that is present in the outcome, so it is entered
-  root_entered : (i : ℕ) (id : TreeId) (r : NodeId) → grafted (outcome s b).nodes i (record { id = id; subtree = some (record { root = r; focus = b.focus }) }) ≡ true
-      → some (record { root = r; focus = b.focus })
-      ≡ (tree_of_line (map entry_of_node (outcome s b).nodes) i (record { id = id; root = some r; focus = b.focus })).subtree
+  root_entered : (i : ℕ) (id : TreeId) (r : NodeId) → grafted (outcome s b).nodes i (record { id = id; subtree = Some (record { root = r; focus = b.focus }) }) ≡ true
+      → Some (record { root = r; focus = b.focus })
+      ≡ (tree_of_line (map entry_of_node (outcome s b).nodes) i (record { id = id; root = Some r; focus = b.focus })).subtree
   unfolding tree_of_line grafted
   root_entered i id r e =
-      ap {B = Option Subtree} (λ c. if c then some (record { root = r; focus = b.focus }) else none)
+      ap {B = Option Subtree} (λ c. if c then Some (record { root = r; focus = b.focus }) else None)
       (sym (entered_present (outcome s b).nodes (record { tree = record { 0 = i }; node = r }) ∙ (both e).0))
 
   abbrev root_now : Option NodeId → Option NodeId → Option NodeId
-  root_now now was = elim now [ some r ↦ some r | none ↦ was ]
+  root_now now was = elim now [ Some r ↦ Some r | None ↦ was ]
 
   abbrev subtree_now : Option NodeId → Option Subtree → Option Subtree
   subtree_now now was =
       elim now [
-        | some r ↦ some (record { root = r; focus = b.focus })
-        | none ↦ elim was [ none ↦ none | some u ↦ some (record { root = u.root; focus = b.focus }) ]
+        | Some r ↦ Some (record { root = r; focus = b.focus })
+        | None ↦ elim was [ None ↦ None | Some u ↦ Some (record { root = u.root; focus = b.focus }) ]
       ]
 
   subtree_own : (i : ℕ) (l : Line) (now was : Option NodeId)
-      → (now ≡ none → is_some (tree_of_line (map entry_of_node s.nodes) i (record { id = l.id; root = was; focus = l.focus })).subtree ≡ true)
+      → (now ≡ None → is_some (tree_of_line (map entry_of_node s.nodes) i (record { id = l.id; root = was; focus = l.focus })).subtree ≡ true)
       → grafted (outcome s b).nodes i
       (record { id = l.id; subtree = subtree_now now (tree_of_line (map entry_of_node s.nodes) i (record { id = l.id; root = was; focus = l.focus })).subtree }) ≡ true
       → subtree_now now (tree_of_line (map entry_of_node s.nodes) i (record { id = l.id; root = was; focus = l.focus })).subtree
       ≡ (tree_of_line (map entry_of_node (outcome s b).nodes) i (record { id = l.id; root = root_now now was; focus = b.focus })).subtree
   unfolding tree_of_line
-  subtree_own i l (some r) was h e = root_entered i l.id r e
-  subtree_own i l none none h e = absurd (false≢true (h refl))
-  subtree_own i l none (some r) h e = go (is_entered (map entry_of_node s.nodes) (record { tree = record { 0 = i }; node = r })) (h refl) e
+  subtree_own i l (Some r) was h e = root_entered i l.id r e
+  subtree_own i l None None h e = absurd (false≢true (h refl))
+  subtree_own i l None (Some r) h e = go (is_entered (map entry_of_node s.nodes) (record { tree = record { 0 = i }; node = r })) (h refl) e
     where
-      go : (c : Bool) → is_some {A = Subtree} (if c then some (record { root = r; focus = l.focus }) else none) ≡ true
-          → grafted (outcome s b).nodes i (record { id = l.id; subtree = subtree_now none (if c then some (record { root = r; focus = l.focus }) else none) }) ≡ true
-          → subtree_now none (if c then some (record { root = r; focus = l.focus }) else none)
-          ≡ (tree_of_line (map entry_of_node (outcome s b).nodes) i (record { id = l.id; root = some r; focus = b.focus })).subtree
+      go : (c : Bool) → is_some {A = Subtree} (if c then Some (record { root = r; focus = l.focus }) else None) ≡ true
+          → grafted (outcome s b).nodes i (record { id = l.id; subtree = subtree_now None (if c then Some (record { root = r; focus = l.focus }) else None) }) ≡ true
+          → subtree_now None (if c then Some (record { root = r; focus = l.focus }) else None)
+          ≡ (tree_of_line (map entry_of_node (outcome s b).nodes) i (record { id = l.id; root = Some r; focus = b.focus })).subtree
       go true f g = root_entered i l.id r g
       go false f g = absurd (false≢true f)
 
   line_own : (i : ℕ) (l : Line) → eqb i (tree_number s b).0 ≡ true
-      → (b.root ≡ none → is_some (tree_of_line (map entry_of_node s.nodes) i l).subtree ≡ true)
+      → (b.root ≡ None → is_some (tree_of_line (map entry_of_node s.nodes) i l).subtree ≡ true)
       → grafted (outcome s b).nodes i (entry_after s b i (tree_of_line (map entry_of_node s.nodes) i l)) ≡ true
       → entry_after s b i (tree_of_line (map entry_of_node s.nodes) i l) ≡ tree_of_line (map entry_of_node (outcome s b).nodes) i (line_after b (tree_number s b).0 i l)
   unfolding entry_after line_after tree_of_line subtree_here
@@ -215,7 +215,7 @@ module _ (s : Forest) (b : Batch) where
   -- ## All lines
 
   lines : (i : ℕ) (ls : List Line)
-      → (b.root ≡ none → Exists (tree_number s b).0 i (trees_of_lines (map entry_of_node s.nodes) i ls))
+      → (b.root ≡ None → Exists (tree_number s b).0 i (trees_of_lines (map entry_of_node s.nodes) i ls))
       → all_grafted (outcome s b).nodes i (entries_after s b i (trees_of_lines (map entry_of_node s.nodes) i ls)) ≡ true
       → entries_after s b i (trees_of_lines (map entry_of_node s.nodes) i ls) ≡ trees_of_lines (map entry_of_node (outcome s b).nodes) i (lines_after b (tree_number s b).0 i ls)
   unfolding entries_after trees_of_lines lines_after all_grafted
@@ -239,24 +239,24 @@ module _ (s : Forest) (b : Batch) where
   same_number ls p = ap (λ (ts : List TreeId). position same_tree ts b.tree) (same_ids ls p)
 
   -- the line that a new tree gets
-  new_line_lem : (i : ℕ) (c : Bool) → (b.root ≡ none → c ≡ true)
-      → all_grafted (outcome s b).nodes i (if c then [] else record { id = b.tree; subtree = subtree_here s b none } ∷ []) ≡ true
-      → (if c then [] else record { id = b.tree; subtree = subtree_here s b none } ∷ [])
+  new_line_lem : (i : ℕ) (c : Bool) → (b.root ≡ None → c ≡ true)
+      → all_grafted (outcome s b).nodes i (if c then [] else record { id = b.tree; subtree = subtree_here s b None } ∷ []) ≡ true
+      → (if c then [] else record { id = b.tree; subtree = subtree_here s b None } ∷ [])
       ≡ trees_of_lines (map entry_of_node (outcome s b).nodes) i (if c then [] else record { id = b.tree; root = b.root; focus = b.focus } ∷ [])
   unfolding trees_of_lines tree_of_line all_grafted subtree_here
   new_line_lem i true h e = refl
   new_line_lem i false h e = ap {B = List TreeEntry} (λ p. p ∷ []) (go b.root h (both e).0)
     where
-      go : (now : Option NodeId) → (now ≡ none → false ≡ true)
-          → grafted (outcome s b).nodes i (record { id = b.tree; subtree = subtree_now now none }) ≡ true
-          → record { id = b.tree; subtree = subtree_now now none }
+      go : (now : Option NodeId) → (now ≡ None → false ≡ true)
+          → grafted (outcome s b).nodes i (record { id = b.tree; subtree = subtree_now now None }) ≡ true
+          → record { id = b.tree; subtree = subtree_now now None }
           ≡ tree_of_line (map entry_of_node (outcome s b).nodes) i (record { id = b.tree; root = now; focus = b.focus })
-      go none f g = absurd (false≢true (f refl))
-      go (some r) f g = ap {B = TreeEntry} (λ p. record { id = b.tree; subtree = p }) (root_entered i b.tree r g)
+      go None f g = absurd (false≢true (f refl))
+      go (Some r) f g = ap {B = TreeEntry} (λ p. record { id = b.tree; subtree = p }) (root_entered i b.tree r g)
 
   pub trees_after : (ls : List Line) → s.trees ≡ trees_of_lines (map entry_of_node s.nodes) 0 ls
       → all_grafted (outcome s b).nodes 0 (outcome s b).trees ≡ true
-      → (b.root ≡ none → is_some (subtree_of s b.tree) ≡ true)
+      → (b.root ≡ None → is_some (subtree_of s b.tree) ≡ true)
       → (outcome s b).trees ≡ trees_of_lines (map entry_of_node (outcome s b).nodes) 0 (lines_after b (tree_number s b).0 0 ls ++ new_line b ls)
   unfolding outcome new_entry new_line known subtree_of tree_number
   trees_after ls p e h =
@@ -272,7 +272,7 @@ module _ (s : Forest) (b : Batch) where
           × (all_grafted (outcome s b).nodes (0 + length (entries_after s b 0 s.trees)) (new_entry s b) ≡ true)
       parts = all_grafted_append (outcome s b).nodes 0 (entries_after s b 0 s.trees) (new_entry s b) e
 
-      exists : b.root ≡ none → Exists (tree_number s b).0 0 (trees_of_lines (map entry_of_node s.nodes) 0 ls)
+      exists : b.root ≡ None → Exists (tree_number s b).0 0 (trees_of_lines (map entry_of_node s.nodes) 0 ls)
       exists z =
           subst (λ (es : List TreeEntry). Exists (tree_number s b).0 0 es) p
           (exists_from b.tree (tree_number s b).0 0 0 s.trees (sym (zero-add (tree_number s b).0)) (h z))

@@ -1,7 +1,6 @@
 -- Document 01's book: ids, each with its children and graft, and a root and a focus per tree number; what each call enters in it.
 -- Assumes nothing.
-use Rattle.std.specs.Prelude.{Bool, not, List, [], ◌∷◌, ◌++◌, map, ℕ, zero, suc, eqb, if◌then◌else◌}
-use Rattle.std.proofs.Math.Option.{Option, none, some}
+use Rattle.std.specs.Prelude.{Bool, not, List, [], ◌∷◌, ◌++◌, map, ℕ, zero, suc, eqb, if◌then◌else◌, Option, None, Some}
 use Rattle.base.specs.Tests.{any, keep, has, position}
 use Rattle.ids.specs.Ids.{ROOT, same_tree, same_id, before}
 use Rattle.ids.specs.declared.TreeId.{TreeId}
@@ -59,7 +58,7 @@ strike xs ks = keep (λ k. not (has same_id xs k.id)) ks
 unfoldable pub line_after : Batch → ℕ → ℕ → Line → Line
 line_after b t i l =
     if eqb i t
-    then record { id = l.id; root = elim b.root [ some r ↦ some r | none ↦ l.root ]; focus = b.focus }
+    then record { id = l.id; root = elim b.root [ Some r ↦ Some r | None ↦ l.root ]; focus = b.focus }
     else l
 
 -- all lines; i is the number of the first
@@ -92,7 +91,7 @@ opened_by b = record {
 
 -- the book of a start
 unfoldable pub opened : List ℕ → Book
-opened bytes = elim (parse bytes) [ none ↦ record { nodes = []; trees = [] } | some b ↦ opened_by b ]
+opened bytes = elim (parse bytes) [ None ↦ record { nodes = []; trees = [] } | Some b ↦ opened_by b ]
 
 -- ## Calls
 
@@ -108,7 +107,7 @@ answer_to s (host h) = host_focus s h
 
 -- The book is fed the call's arguments, with the number and the removed list that were answered. Any other call changes nothing.
 unfoldable pub entered : Book → Call → ℕ → List FullNodeId → Book
-entered k (batch bytes slice) zero removed = elim (parse bytes) [ none ↦ k | some b ↦ enter_batch k b removed ]
+entered k (batch bytes slice) zero removed = elim (parse bytes) [ None ↦ k | Some b ↦ enter_batch k b removed ]
 entered k (batch bytes slice) (suc n) removed = k
 entered k (host h) n removed = k
 
@@ -123,8 +122,8 @@ unfoldable pub tree_of_line : List Entry → ℕ → Line → TreeEntry
 tree_of_line ks i l = record {
   id = l.id;
   subtree = elim l.root [
-    | none ↦ none
-    | some r ↦ if is_entered ks (record { tree = record { 0 = i }; node = r }) then some (record { root = r; focus = l.focus }) else none
+    | None ↦ None
+    | Some r ↦ if is_entered ks (record { tree = record { 0 = i }; node = r }) then Some (record { root = r; focus = l.focus }) else None
   ];
 }
 

@@ -1,8 +1,7 @@
 -- Demand 3 as one claim over an accepted start and any list of calls after it, refused ones included and whatever they hold.
 -- Each call gets the state as the last one gave it back. Assumes nothing.
-use Rattle.std.specs.Prelude.{Bool, true, false, not, ◌||◌, ◌≡◌, ℕ, suc, ◌+◌, ◌<◌, length}
+use Rattle.std.specs.Prelude.{Bool, true, false, not, ◌||◌, ◌≡◌, ℕ, suc, ◌+◌, ◌<◌, length, None, Some}
 use mathlib.Core.List.{List, [], ◌∷◌, ◌++◌, map, Memᴰ}
-use Rattle.std.proofs.Math.Option.{none, some}
 use Rattle.base.specs.Tests.{◌and◌, count, has}
 use Rattle.ids.specs.Ids.{same_id}
 use Rattle.ids.specs.declared.FullNodeId.{FullNodeId}
@@ -35,15 +34,15 @@ pub record Agrees (s : Forest) (k : Book) : Type 0 where
   pub trees_are_the_books : s.trees ≡ trees_of_lines k.nodes 0 k.trees
   -- the root, and the way down from it
   pub root : FullNodeId
-  pub is_the_root : root_of s ≡ some root
+  pub is_the_root : root_of s ≡ Some root
   -- going down from the root meets every node exactly once
   pub met_once : (x : FullNodeId) → present s.nodes x ≡ true → count (λ m. same_id x m.id) (way_down s) ≡ 1
   -- and nothing else
   pub met_only : (m : Met) → Memᴰ m (way_down s) → present s.nodes m.id ≡ true
   -- (the way down is whole: with more room nothing more is met)
-  pub met_all : (more : ℕ) → down (suc (length s.nodes) + more) s (record { id = root; link = none } ∷ []) ≡ way_down s
+  pub met_all : (more : ℕ) → down (suc (length s.nodes) + more) s (record { id = root; link = None } ∷ []) ≡ way_down s
   -- the root keeps no parent
-  pub root_keeps_none : link_at s.nodes root ≡ none
+  pub root_keeps_none : link_at s.nodes root ≡ None
   -- every other node the one it was met under
   pub parent_is_met_under : (m : Met) → Memᴰ m (way_down s) → link_at s.nodes m.id ≡ m.link
   -- climbing by these reaches the root in fewer steps than there are nodes
@@ -52,10 +51,10 @@ pub record Agrees (s : Forest) (k : Book) : Type 0 where
   pub root_present : present s.nodes root ≡ true
   -- and so is the effective focus
   pub focus : FullNodeId
-  pub is_focus : effective_focus s ≡ some focus
+  pub is_focus : effective_focus s ≡ Some focus
   pub focus_present : present s.nodes focus ≡ true
   -- which is never a graft
-  pub focus_no_graft : graft_at s.nodes focus ≡ none
+  pub focus_no_graft : graft_at s.nodes focus ≡ None
   -- the state is sound, so the next call is never answered 1
   pub is_sound : sound s ≡ true
 

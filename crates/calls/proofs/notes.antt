@@ -2,6 +2,7 @@ pub mod Columns
 pub mod Positions
 pub mod Places
 pub mod Setting
+pub mod Verdicts
 pub mod Marks
 pub mod Grafts
 pub mod Kept

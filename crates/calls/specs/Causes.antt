@@ -1,6 +1,5 @@
 -- What makes the first of rows 9 to 14 hold, by places among the listed nodes and the child entries: the reason that it is. Assumes nothing.
-use Rattle.std.specs.Prelude.{List, [], ◌∷◌, ◌++◌, map, ◌≡◌, ℕ, ◌<◌, length, get_or}
-use Rattle.std.proofs.Math.Option.{Option, none, some}
+use Rattle.std.specs.Prelude.{List, [], ◌∷◌, ◌++◌, map, ◌≡◌, ℕ, ◌<◌, length, get_or, Option, IfSome, option_map}
 use Rattle.ids.specs.declared.NodeId.{NodeId}
 use Rattle.ids.specs.declared.FullNodeId.{FullNodeId}
 use Rattle.record.specs.Batch.{Listed, Batch, named_ids}
@@ -10,7 +9,7 @@ use Rattle.update.specs.Words.{here}
 use Rattle.reasons.specs.Reasons.{Reason, named_twice, graftOverChildren, graftOfRoot, claimed_twice, without_place, child_nowhere}
 use Rattle.reasons_calls.specs.Pass.{namers_of}
 use Rattle.calls.specs.declared.pass.Cause.{Cause}
-use Rattle.calls.specs.declared.pass.Cause.TheVariants.{Nothing, NamedTwice, GraftOverChildren, GraftOfRoot, ClaimedTwice, WithoutPlace, ChildNowhere}
+use Rattle.calls.specs.declared.pass.Cause.TheVariants.{NamedTwice, GraftOverChildren, GraftOfRoot, ClaimedTwice, WithoutPlace, ChildNowhere}
 
 -- ## Child entries
 
@@ -38,18 +37,16 @@ abbrev pub child_id : Forest → Batch → ℕ → FullNodeId
 child_id s b j = here s b (get_or (named_ids b.nodes) j no_node)
 
 -- the reason that a cause is
-unfoldable pub cause_reason : Forest → Batch → Cause → Option Reason
-cause_reason s b Nothing = none
-cause_reason s b (NamedTwice j) = some (named_twice (child_id s b j) (namers_of s b (get_or (named_ids b.nodes) j no_node)))
-cause_reason s b (GraftOverChildren i) = some (graftOverChildren (listed_id s b i))
-cause_reason s b (GraftOfRoot i) = some (graftOfRoot (listed_id s b i))
-cause_reason s b (ClaimedTwice i m) = some (claimed_twice (listed_at b i).body.graft (listed_id s b m) (listed_id s b i))
-cause_reason s b (WithoutPlace i) = some (without_place (listed_id s b i) i)
-cause_reason s b (ChildNowhere j) = some (child_nowhere (here s b (get_or (entries b.nodes) j no_entry).by) (child_id s b j))
+unfoldable pub cause_reason : Forest → Batch → Cause → Reason
+cause_reason s b (NamedTwice j) = named_twice (child_id s b j) (namers_of s b (get_or (named_ids b.nodes) j no_node))
+cause_reason s b (GraftOverChildren i) = graftOverChildren (listed_id s b i)
+cause_reason s b (GraftOfRoot i) = graftOfRoot (listed_id s b i)
+cause_reason s b (ClaimedTwice i m) = claimed_twice (listed_at b i).body.graft (listed_id s b m) (listed_id s b i)
+cause_reason s b (WithoutPlace i) = without_place (listed_id s b i) i
+cause_reason s b (ChildNowhere j) = child_nowhere (here s b (get_or (entries b.nodes) j no_entry).by) (child_id s b j)
 
 -- its number
 unfoldable pub cause_number : Cause → ℕ
-cause_number Nothing = 0
 cause_number (NamedTwice j) = 9
 cause_number (GraftOverChildren i) = 10
 cause_number (GraftOfRoot i) = 11
@@ -59,7 +56,6 @@ cause_number (ChildNowhere j) = 14
 
 -- its nodes are listed, its entry is one
 unfoldable pub Within : Batch → Cause → Type 0
-Within b Nothing = Unit
 Within b (NamedTwice j) = j < length (named_ids b.nodes)
 Within b (GraftOverChildren i) = i < length b.nodes
 Within b (GraftOfRoot i) = i < length b.nodes
@@ -67,7 +63,7 @@ Within b (ClaimedTwice i m) = (i < length b.nodes) × (m < length b.nodes)
 Within b (WithoutPlace i) = i < length b.nodes
 Within b (ChildNowhere j) = j < length (named_ids b.nodes)
 
--- a cause explains a reason, or that there is none
-pub record Explains (s : Forest) (b : Batch) (o : Option Reason) (r : Cause) : Type 0 where
-  pub within : Within b r
-  pub is : o ≡ cause_reason s b r
+-- a cause explains a reason, and none explains that there is none
+pub record Explains (s : Forest) (b : Batch) (o : Option Reason) (r : Option Cause) : Type 0 where
+  pub within : IfSome r (Within b)
+  pub is : o ≡ option_map (cause_reason s b) r

@@ -1,9 +1,7 @@
 -- What the climb to the node that lost its place answers, over the words of a state and of a batch, and the batch's scope. Assumes nothing.
-use Rattle.std.specs.Prelude.{Bool, List, ℕ, ltb, length, if◌then◌else◌}
-use Rattle.std.proofs.Math.Option.{Option, none}
+use Rattle.std.specs.Prelude.{Bool, List, ℕ, ltb, length, if◌then◌else◌, Option, None, option_map}
 use Rattle.reasons.specs.Reasons.{Dropped}
 use Rattle.reasons_calls.specs.Outcome.{dropped_within}
-use Rattle.reasons_why.specs.Why.{found, dropped_node, dropped_by}
 use Rattle.record_reader.specs.Reader.{listed_at}
 use Rattle.state_array.specs.View.{slots_of}
 use Rattle.update.specs.Numbers.{updated_and_removed}
@@ -13,8 +11,8 @@ use Rattle.calls.specs.Codes.{id_at}
 use Rattle.calls.specs.declared.why_outcome.climb.Lost.{Lost}
 
 -- a node that lost its place, as a plain struct
-unfoldable pub lost_of : Option Dropped → Lost
-lost_of d = record { node = found (dropped_node d); by = found (dropped_by d) }
+unfoldable pub lost_of : Option Dropped → Option Lost
+lost_of d = option_map (λ (x : Dropped). record { node = x.node; by = x.by }) d
 
 module _ (state bytes : List ℕ) (c : Scope) where
   -- listed node i is updated and removed
@@ -27,4 +25,4 @@ module _ (state bytes : List ℕ) (c : Scope) where
 
   -- where the climb ends: the node in slot r, if that is the one that lost its place; none past the last slot
   unfoldable pub dropped_at : ℕ → Option Dropped
-  dropped_at r = if ltb r (slots_of state) then dropped_within (forest state) (asked bytes c) 1 (id_at (forest state) r) else none
+  dropped_at r = if ltb r (slots_of state) then dropped_within (forest state) (asked bytes c) 1 (id_at (forest state) r) else None

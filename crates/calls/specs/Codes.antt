@@ -1,7 +1,6 @@
 -- Codes of nodes: below 320 the slot of an old node, from 320 on a listed node. So the outcome's nodes, and where their data comes from,
 -- are told by one number each. Assumes nothing.
-use Rattle.std.specs.Prelude.{Bool, false, not, ◌≡◌, ℕ, ◌+◌, ◌-◌, ◌*◌, ◌≤◌, ◌<◌, ltb, length, get_or, if◌then◌else◌}
-use Rattle.std.proofs.Math.Option.{Option, none, some}
+use Rattle.std.specs.Prelude.{Bool, false, not, ◌≡◌, ℕ, ◌+◌, ◌-◌, ◌*◌, ◌≤◌, ◌<◌, ltb, length, get_or, if◌then◌else◌, Option, None, Some}
 use Rattle.base.specs.Tests.{◌and◌, position}
 use Rattle.ids.specs.Ids.{same_id}
 use Rattle.ids.specs.declared.FullNodeId.{FullNodeId}
@@ -35,7 +34,7 @@ flag t = if t then 1 else 0
 module _ (s : Forest) (b : Batch) where
   -- a listed node that is old, and whose data is other than before
   unfoldable pub differs : Listed → Bool
-  differs l = elim (find (here s b l.id) s.nodes) [ none ↦ false | some n ↦ not (same_data n.body l.body) ]
+  differs l = elim (find (here s b l.id) s.nodes) [ None ↦ false | Some n ↦ not (same_data n.body l.body) ]
 
   -- ## What a code says
 
@@ -45,7 +44,7 @@ module _ (s : Forest) (b : Batch) where
 
   -- the link that its node recorded; a listed node that is new has none
   unfoldable pub code_link : ℕ → Option ParentAndIndex
-  code_link code = if ltb code SLOTS then (node_at s code).parent_and_index else none
+  code_link code = if ltb code SLOTS then (node_at s code).parent_and_index else None
 
   -- a code of an old node that stays, or of a listed node that is new
   pub record Coded (code : ℕ) : Type 0 where

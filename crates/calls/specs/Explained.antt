@@ -1,20 +1,18 @@
 -- What explaining answers: a reason as plain fields, and the way that it has in all its words. Assumes nothing.
-use Rattle.std.specs.Prelude.{not, List, [], ◌∷◌, ◌≡◌, ℕ, ltb, length, replicate}
-use Rattle.std.proofs.Math.Option.{Option, none, some}
+use Rattle.std.specs.Prelude.{not, List, [], ◌∷◌, ◌≡◌, ℕ, ltb, length, replicate, Option, None, Some}
 use Rattle.base.specs.Tests.{is_none}
 use Rattle.ids.specs.Ids.{ROOT, same_tree}
 use Rattle.ids.specs.declared.FullNodeId.{FullNodeId}
 use Rattle.record.specs.Batch.{Batch, listed_ids}
-use Rattle.record_layout.specs.declared.found.Offence as layout
 use Rattle.record.specs.Parse.{batch_of}
-use Rattle.record_rules.specs.Rules.{Offence, record_fault}
+use Rattle.record_rules.specs.declared.Offence.{Offence}
+use Rattle.record_rules.specs.Rules.{record_fault}
 use Rattle.reasons.specs.Reasons.{Reason, unsound_state, broken_record, no_tree_data, not_root, too_many, first_reason}
 use Rattle.reasons.specs.Shape.{broken_state}
 use Rattle.reasons_calls.specs.Pass.{repeated_after, pass_fault, placeless_from, nowhere_fault}
 use Rattle.reasons_calls.specs.Outcome.{clash_reason, focus_reason, removed_reason, outcome_reason}
 use Rattle.reasons_calls.specs.Explain.{reason_if, reasons_before_pass, reasons_after_pass}
 use Rattle.replies.specs.Replies.{plain_id}
-use Rattle.state_focus.specs.Focus.{found_of}
 use Rattle.reasons_why.specs.declared.Why.{Why}
 use Rattle.reasons_why.specs.Why.{why, why_of, why_for, way_of, way_words}
 use Rattle.state.specs.State.{Forest}
@@ -35,9 +33,9 @@ plain_why w = record {
   place = w.place;
   other = w.other;
   tree = w.tree;
-  node = plain_id (found_of w.node);
-  by = plain_id (found_of w.by);
-  also = plain_id (found_of w.also);
+  node = plain_id w.node;
+  by = plain_id w.by;
+  also = plain_id w.also;
   rule = w.rule;
   number = w.number;
 }
@@ -65,21 +63,21 @@ no_way = replicate 66 0
 
 -- the way of a reason, if there is one
 unfoldable pub way_for : Option Reason → List FullNodeId
-way_for none = []
-way_for (some r) = way_of r
+way_for None = []
+way_for (Some r) = way_of r
 
 -- a reason, or none
 pub record ExplainsFor (o : Option Reason) (r : Why) (way : List ℕ) : Type 0 where
   pub why_is : r ≡ why_for o
   pub way_is : way ≡ way_words (way_for o)
 
--- row 2 by the answer of the code
-unfoldable pub offence_why : layout.Offence → Why
-offence_why o = why 2 o.rule o.offset 0 ROOT none none none
+-- row 2
+unfoldable pub offence_why : Offence → Why
+offence_why o = why 2 o.rule o.offset 0 ROOT None None None
 
 -- the reason of a record that breaks a rule
 abbrev pub record_reason : Option Offence → Option Reason
-record_reason o = elim o [ none ↦ none | some x ↦ some (broken_record x) ]
+record_reason o = elim o [ None ↦ None | Some x ↦ Some (broken_record x) ]
 
 -- rows 1, 2 and 5 to 8
 unfoldable pub first_reasons : Forest → List ℕ → List (Option Reason)

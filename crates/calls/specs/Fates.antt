@@ -1,6 +1,5 @@
 -- The numbers that stand for fates, and what the functions answer of a forest s and a batch b. Assumes nothing.
-use Rattle.std.specs.Prelude.{Bool, List, ◌⊎◌, ◌≡◌, ℕ, ◌+◌, ◌≤◌, ◌<◌, get_or}
-use Rattle.std.proofs.Math.Option.{Option, none, some}
+use Rattle.std.specs.Prelude.{Bool, List, ◌⊎◌, ◌≡◌, ℕ, ◌+◌, ◌≤◌, ◌<◌, get_or, Option, None, Some}
 use Rattle.ids.specs.declared.FullNodeId.{FullNodeId}
 use Rattle.record.specs.Batch.{Batch}
 use Rattle.state.specs.State.{ParentAndIndex, Forest, link_at}
@@ -23,8 +22,8 @@ fate_code asParent = 2
 module _ (s : Forest) (b : Batch) where
   -- by its link: a node without a parent goes if it is replaced
   unfoldable pub fate_by : FullNodeId → Option ParentAndIndex → Fate
-  fate_by x none = goes_if (replaced s b x)
-  fate_by x (some l) = fate s b x l
+  fate_by x None = goes_if (replaced s b x)
+  fate_by x (Some l) = fate s b x l
 
   -- the number of an old node's fate
   unfoldable pub fate_mark : FullNodeId → ℕ

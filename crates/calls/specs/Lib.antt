@@ -1,6 +1,7 @@
 pub mod Layout
 pub mod Columns
 pub mod Setting
+pub mod Refusals
 pub mod Codes
 pub mod Says
 pub mod Noted

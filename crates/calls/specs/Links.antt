@@ -1,6 +1,5 @@
 -- The parent links after a batch, as words, and what the functions that work them out answer. Assumes nothing.
-use Rattle.std.specs.Prelude.{false, List, ◌≡◌, ℕ, ◌+◌, ◌-◌, ◌≤◌, ◌<◌, length, get_or, take, if◌then◌else◌}
-use Rattle.std.proofs.Math.Option.{Option, none, some}
+use Rattle.std.specs.Prelude.{false, List, ◌≡◌, ℕ, ◌+◌, ◌-◌, ◌≤◌, ◌<◌, length, get_or, take, if◌then◌else◌, Option, None, Some}
 use Rattle.ids.specs.declared.TreeId.{TreeId}
 use Rattle.ids.specs.declared.FullNodeId.{FullNodeId}
 use Rattle.record.specs.Batch.{Batch, named_ids}
@@ -41,7 +40,7 @@ module _ (s : Forest) (b : Batch) where
 
 -- the link under the graft holder of a tree
 unfoldable pub graft_link : Forest → TreeId → Option ParentAndIndex
-graft_link s t = elim (holder s.nodes t) [ none ↦ none | some g ↦ under_graft g ]
+graft_link s t = elim (holder s.nodes t) [ None ↦ None | Some g ↦ under_graft g ]
 
 module _ (state bytes : List ℕ) (c : Scope) where
   -- listed node i is there, and was not before
@@ -51,13 +50,13 @@ module _ (state bytes : List ℕ) (c : Scope) where
 
   -- the words of a named child's link
   abbrev pub named_row : ℕ → ℕ → LinkRow
-  named_row i j = link_row (some (named_link (forest state) (asked bytes c) i j))
+  named_row i j = link_row (Some (named_link (forest state) (asked bytes c) i j))
 
   -- r is the link after of a node x of the batch's tree, whose words before were `was`
   abbrev pub LinkHereIs : FullNodeId → LinkRow → ℕ → LinkRow → Type 0
   LinkHereIs x was turn r =
       (o : Option ParentAndIndex) → was ≡ link_row o → turn ≡ cut_mark (forest state) (asked bytes c) x
-      → (old (forest state) (asked bytes c) x ≡ false → o ≡ none)
+      → (old (forest state) (asked bytes c) x ≡ false → o ≡ None)
       → r ≡ link_row (link_here (forest state) (asked bytes c) x o)
 
   -- r is the link after of a node x of another tree, whose parent stands in a slot
@@ -73,7 +72,7 @@ module _ (state bytes : List ℕ) (c : Scope) where
 
   -- of listed node i, which is new
   abbrev pub new_row : ℕ → LinkRow
-  new_row i = link_row (link_after (forest state) (asked bytes c) (here (forest state) (asked bytes c) (listed_at (asked bytes c) i).id) none)
+  new_row i = link_row (link_after (forest state) (asked bytes c) (here (forest state) (asked bytes c) (listed_at (asked bytes c) i).id) None)
 
   -- of a code's node
   unfoldable pub link_word : ℕ → LinkRow

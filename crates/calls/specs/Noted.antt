@@ -1,10 +1,8 @@
 -- What functions answer by the words of the notes alone. What it means for a state and a batch follows from `Told`. Assumes nothing.
-use Rattle.std.specs.Prelude.{Bool, false, List, ◌≡◌, ℕ, ◌+◌, ◌-◌, ◌<◌, eqb, ltb, get_or, if◌then◌else◌}
+use Rattle.std.specs.Prelude.{Bool, false, List, ◌≡◌, ℕ, ◌+◌, ◌-◌, ◌<◌, eqb, ltb, get_or, if◌then◌else◌, Option, None, Some}
 use Rattle.ids.specs.declared.FullNodeId.{FullNodeId}
 use Rattle.state_array.specs.Layout.{SLOTS}
 use Rattle.state_array.specs.View.{id_in}
-use Rattle.state_focus.specs.declared.FoundNode.{FoundNode}
-use Rattle.state_focus.specs.declared.FoundNode.TheVariants as node
 use Rattle.calls.specs.Layout.{LISTED, ENDS, LISTED_SLOTS, TURNS, ABOVE, FATES, DIFFERS}
 use Rattle.calls.specs.declared.notes.Scope.{Scope}
 
@@ -35,5 +33,5 @@ abbrev pub ClashRoom : List ℕ → ℕ → Type 0
 ClashRoom notes k = (i : ℕ) → i < k → get_or notes (DIFFERS + i) 0 ≡ 1 → get_or notes (LISTED_SLOTS + i) 0 < SLOTS
 
 -- the parent p of the node in a slot, if it is listed
-unfoldable pub parent_noted : List ℕ → ℕ → FullNodeId → FoundNode
-parent_noted notes slot p = if eqb (get_or notes (TURNS + get_or notes (ABOVE + slot) 0) 0) 0 then node.Nothing else node.At p
+unfoldable pub parent_noted : List ℕ → ℕ → FullNodeId → Option FullNodeId
+parent_noted notes slot p = if eqb (get_or notes (TURNS + get_or notes (ABOVE + slot) 0) 0) 0 then None else Some p

@@ -1,23 +1,30 @@
 -- What the helpers answer: rows 6 to 8 by themselves, the root that a batch leaves. Assumes nothing.
-use Rattle.std.specs.Prelude.{Bool, false, not, ◌≡◌, ℕ, ◌≤◌, ◌<◌, leb, length, if◌then◌else◌}
-use Rattle.std.proofs.Math.Option.{none, some}
+use Rattle.std.specs.Prelude.{Bool, false, not, ◌≡◌, ℕ, ◌<◌, leb, length, Option, None, Some, option_map}
 use Rattle.base.specs.Tests.{◌and◌, is_none}
 use Rattle.base.specs.Search.{First}
 use Rattle.ids.specs.Ids.{ROOT, same_tree, same_node}
+use Rattle.ids.specs.declared.NodeId.{NodeId}
 use Rattle.record.specs.Batch.{Batch}
 use Rattle.record_reader.specs.Reader.{listed_at}
 use Rattle.state.specs.State.{Forest, holder, subtree_of}
 use Rattle.update.specs.Words.{known, here, with_tree_data, root_after}
 use Rattle.calls.specs.declared.rows.Again.{Again}
-use Rattle.calls.specs.declared.rows.Root.{Root}
 
--- Row 5: the first listed node that was listed before stands at `second`, and before at `first`; `second` is the number of listed nodes where there
--- is none.
-pub record ListedAgain (b : Batch) (r : Again) : Type 0 where
-  pub within : r.second ≤ length b.nodes
-  pub apart : (j : ℕ) → j < r.second → (h : ℕ) → h < j → same_node (listed_at b h).id (listed_at b j).id ≡ false
-  pub earlier : r.second < length b.nodes → r.first < r.second
-  pub again : r.second < length b.nodes → First (λ h. same_node (listed_at b h).id (listed_at b r.second).id) r.second r.first
+-- the first k listed nodes differ
+abbrev pub Apart : Batch → ℕ → Type 0
+Apart b k = (j : ℕ) → j < k → (h : ℕ) → h < j → same_node (listed_at b h).id (listed_at b j).id ≡ false
+
+-- the first listed node that was listed before stands at `second`, and before at `first`
+pub record AgainAt (b : Batch) (r : Again) : Type 0 where
+  pub within : r.second < length b.nodes
+  pub apart : Apart b r.second
+  pub earlier : r.first < r.second
+  pub again : First (λ h. same_node (listed_at b h).id (listed_at b r.second).id) r.second r.first
+
+-- row 5: such a node, or none, and then all of them differ
+unfoldable pub ListedAgain : Batch → Option Again → Type 0
+ListedAgain b None = Apart b (length b.nodes)
+ListedAgain b (Some r) = AgainAt b r
 
 module _ (s : Forest) (b : Batch) where
   -- row 6: tree data for a tree other than ROOT that no node grafts
@@ -33,5 +40,5 @@ module _ (s : Forest) (b : Batch) where
   full = not (known s b) and leb 32 (length s.trees)
 
   -- the root as the batch leaves it
-  abbrev pub RootAfter : Root → Type 0
-  RootAfter r = (if r.rooted then some (here s b r.node) else none) ≡ root_after s b
+  abbrev pub RootAfter : Option NodeId → Type 0
+  RootAfter r = option_map (here s b) r ≡ root_after s b

@@ -1,7 +1,6 @@
 -- The rows that judge a batch before its outcome is made, 9 to 14: their number, their reason, and what each of the functions answers.
 -- Assumes nothing.
-use Rattle.std.specs.Prelude.{Bool, [], ◌∷◌, ◌≡◌, ℕ, get_or}
-use Rattle.std.proofs.Math.Option.{Option}
+use Rattle.std.specs.Prelude.{Bool, [], ◌∷◌, ◌≡◌, ℕ, get_or, Option}
 use Rattle.base.specs.Tests.{any, first_given}
 use Rattle.base.specs.Search.{First}
 use Rattle.base.specs.Tables.{row, found, first}
@@ -24,11 +23,11 @@ pass_number s b =
 abbrev pub row_reason : Forest → Batch → Option Reason
 row_reason s b = first_given (λ o. o) (pass_fault s b ∷ placeless_from s b 0 b.nodes ∷ nowhere_fault s b ∷ [])
 
--- a cause explains rows 9 to 12, and all of them
-abbrev pub PassExplained : Forest → Batch → Cause → Type 0
+-- a cause, or none, explains rows 9 to 12, and all of them
+abbrev pub PassExplained : Forest → Batch → Option Cause → Type 0
 PassExplained s b r = Explains s b (pass_fault s b) r
 
-abbrev pub RowsExplained : Forest → Batch → Cause → Type 0
+abbrev pub RowsExplained : Forest → Batch → Option Cause → Type 0
 RowsExplained s b r = Explains s b (row_reason s b) r
 
 -- row 14: whether the child of entry j is nowhere; the first of k entries whose child is, or k

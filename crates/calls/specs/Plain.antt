@@ -4,7 +4,6 @@ use Rattle.record.specs.Parse.{batch_of}
 use Rattle.state.specs.State.{State}
 use Rattle.state_array.specs.Layout.{WORDS}
 use Rattle.state_array.specs.Put.{host_put}
-use Rattle.state_focus.specs.Focus.{found_of}
 use Rattle.update.specs.Calls.{seed}
 use Rattle.calls.specs.declared.reports.Report as reports
 use Rattle.replies.specs.declared.Lengths.{Lengths}
@@ -15,10 +14,10 @@ use Rattle.replies.specs.Replies.{plain_id, is_set}
 -- a report, its enums as plain ids
 unfoldable pub plain_report : reports.Report → Report
 plain_report r = record {
-  focus_before = plain_id (found_of r.focus_before);
-  focus_after = plain_id (found_of r.focus_after);
-  extra_before = plain_id (found_of r.extra_before);
-  extra_after = plain_id (found_of r.extra_after);
+  focus_before = plain_id r.focus_before;
+  focus_after = plain_id r.focus_after;
+  extra_before = plain_id r.extra_before;
+  extra_after = plain_id r.extra_after;
 }
 
 -- an accepted call's reply

@@ -1,14 +1,11 @@
 -- What is reported of the focus: its node before and after, and the extra ids. Assumes nothing.
-use Rattle.std.specs.Prelude.{List, ◌++◌, ◌≡◌, ℕ, if◌then◌else◌}
-use Rattle.std.proofs.Math.Option.{Option, none}
+use Rattle.std.specs.Prelude.{List, ◌++◌, ◌≡◌, ℕ, if◌then◌else◌, Option, None}
 use Rattle.base.specs.Tests.{same_option}
 use Rattle.ids.specs.Ids.{same_id}
 use Rattle.ids.specs.declared.FullNodeId.{FullNodeId}
 use Rattle.state.specs.State.{State}
 use Rattle.state.specs.Focus.{state_focus}
 use Rattle.state_array.specs.View.{view}
-use Rattle.state_focus.specs.declared.FoundNode.{FoundNode}
-use Rattle.state_focus.specs.Focus.{found_of}
 use Rattle.update.specs.Reports.{Changes, no_changes, unless_in, extra_before, extra_after}
 use Rattle.calls.specs.declared.notes.Scope.{Scope}
 use Rattle.calls.specs.Outcomes.{changes_in}
@@ -17,10 +14,10 @@ use Rattle.calls.specs.declared.reports.Report.{Report}
 
 -- from s to s' with these changes
 pub record Reported (s s' : State) (c : Changes) (r : Report) : Type 0 where
-  pub before_is : found_of r.focus_before ≡ state_focus s
-  pub after_is : found_of r.focus_after ≡ state_focus s'
-  pub extra_before_is : found_of r.extra_before ≡ extra_before s s' c
-  pub extra_after_is : found_of r.extra_after ≡ extra_after s s' c
+  pub before_is : r.focus_before ≡ state_focus s
+  pub after_is : r.focus_after ≡ state_focus s'
+  pub extra_before_is : r.extra_before ≡ extra_before s s' c
+  pub extra_after_is : r.extra_after ≡ extra_after s s' c
 
 -- by a batch
 abbrev pub UpdateReported : List ℕ → List ℕ → Scope → Report → Type 0
@@ -35,20 +32,20 @@ abbrev pub unless_after : Changes → Option FullNodeId → Option FullNodeId
 unless_after c o = unless_in (c.added ++ c.updated) o
 
 -- between two states whose focus these answers are, with empty lists
-abbrev pub HostReported : FoundNode → FoundNode → Report → Type 0
+abbrev pub HostReported : Option FullNodeId → Option FullNodeId → Report → Type 0
 HostReported before after r =
-    (s s' : State) → found_of before ≡ state_focus s → found_of after ≡ state_focus s' → Reported s s' no_changes r
+    (s s' : State) → before ≡ state_focus s → after ≡ state_focus s' → Reported s s' no_changes r
 
 -- two answers, and what is left of them as extra ids where they differ
-pub record ReportOf (before after lost got : FoundNode) (r : Report) : Type 0 where
-  pub before_is : found_of r.focus_before ≡ found_of before
-  pub after_is : found_of r.focus_after ≡ found_of after
-  pub extra_before_is : found_of r.extra_before ≡ (if same_option same_id (found_of before) (found_of after) then none else found_of lost)
-  pub extra_after_is : found_of r.extra_after ≡ (if same_option same_id (found_of before) (found_of after) then none else found_of got)
+pub record ReportOf (before after lost got : Option FullNodeId) (r : Report) : Type 0 where
+  pub before_is : r.focus_before ≡ before
+  pub after_is : r.focus_after ≡ after
+  pub extra_before_is : r.extra_before ≡ (if same_option same_id before after then None else lost)
+  pub extra_after_is : r.extra_after ≡ (if same_option same_id before after then None else got)
 
 -- a focus afterwards, if any, and nothing else
 pub record OnlyAfter (after : Option FullNodeId) (r : Report) : Type 0 where
-  pub before_is : found_of r.focus_before ≡ none
-  pub after_is : found_of r.focus_after ≡ after
-  pub extra_before_is : found_of r.extra_before ≡ none
-  pub extra_after_is : found_of r.extra_after ≡ none
+  pub before_is : r.focus_before ≡ None
+  pub after_is : r.focus_after ≡ after
+  pub extra_before_is : r.extra_before ≡ None
+  pub extra_after_is : r.extra_after ≡ None

@@ -1,6 +1,5 @@
 -- What the notes of an update say of a forest s and a batch b: the table of their columns, and which of them are written. Assumes nothing.
-use Rattle.std.specs.Prelude.{List, [], ◌∷◌, ◌≡◌, ℕ, suc, ◌+◌, ◌<◌, eqb, ltb, length, get_or, take, if◌then◌else◌}
-use Rattle.std.proofs.Math.Option.{Option, none, some}
+use Rattle.std.specs.Prelude.{List, [], ◌∷◌, ◌≡◌, ℕ, suc, ◌+◌, ◌<◌, eqb, ltb, length, get_or, take, if◌then◌else◌, Option, None, Some}
 use Rattle.base.specs.Tests.{◌and◌, is_some, same_option, has, position}
 use Rattle.base.specs.Search.{First}
 use Rattle.ids.specs.Ids.{same_tree, same_node}
@@ -37,7 +36,7 @@ naming_mark s b x =
 
 -- the tree that the node in slot i grafts; none past the last node
 unfoldable pub graft_below : List ℕ → ℕ → Option TreeId
-graft_below state i = if ltb i (slots_of state) then graft_in state i else none
+graft_below state i = if ltb i (slots_of state) then graft_in state i else None
 
 -- the first of k listed nodes that claims the tree t, or k
 abbrev pub ClaimerIs : Batch → List ℕ → ℕ → TreeId → ℕ → Type 0
@@ -45,8 +44,8 @@ ClaimerIs b notes k t r = First (λ i. eqb (get_or notes (CLAIMS + i) 0) 1 and s
 
 -- the first of k listed nodes that claims the tree that a node grafted, or k
 pub record ClaimedFromIs (b : Batch) (notes : List ℕ) (k : ℕ) (graft : Option TreeId) (r : ℕ) : Type 0 where
-  pub ungrafted : graft ≡ none → r ≡ k
-  pub of_graft : (t : TreeId) → graft ≡ some t → ClaimerIs b notes k t r
+  pub ungrafted : graft ≡ None → r ≡ k
+  pub of_graft : (t : TreeId) → graft ≡ Some t → ClaimerIs b notes k t r
 
 -- ## Searches
 
@@ -56,13 +55,13 @@ PositionIn notes from n x r = First (λ i. eqb (get_or notes (from + i) 0) x) n 
 
 -- the first slot whose node grafts t, or the number of slots
 abbrev pub HolderIs : List ℕ → TreeId → ℕ → Type 0
-HolderIs state t r = First (λ i. same_option same_tree (graft_in state i) (some t)) (slots_of state) r
+HolderIs state t r = First (λ i. same_option same_tree (graft_in state i) (Some t)) (slots_of state) r
 
 -- ## The words of the columns
 
 -- the slot of a link's parent, the number of nodes without one
 unfoldable pub slot_above : List ℕ → Option ParentAndIndex → ℕ
-slot_above state o = elim o [ none ↦ slots_of state | some l ↦ slot_at (forest state) l.parent ]
+slot_above state o = elim o [ None ↦ slots_of state | Some l ↦ slot_at (forest state) l.parent ]
 
 module _ (state bytes : List ℕ) (c : Scope) where
   -- the number of listed node i; child j of those that they name; where the children of listed node i end among these

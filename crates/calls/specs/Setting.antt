@@ -1,7 +1,6 @@
 -- What the phases of an update are given: a forest that passed number 1, or a start's, a batch that passed number 2, and its scope.
 -- Assumes nothing.
-use Rattle.std.specs.Prelude.{true, ◌||◌, List, ◌≡◌, ℕ, ◌≤◌, ltb, length, if◌then◌else◌}
-use Rattle.std.proofs.Math.Option.{Option, none, some}
+use Rattle.std.specs.Prelude.{true, ◌||◌, List, ◌≡◌, ℕ, ◌≤◌, ltb, length, if◌then◌else◌, Option, None, Some, option_map}
 use Rattle.base.specs.Tests.{all, distinct}
 use Rattle.ids.specs.Ids.{ROOT, same_tree, same_node}
 use Rattle.ids.specs.declared.FullNodeId.{FullNodeId}
@@ -23,7 +22,7 @@ pub record Batched (bytes : List ℕ) (b : Batch) : Type 0 where
 
 -- the root that a scope names
 unfoldable pub root_in : Scope → Option FullNodeId
-root_in c = if c.rooted then some (record { tree = c.tree; node = c.root }) else none
+root_in c = option_map (λ x. record { tree = c.tree; node = x }) c.root
 
 -- c is the scope of b over s
 pub record Scoped (s : Forest) (b : Batch) (c : Scope) : Type 0 where
@@ -38,7 +37,7 @@ pub record Scoped (s : Forest) (b : Batch) (c : Scope) : Type 0 where
 unfoldable pub asked : List ℕ → Scope → Batch
 asked bytes c = record {
   tree = (batch_of bytes).tree;
-  root = if c.with_tree_data then (batch_of bytes).root else none;
+  root = if c.with_tree_data then (batch_of bytes).root else None;
   focus = (batch_of bytes).focus;
   nodes = (batch_of bytes).nodes;
 }
@@ -54,8 +53,8 @@ pub record KeptForest (s : Forest) : Type 0 where
   pub few_trees : length s.trees ≤ 32
   pub few_children : length (entries_of s.nodes) ≤ 256
   pub fields : all (λ n. fields_ok n.body) s.nodes ≡ true
-  pub parent_present : (x : FullNodeId) (l : ParentAndIndex) → link_at s.nodes x ≡ some l → present s.nodes l.parent ≡ true
-  pub gone_parent : (b : Batch) (x : FullNodeId) (l : ParentAndIndex) → link_at s.nodes x ≡ some l
+  pub parent_present : (x : FullNodeId) (l : ParentAndIndex) → link_at s.nodes x ≡ Some l → present s.nodes l.parent ≡ true
+  pub gone_parent : (b : Batch) (x : FullNodeId) (l : ParentAndIndex) → link_at s.nodes x ≡ Some l
       → gone s b x ≡ fares (fate s b x l) (gone s b l.parent)
 
 -- What every phase is given: the words of a state that is kept, the bytes of a record that passed rows 5 to 8, and its scope.

@@ -1,5 +1,5 @@
 -- Which slots a column of marks picks, and their ids in the lent slice. Assumes nothing.
-use Rattle.std.specs.Prelude.{not, List, map, ◌++◌, ◌≡◌, ℕ, ◌+◌, ◌*◌, ◌≤◌, ◌<◌, ltb, length, get_or, take, drop, if◌then◌else◌}
+use Rattle.std.specs.Prelude.{List, map, ◌++◌, ◌≡◌, ℕ, ◌+◌, ◌*◌, ◌≤◌, ◌<◌, length, get_or, take, drop, Result, Ok, Err}
 use Rattle.base.specs.Tests.{keep}
 use Rattle.base.specs.Bytes.{bit, list_of}
 use Rattle.ids.specs.Ids.{id_words}
@@ -8,6 +8,7 @@ use Rattle.state_array.specs.View.{id_in, slots_of}
 use Rattle.update.specs.Reports.{Changes, change_words, slice_after}
 use Rattle.calls.specs.Layout.{WORDS, FATES, CHANGED}
 use Rattle.calls.specs.declared.reports.Lists.{Lists}
+use Rattle.calls.specs.declared.reports.TooShort.{TooShort}
 
 -- ## Marks
 
@@ -55,12 +56,22 @@ pub record ListWritten (xs : List FullNodeId) (at : ℕ) (before after : List �
   pub slice_is : after ≡ take at before ++ id_words xs ++ drop (at + 2 * length xs) before
   pub end_is : r ≡ at + 2 * length xs
 
--- the lengths of four lists, and the slice with the lists if it has room for them
-pub record ListsWritten (c : Changes) (before after : List ℕ) (l : Lists) : Type 0 where
+-- the slice has room for four lists, and has them: their lengths
+pub record ListsLent (c : Changes) (before after : List ℕ) (l : Lists) : Type 0 where
   pub added_is : l.added ≡ length c.added
   pub updated_is : l.updated ≡ length c.updated
   pub removed_is : l.removed ≡ length c.removed
   pub relinked_is : l.relinked ≡ length c.relinked
-  pub words_are : l.words ≡ length (change_words c)
-  pub fit_is : l.fit ≡ not (ltb (length before) (length (change_words c)))
-  pub slice_is : after ≡ (if l.fit then slice_after before c else before)
+  pub room : length (change_words c) ≤ length before
+  pub slice_is : after ≡ slice_after before c
+
+-- the slice is too short for them, and stays as it is: how many elements they take
+pub record ListsShort (c : Changes) (before after : List ℕ) (e : TooShort) : Type 0 where
+  pub words_are : e.words ≡ length (change_words c)
+  pub short : length before < length (change_words c)
+  pub slice_is : after ≡ before
+
+-- one or the other
+unfoldable pub ListsWritten : Changes → List ℕ → List ℕ → Result Lists TooShort → Type 0
+ListsWritten c before after (Ok l) = ListsLent c before after l
+ListsWritten c before after (Err e) = ListsShort c before after e

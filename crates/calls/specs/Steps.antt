@@ -1,6 +1,5 @@
 -- The pass a step at a time: where it stands, what is left of it, and what each step does. Assumes nothing.
-use Rattle.std.specs.Prelude.{Bool, true, false, ◌||◌, List, [], ◌∷◌, ◌++◌, ◌≡◌, ℕ, zero, suc, ◌+◌, ◌-◌, ◌≤◌, ◌<◌, eqb, ltb, length, get_or, take, drop, set, if◌then◌else◌}
-use Rattle.std.proofs.Math.Option.{none, some}
+use Rattle.std.specs.Prelude.{Bool, true, false, ◌||◌, List, [], ◌∷◌, ◌++◌, ◌≡◌, ℕ, zero, suc, ◌+◌, ◌-◌, ◌≤◌, ◌<◌, eqb, ltb, length, get_or, take, drop, set, if◌then◌else◌, Option, None, Some, IfSome}
 use Rattle.base.specs.Tests.{◌and◌, has, position}
 use Rattle.ids.specs.Ids.{same_tree, same_node}
 use Rattle.ids.specs.declared.TreeId.{TreeId}
@@ -19,7 +18,7 @@ use Rattle.calls.specs.declared.pass.Cause.{Cause}
 use Rattle.calls.specs.declared.pass.Cause.TheVariants.{NamedTwice}
 use Rattle.calls.specs.declared.pass.Step.{Step}
 use Rattle.calls.specs.declared.pass.Naming.{Naming}
-use Rattle.calls.specs.Causes.{cause_reason, cause_number, Within}
+use Rattle.calls.specs.Causes.{cause_reason, Within}
 
 -- ## When a node is placed at its turn
 
@@ -87,22 +86,27 @@ seen cs (suc j) = get_or cs j no_node ∷ seen cs j
 unfoldable pub placing : Batch → ℕ → List Event
 placing b i = if ltb i (length b.nodes) then places (listed_at b i) ∷ [] else []
 
+-- the placing of a listed node, if there is one
+abbrev pub placing_if : Batch → Option ℕ → List Event
+placing_if b None = []
+placing_if b (Some i) = placing b i
+
 -- the placing of a child that was listed earlier and waits to be named
 unfoldable pub waits : Forest → Batch → List Listed → NodeId → List Event
 waits s b earlier c =
-    elim (listing earlier c) [ none ↦ [] | some d ↦ if placed_at_turn s b c then [] else places (record { id = c; body = d }) ∷ [] ]
+    elim (listing earlier c) [ None ↦ [] | Some d ↦ if placed_at_turn s b c then [] else places (record { id = c; body = d }) ∷ [] ]
 
 -- what a step at child entry j of listed node i does
 pub record Moves (s : Forest) (b : Batch) (i j : ℕ) (r : Step) : Type 0 where
   pub there : At b r.i r.j
   pub listed : r.i ≤ length b.nodes
-  pub at_within : r.at ≤ 64
+  pub at_within : IfSome r.at (λ p. p < length b.nodes)
   pub one_more : r.i + r.j ≡ i + j + 1
   pub entry : r.twice ≡ true → j < length (named_ids b.nodes)
-  pub twice : (placed : List Listed) → r.twice ≡ true → pass_reason s b (seen (named_ids b.nodes) j) placed (rest s b i j) ≡ cause_reason s b (NamedTwice j)
+  pub twice : (placed : List Listed) → r.twice ≡ true → pass_reason s b (seen (named_ids b.nodes) j) placed (rest s b i j) ≡ Some (cause_reason s b (NamedTwice j))
   pub once : (placed : List Listed) → r.twice ≡ false
       → pass_reason s b (seen (named_ids b.nodes) j) placed (rest s b i j)
-      ≡ pass_reason s b (seen (named_ids b.nodes) r.j) placed (placing b r.at ++ rest s b r.i r.j)
+      ≡ pass_reason s b (seen (named_ids b.nodes) r.j) placed (placing_if b r.at ++ rest s b r.i r.j)
 
 -- what naming child entry j of listed node i does
 abbrev pub Names : Forest → Batch → ℕ → ℕ → Naming → Type 0
@@ -116,8 +120,8 @@ is_taken b notes done t m = eqb (get_or done m 0) 1 and eqb (get_or notes (CLAIM
 
 -- the nodes that are done are those placed so far, as far as claims go: each tree has the same claimer among both
 pub record Claimed (s : Forest) (b : Batch) (notes done : List ℕ) (placed : List Listed) : Type 0 where
-  pub free : (t : TreeId) → ((m : ℕ) → m < length b.nodes → is_taken b notes done t m ≡ false) → claimer_among s b placed t ≡ none
-  pub held : (t : TreeId) (m : ℕ) → m < length b.nodes → is_taken b notes done t m ≡ true → claimer_among s b placed t ≡ some (listed_at b m)
+  pub free : (t : TreeId) → ((m : ℕ) → m < length b.nodes → is_taken b notes done t m ≡ false) → claimer_among s b placed t ≡ None
+  pub held : (t : TreeId) (m : ℕ) → m < length b.nodes → is_taken b notes done t m ≡ true → claimer_among s b placed t ≡ Some (listed_at b m)
 
 -- the pass goes on after the placing of listed node i, and these nodes are placed then
 pub record GoesOn (s : Forest) (b : Batch) (notes done : List ℕ) (i : ℕ) (placed : List Listed) : Type 0 where
@@ -126,8 +130,8 @@ pub record GoesOn (s : Forest) (b : Batch) (notes done : List ℕ) (i : ℕ) (pl
   pub left : (seen : List NodeId) (es : List Event) → pass_reason s b seen placed (placing b i ++ es) ≡ pass_reason s b seen after es
 
 -- what placing listed node i meets
-pub record PlacedIs (s : Forest) (b : Batch) (notes done : List ℕ) (i : ℕ) (r : Cause) : Type 0 where
-  pub within : Within b r
-  pub goes : cause_number r ≡ 0 → i < length done → (placed : List Listed) → Claimed s b notes done placed → GoesOn s b notes done i placed
-  pub meets : (cause_number r ≡ 0 → ⊥) → (placed : List Listed) → Claimed s b notes done placed
-      → (seen : List NodeId) (es : List Event) → pass_reason s b seen placed (placing b i ++ es) ≡ cause_reason s b r
+pub record PlacedIs (s : Forest) (b : Batch) (notes done : List ℕ) (i : ℕ) (r : Option Cause) : Type 0 where
+  pub within : IfSome r (Within b)
+  pub goes : r ≡ None → i < length done → (placed : List Listed) → Claimed s b notes done placed → GoesOn s b notes done i placed
+  pub meets : (met : Cause) → r ≡ Some met → (placed : List Listed) → Claimed s b notes done placed
+      → (seen : List NodeId) (es : List Event) → pass_reason s b seen placed (placing b i ++ es) ≡ Some (cause_reason s b met)

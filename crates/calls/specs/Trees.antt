@@ -1,6 +1,5 @@
 -- The table of trees after a batch. Assumes nothing.
-use Rattle.std.specs.Prelude.{Bool, List, ℕ, ◌+◌, eqb, ltb, get_or, if◌then◌else◌}
-use Rattle.std.proofs.Math.Option.{none, some}
+use Rattle.std.specs.Prelude.{Bool, List, ℕ, ◌+◌, eqb, ltb, get_or, if◌then◌else◌, option_map}
 use Rattle.base.specs.Tests.{◌and◌}
 use Rattle.ids.specs.declared.TreeIndex.{TreeIndex}
 use Rattle.ids.specs.declared.FullNodeId.{FullNodeId}
@@ -23,7 +22,7 @@ tree_after state bytes c k = get_or (trees_after state bytes c) k no_tree
 
 -- the batch's tree: the root that the scope names, if any, and the batch's focus
 unfoldable pub own_entry : Batch → Scope → TreeEntry
-own_entry b c = record { id = b.tree; subtree = if c.rooted then some (record { root = c.root; focus = b.focus }) else none }
+own_entry b c = record { id = b.tree; subtree = option_map (λ x. record { root = x; focus = b.focus }) c.root }
 
 -- how many trees have numbers after a batch of a tree: a new one takes the next
 unfoldable pub trees_counted : List ℕ → TreeIndex → ℕ

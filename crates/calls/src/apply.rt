@@ -9,23 +9,20 @@ use crate::notes::{Notes, Refusal, Scope};
 use crate::{bodies, gone, pass, plan, reading, rows, writing};
 use state_array::State;
 
-// The first number of 9 to 20 that refuses the batch, 0 if none does; then the outcome stands in `next`, and the notes have the plan.
+// The first number of 9 to 20 that refuses the batch; if none does, the outcome stands in `next`, and the notes have the plan.
 pub(crate) fn apply<'a, 'b, 'c>(
     state: &'a State,
     batch: &'a [u8],
     scope: Scope,
     notes: &'b mut Notes,
     next: &'c mut State,
-) -> Refusal
+) -> Result<(), Refusal>
     requires told { Told 0 state.now batch.now scope notes.old }
     requires next_value { next.old ≡ blank_words }
     ensures { Applied state.now batch.now scope notes.new next.new result }
 {
     reading::write_words(state, batch, scope, notes);
-    let early = pass::pass_rows(state, batch, scope, notes);
-    if early.number != 0 {
-        return early;
-    }
+    pass::pass_rows(state, batch, scope, notes)?;
     write(state, batch, scope, notes, next);
     let k = scope.listed;
     let clash = rows::first_clash(notes, k) < k;

@@ -16,12 +16,9 @@ pub(crate) fn write_differs<'a>(state: &'a State, batch: &'a [u8], scope: Scope,
     requires { Told GONE state.now batch.now scope notes.old }
     ensures { Told COMPARED state.now batch.now scope notes.new }
 {
-    let k = scope.listed;
-    let mut i = 0usize;
-    while i < k {
+    for i in 0..scope.listed {
         let differs = differs_at(state, batch, scope, notes, i);
         notes[notes::DIFFERS + i] = differs;
-        i += 1;
     }
 }
 

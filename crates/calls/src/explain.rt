@@ -19,7 +19,6 @@ use reasons_why::Why;
 use record_layout::Offence;
 use replies::OptionalId;
 use state_array::State;
-use state_focus::FoundNode;
 
 // The way from ROOT's focus through the grafts: two words for a node, at most 33 nodes.
 pub type Way = [u64; 66];
@@ -89,8 +88,7 @@ fn update_why<'a, 'b>(state: &'a State, batch: &'a [u8], room: usize, way: &'b m
     ensures { Explains (why_update (view state.now) batch.now room) result way.new }
 {
     clear(way);
-    let refusal = rows::first_rows(state, batch);
-    if refusal.number != 0 {
+    if rows::first_rows(state, batch).is_err() {
         return first_why(state, batch);
     }
     later_why(state, batch, room, way)
@@ -102,8 +100,7 @@ fn start_why<'a, 'b, 'c>(memory: &'a mut State, batch: &'b [u8], way: &'c mut Wa
     ensures { Explains (why_start batch.now) result way.new }
 {
     clear(way);
-    let refusal = rows::start_rows(batch);
-    if refusal.number != 0 {
+    if rows::start_rows(batch).is_err() {
         return first_start_why(batch);
     }
     later_start_why(memory, batch, way)
@@ -124,8 +121,7 @@ fn first_why<'a>(state: &'a State, batch: &'a [u8]) -> Why
     if !state_sound::sound(state) {
         return reasons_shape::broken_state(state);
     }
-    let o = record_layout::offence(batch);
-    if o.rule != 0 {
+    if let Some(o) = record_layout::offence(batch) {
         return offence_why(o);
     }
     let scope = rows::scope_of(state, batch);
@@ -136,15 +132,14 @@ fn first_why<'a>(state: &'a State, batch: &'a [u8]) -> Why
 fn first_start_why(batch: &[u8]) -> Why
     ensures { result ≡ why_for (first_reason (start_reasons batch.now)) }
 {
-    let o = record_layout::offence(batch);
-    if o.rule != 0 {
+    if let Some(o) = record_layout::offence(batch) {
         return offence_why(o);
     }
     if !record_reader::has_tree_data(batch) {
         return why_rows::of_tree(3, TreeId { high: 0, low: 0 });
     }
     let id = record_reader::tree_id(batch);
-    if !ids::same_tree(id, TreeId { high: 0, low: 0 }) {
+    if id != (TreeId { high: 0, low: 0 }) {
         return why_rows::of_tree(4, id);
     }
     why_rows::listed_again(batch, TreeIndex(0))
@@ -160,9 +155,9 @@ fn offence_why(o: Offence) -> Why
         place: o.offset,
         other: 0,
         tree: TreeId { high: 0, low: 0 },
-        node: FoundNode::Nothing,
-        by: FoundNode::Nothing,
-        also: FoundNode::Nothing,
+        node: None,
+        by: None,
+        also: None,
     }
 }
 

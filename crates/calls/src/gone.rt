@@ -33,13 +33,10 @@ fn write_above<'a>(state: &'a State, batch: &'a [u8], scope: Scope, notes: &mut 
     requires { Told READ state.now batch.now scope notes.old }
     ensures { Told ABOVE_TOLD state.now batch.now scope notes.new }
 {
-    let n = state_array::slots(state);
     let mut near = 0usize;
-    let mut i = 0usize;
-    while i < n {
+    for i in 0..state_array::slots(state) {
         near = parent_slot(state, near, state_array::link_at(state, i));
         notes[notes::ABOVE + i] = near as u64;
-        i += 1;
     }
 }
 
@@ -54,7 +51,7 @@ fn parent_slot(state: &State, near: usize, l: LinkRow) -> usize
     }
     let parent = l.parent;
     if near < n {
-        if ids::same_id(parent, state_array::id_at(state, near)) {
+        if parent == state_array::id_at(state, near) {
             return near;
         }
     }
@@ -66,12 +63,9 @@ fn write_fates<'a>(state: &'a State, batch: &'a [u8], scope: Scope, notes: &mut 
     requires { Told ABOVE_TOLD state.now batch.now scope notes.old }
     ensures { Fated 0 state.now batch.now scope notes.new }
 {
-    let n = state_array::slots(state);
-    let mut i = 0usize;
-    while i < n {
+    for i in 0..state_array::slots(state) {
         let fate = fate_at(state, batch, scope, notes, i);
         notes[notes::FATES + i] = fate;
-        i += 1;
     }
 }
 
@@ -96,11 +90,11 @@ pub(crate) fn fate_at<'a>(
     }
     let p = l.parent;
     let slot = notes[notes::ABOVE + i] as usize;
-    if x.tree.0 == scope.tree.0 {
+    if x.tree == scope.tree {
         let parent_turn = notes[notes::TURNS + slot];
         return fate_here(scope, x, p, turn, naming, parent_turn);
     }
-    if p.tree.0 == x.tree.0 {
+    if p.tree == x.tree {
         return AS_PARENT;
     }
     fate_under(state, batch, scope, notes, slot)
@@ -117,7 +111,7 @@ fn goes_if(goes: bool) -> u64
 fn replaced(scope: Scope, x: FullNodeId, turn: u64, naming: u64) -> bool
     ensures { ReplacedIs scope x turn naming result }
 {
-    (x.tree.0 == scope.tree.0)
+    (x.tree == scope.tree)
         & scope.with_tree_data
         & !notes::is_root(scope, x)
         & (turn == 0)
@@ -135,7 +129,7 @@ fn fate_here(
 ) -> u64
     ensures { FateHereIs scope x p turn naming parent_turn result }
 {
-    if p.tree.0 != scope.tree.0 {
+    if p.tree != scope.tree {
         return goes_if(replaced(scope, x, turn, naming));
     }
     if 0 < naming {
@@ -181,13 +175,10 @@ fn write_goes<'a>(state: &'a State, batch: &'a [u8], scope: Scope, notes: &mut N
     requires { Fated 0 state.now batch.now scope notes.old }
     ensures { Told GONE state.now batch.now scope notes.new }
 {
-    let n = state_array::slots(state);
-    let mut i = 0usize;
-    while i < n {
+    for i in 0..state_array::slots(state) {
         let goes = climbed(state, batch, scope, notes, i);
         pass_on(state, batch, scope, notes, i, goes);
         notes[notes::FATES + i] = goes;
-        i += 1;
     }
 }
 
@@ -198,14 +189,13 @@ fn climbed<'a>(state: &'a State, batch: &'a [u8], scope: Scope, notes: &'a Notes
     ensures { result ≡ goes_word state.now batch.now scope i }
 {
     let mut at = i;
-    let mut room = state_array::slots(state);
-    while 0 < room {
+    // No way up has more steps than there are slots.
+    for _ in 0..state_array::slots(state) {
         let known = notes[notes::FATES + at];
         if known != AS_PARENT {
             return known;
         }
         at = notes[notes::ABOVE + at] as usize;
-        room -= 1;
     }
     STAYS
 }
@@ -224,14 +214,13 @@ fn pass_on<'a>(
     ensures { Fated i state.now batch.now scope notes.new }
 {
     let mut at = i;
-    let mut room = state_array::slots(state);
-    while 0 < room {
+    // No way up has more steps than there are slots.
+    for _ in 0..state_array::slots(state) {
         if notes[notes::FATES + at] != AS_PARENT {
             return;
         }
         let next = notes[notes::ABOVE + at] as usize;
         notes[notes::FATES + at] = goes;
         at = next;
-        room -= 1;
     }
 }

@@ -36,8 +36,7 @@ pub fn start<'a, 'b>(state: &'a mut State, batch: &'b [u8], host_focused: u32) -
     ensures { Starts batch.now host_focused state.new result }
 {
     state_array::clear(state);
-    let refusal = rows::start_rows(batch);
-    if refusal.number != 0 {
+    if let Err(refusal) = rows::start_rows(batch) {
         return replies::refused(refusal.number);
     }
     started(state, batch, host_focused)
@@ -47,8 +46,7 @@ pub fn start<'a, 'b>(state: &'a mut State, batch: &'b [u8], host_focused: u32) -
 pub fn update<'a, 'b, 'c>(state: &'a mut State, batch: &'b [u8], changes: &'c mut [u64]) -> Reply
     ensures { Updates state.old batch.now changes.old state.new result changes.new }
 {
-    let refusal = rows::first_rows(state, batch);
-    if refusal.number != 0 {
+    if let Err(refusal) = rows::first_rows(state, batch) {
         return replies::refused(refusal.number);
     }
     updated(state, batch, changes)
@@ -85,8 +83,7 @@ fn started<'a, 'b>(state: &'a mut State, batch: &'b [u8], host_focused: u32) -> 
     let scope = rows::start_scope(batch);
     let mut notes = [0u64; notes::WORDS];
     let mut first = [0u64; state_array::WORDS];
-    let refusal = apply::apply(state, batch, scope, &mut notes, &mut first);
-    if refusal.number != 0 {
+    if let Err(refusal) = apply::apply(state, batch, scope, &mut notes, &mut first) {
         state_array::clear(state);
         return replies::refused(refusal.number);
     }
@@ -105,15 +102,13 @@ fn updated<'a, 'b, 'c>(state: &'a mut State, batch: &'b [u8], changes: &'c mut [
     let scope = rows::scope_of(state, batch);
     let mut notes = [0u64; notes::WORDS];
     let mut next = [0u64; state_array::WORDS];
-    let refusal = apply::apply(state, batch, scope, &mut notes, &mut next);
-    if refusal.number != 0 {
+    if let Err(refusal) = apply::apply(state, batch, scope, &mut notes, &mut next) {
         return replies::refused(refusal.number);
     }
     reports::write_changed(state, batch, scope, &mut notes, &next);
-    let lists = reports::write_lists(state, &notes, &next, changes);
-    if !lists.fit {
+    let Ok(lists) = reports::write_lists(state, &notes, &next, changes) else {
         return replies::refused(21);
-    }
+    };
     let report = reports::report_update(state, &notes, &next);
     *state = next;
     answers::accepted(answers::lengths_of(lists), report)

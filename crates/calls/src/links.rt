@@ -1,5 +1,4 @@
 // The parent links after a batch, each worked out once.
-ghost use Rattle.std.proofs.Math.Option.{none, some};
 ghost use Rattle.std.specs.Prelude.{◌≡◌, suc, ◌+◌, ◌-◌, ◌≤◌, ◌<◌, ltb, get_or, if◌then◌else◌};
 ghost use Rattle.base.specs.Search.{First};
 ghost use Rattle.state_array.specs.Stored.{link_row};
@@ -48,7 +47,7 @@ fn link_of_old<'a>(
 {
     let x = state_array::id_at(state, i);
     let was = canonical(state_array::link_at(state, i));
-    if x.tree.0 != scope.tree.0 {
+    if x.tree != scope.tree {
         let slot = notes[notes::ABOVE + i] as usize;
         return link_elsewhere(state, batch, scope, notes, slot, x, was);
     }
@@ -137,6 +136,7 @@ fn owner_of(notes: &Notes, k: usize, j: u64) -> usize
 {
     let mut low = 0usize;
     let mut high = k;
+    // Not a `for`: what is left is halved each time.
     while low < high {
         let middle = low + (high - low) / 2;
         if j < notes[notes::ENDS + middle] {
@@ -151,7 +151,7 @@ fn owner_of(notes: &Notes, k: usize, j: u64) -> usize
 // The link of the child at entry j of those that are named, one of listed node i's.
 fn named_link(scope: Scope, notes: &Notes, i: usize, j: u64) -> LinkRow
     requires { (i < 64) × (start_noted notes.now i ≤ j) }
-    ensures { result ≡ link_row (some (record { parent = id_noted scope notes.now (at.LISTED + i); index = j - start_noted notes.now i })) }
+    ensures { result ≡ link_row (Some (record { parent = id_noted scope notes.now (at.LISTED + i); index = j - start_noted notes.now i })) }
 {
     let parent = notes::listed_id(scope, notes, i);
     if i < 1 {
@@ -174,7 +174,7 @@ fn link_elsewhere<'a>(
     requires { Told COMPARED state.now batch.now scope notes.now }
     ensures { LinkElsewhereIs state.now batch.now scope slot x was result }
 {
-    if (was.linked == 0) | (was.parent.tree.0 == x.tree.0) {
+    if (was.linked == 0) | (was.parent.tree == x.tree) {
         return was;
     }
     let k = scope.listed;
@@ -197,7 +197,7 @@ fn canonical(l: LinkRow) -> LinkRow
 
 // A link at a place under a parent.
 fn under(parent: FullNodeId, index: u64) -> LinkRow
-    ensures { result ≡ link_row (some (record { parent = parent; index = index })) }
+    ensures { result ≡ link_row (Some (record { parent = parent; index = index })) }
 {
     LinkRow {
         parent,
@@ -208,7 +208,7 @@ fn under(parent: FullNodeId, index: u64) -> LinkRow
 
 // No link.
 fn unlinked() -> LinkRow
-    ensures { result ≡ link_row none }
+    ensures { result ≡ link_row None }
 {
     LinkRow {
         parent: FullNodeId {

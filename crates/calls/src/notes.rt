@@ -1,8 +1,8 @@
 // The notes of an update: its working words, in columns; what its phases are given, and questions about ids, grafts and roots that several
 // of them ask. specs/Layout.antt has the same numbers for contracts, specs/Says.antt what each column says.
-ghost use Rattle.std.specs.Prelude.{◌≡◌, ◌+◌, ◌≤◌, ◌<◌};
-ghost use Rattle.std.proofs.Math.Option.{some};
+ghost use Rattle.std.specs.Prelude.{◌≡◌, ◌+◌, ◌≤◌, ◌<◌, eqb, length, get_or};
 ghost use Rattle.base.specs.Tests.{is_some, same_option};
+ghost use Rattle.base.specs.Search.{First};
 ghost use Rattle.ids.specs.Ids.{same_tree, same_id};
 ghost use Rattle.record.specs.Batch.{graft?};
 ghost use Rattle.record.specs.Parse.{batch_of};
@@ -10,7 +10,8 @@ ghost use Rattle.record_reader.specs.Reader.{listed_at};
 ghost use Rattle.state_array.specs.Layout.{SLOTS};
 ghost use Rattle.calls.specs.Layout.{WORDS, LISTED};
 ghost use Rattle.calls.specs.Noted.{id_noted, code_noted};
-ghost use Rattle.calls.specs.Setting.{root_in, refusal};
+ghost use Rattle.calls.specs.Setting.{root_in};
+ghost use Rattle.calls.specs.Refusals.{verdict};
 ghost use Rattle.calls.specs.Says.{graft_below, ClaimerIs, ClaimedFromIs, PositionIn, HolderIs};
 
 use ids::{FullNodeId, NodeId, TreeId, TreeIndex};
@@ -62,28 +63,30 @@ pub struct Scope {
     pub listed: usize,
     pub named: usize,
     pub with_tree_data: bool,
-    pub rooted: bool,
-    pub root: NodeId,
+    pub root: Option<NodeId>,
 }
 
-// Why a phase turns a batch away: a number of document 01's table, 0 where it does not, and a place for a node's id.
+// Why a phase turns a batch away: a number of document 01's table, and a place for a node's id.
 #[derive(Clone, Copy)]
 pub struct Refusal {
     pub number: u8,
     pub node: FullNodeId,
 }
 
-// A refusal by a number alone.
-pub(crate) fn refuse(number: u8) -> Refusal
-    ensures { result ≡ refusal number }
+// A refusal by a number alone, none by 0.
+pub(crate) fn refuse(number: u8) -> Result<(), Refusal>
+    ensures { result ≡ verdict number }
 {
-    Refusal {
+    if number == 0 {
+        return Ok(());
+    }
+    Err(Refusal {
         number,
         node: FullNodeId {
             tree: TreeIndex(0),
             node: NodeId(0),
         },
-    }
+    })
 }
 
 // The id of listed node i.
@@ -134,7 +137,7 @@ pub(crate) fn same_graft<'a>(state: &'a State, batch: &'a [u8], i: usize, slot: 
         return !old;
     }
     let d = state_array::shape_at(state, slot);
-    old & ids::same_tree(record_reader::graft(batch, i), d.graft)
+    old & (record_reader::graft(batch, i) == d.graft)
 }
 
 // The first of k listed nodes that claims a tree, or k.
@@ -142,12 +145,10 @@ fn claimer_of<'a>(batch: &'a [u8], notes: &'a Notes, k: usize, t: TreeId) -> usi
     requires { k ≤ 64 }
     ensures { ClaimerIs (batch_of batch.now) notes.now k t result }
 {
-    let mut i = 0usize;
-    while i < k {
-        if (notes[CLAIMS + i] == 1) & ids::same_tree(record_reader::graft(batch, i), t) {
+    for i in 0..k {
+        if (notes[CLAIMS + i] == 1) & (record_reader::graft(batch, i) == t) {
             return i;
         }
-        i += 1;
     }
     k
 }
@@ -172,9 +173,22 @@ pub(crate) fn claimed_from<'a>(
 
 // Whether x is the root as the batch leaves it.
 pub(crate) fn is_root(scope: Scope, x: FullNodeId) -> bool
-    ensures { result ≡ same_option same_id (root_in scope) (some x) }
+    ensures { result ≡ same_option same_id (root_in scope) (Some x) }
 {
-    scope.rooted & (scope.tree.0 == x.tree.0) & (scope.root.0 == x.node.0)
+    let Some(root) = scope.root else {
+        return false;
+    };
+    (scope.tree == x.tree) & (root == x.node)
+}
+
+// The first of some words that is x, or their number.
+pub(crate) fn first_of(words: &[u64], x: u64) -> usize
+    ensures { First (λ i. eqb (get_or words.now i 0) x) (length words.now) result }
+{
+    words
+        .iter()
+        .position(|&word| word == x)
+        .unwrap_or(words.len())
 }
 
 // The first of the n words from `from` on that is x, or n.
@@ -182,14 +196,7 @@ pub(crate) fn position_in(notes: &Notes, from: usize, n: usize, x: u64) -> usize
     requires { from + n ≤ WORDS }
     ensures { PositionIn notes.now from n x result }
 {
-    let mut i = 0usize;
-    while i < n {
-        if notes[from + i] == x {
-            return i;
-        }
-        i += 1;
-    }
-    n
+    first_of(&notes[from..from + n], x)
 }
 
 // The first slot whose node grafts a tree, or the number of slots.
@@ -197,13 +204,11 @@ pub(crate) fn holder_of(state: &State, t: TreeId) -> usize
     ensures { HolderIs state.now t result }
 {
     let n = state_array::slots(state);
-    let mut i = 0usize;
-    while i < n {
+    for i in 0..n {
         let d = state_array::shape_at(state, i);
-        if state_array::is_graft(d.flags) & ids::same_tree(d.graft, t) {
+        if state_array::is_graft(d.flags) & (d.graft == t) {
             return i;
         }
-        i += 1;
     }
     n
 }

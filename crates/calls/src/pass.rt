@@ -2,7 +2,8 @@
 ghost use Rattle.std.specs.Prelude.{◌≡◌, ◌+◌, ◌≤◌, ◌<◌, ltb, get_or};
 ghost use Rattle.base.specs.Search.{First};
 ghost use Rattle.record.specs.Parse.{batch_of};
-ghost use Rattle.calls.specs.Setting.{forest, asked, refusal};
+ghost use Rattle.calls.specs.Setting.{forest, asked};
+ghost use Rattle.calls.specs.Refusals.{verdict};
 ghost use Rattle.calls.specs.Says.{Told, READ};
 ghost use Rattle.calls.specs.Causes.{cause_number};
 ghost use Rattle.calls.specs.Steps.{due_of, Due, DueRoom, Firsts, Prepared, entries_before, Standing, Moves, Names, is_taken, PlacedIs};
@@ -17,27 +18,25 @@ use state_array::State;
 const NONE: usize = 64;
 
 // Where the pass stands after a step: at child entry j of listed node i. `twice` is whether the step named a child named before,
-// `at` the listed node that it placed, NONE if none.
+// `at` the listed node that it places, if it places one.
 #[derive(Clone, Copy)]
 struct Step {
     i: usize,
     j: usize,
     twice: bool,
-    at: usize,
+    at: Option<usize>,
 }
 
 // The same of a step that names a child: it goes on to the next entry.
 #[derive(Clone, Copy)]
 struct Naming {
     twice: bool,
-    at: usize,
+    at: Option<usize>,
 }
 
 // What makes the first of rows 9 to 14 hold, listed nodes and child entries by their places.
 #[derive(Clone, Copy)]
 pub enum Cause {
-    // None of them holds.
-    Nothing,
     // 9: the entry names a child that an earlier one names.
     NamedTwice(usize),
     // 10 and 11: the listed node.
@@ -57,11 +56,14 @@ pub(crate) fn pass_rows<'a>(
     batch: &'a [u8],
     scope: Scope,
     notes: &'a Notes,
-) -> Refusal
+) -> Result<(), Refusal>
     requires { Told READ state.now batch.now scope notes.now }
-    ensures { result ≡ refusal (pass_number (forest state.now) (asked batch.now scope)) }
+    ensures { result ≡ verdict (pass_number (forest state.now) (asked batch.now scope)) }
 {
-    notes::refuse(number_of(cause_of(state, batch, scope, notes)))
+    let Some(cause) = cause_of(state, batch, scope, notes) else {
+        return Ok(());
+    };
+    notes::refuse(number_of(cause))
 }
 
 // The number of a cause.
@@ -69,7 +71,6 @@ fn number_of(cause: Cause) -> u8
     ensures { result ≡ cause_number cause }
 {
     match cause {
-        Cause::Nothing => 0,
         Cause::NamedTwice(_) => 9,
         Cause::GraftOverChildren(_) => 10,
         Cause::GraftOfRoot(_) => 11,
@@ -79,31 +80,30 @@ fn number_of(cause: Cause) -> u8
     }
 }
 
-// What makes the first of rows 9 to 14 hold.
+// What makes the first of rows 9 to 14 hold, if one holds.
 pub(crate) fn cause_of<'a>(
     state: &'a State,
     batch: &'a [u8],
     scope: Scope,
     notes: &'a Notes,
-) -> Cause
+) -> Option<Cause>
     requires { Told READ state.now batch.now scope notes.now }
     ensures { RowsExplained (forest state.now) (asked batch.now scope) result }
 {
     let due = dues(state, batch, scope, notes);
     let firsts = firsts_of(scope.listed, &due);
-    let met = fault(state, batch, scope, notes, &due, &firsts);
-    if number_of(met) != 0 {
-        return met;
+    if let Some(met) = fault(state, batch, scope, notes, &due, &firsts) {
+        return Some(met);
     }
     let i = placeless(scope, &due);
     if i < scope.listed {
-        return Cause::WithoutPlace(i);
+        return Some(Cause::WithoutPlace(i));
     }
     let j = nowhere(state, batch, scope, notes, &due, &firsts);
     if j < scope.named {
-        return Cause::ChildNowhere(j);
+        return Some(Cause::ChildNowhere(j));
     }
-    Cause::Nothing
+    None
 }
 
 // For each listed node the number of named children from which on it is placed at its turn.
@@ -111,12 +111,9 @@ fn dues<'a>(state: &'a State, batch: &'a [u8], scope: Scope, notes: &'a Notes) -
     requires { Told READ state.now batch.now scope notes.now }
     ensures { Due (forest state.now) (asked batch.now scope) result }
 {
-    let k = scope.listed;
     let mut out = [0usize; 64];
-    let mut i = 0usize;
-    while i < k {
+    for i in 0..scope.listed {
         out[i] = due_of(state, batch, scope, notes, i);
-        i += 1;
     }
     out
 }
@@ -151,16 +148,13 @@ fn firsts_of(k: usize, due: &[usize; 64]) -> [usize; 258]
     ensures { Firsts k due.now result }
 {
     let mut out = [NONE; 258];
-    let mut i = 0usize;
-    while i < k {
-        let d = due[i];
+    for (i, &d) in due[..k].iter().enumerate() {
         out[d] = i;
-        i += 1;
     }
     out
 }
 
-// Rows 9 to 12: the first that the pass meets.
+// Rows 9 to 12: the first that the pass meets, if it meets one.
 fn fault<'a>(
     state: &'a State,
     batch: &'a [u8],
@@ -168,29 +162,30 @@ fn fault<'a>(
     notes: &'a Notes,
     due: &'a [usize; 64],
     firsts: &'a [usize; 258],
-) -> Cause
+) -> Option<Cause>
     requires { Prepared state.now batch.now scope notes.now due.now firsts.now }
     ensures { PassExplained (forest state.now) (asked batch.now scope) result }
 {
     let k = scope.listed;
-    let mut done = [0u8; 65];
+    let mut done = [0u8; 64];
     let mut i = 0usize;
     let mut j = 0usize;
+    // Not a `for`: a step goes on to the next child entry or to the next listed node.
     while i < k {
         let next = next_step(state, batch, scope, notes, due, firsts, i, j);
         if next.twice {
-            return Cause::NamedTwice(j);
+            return Some(Cause::NamedTwice(j));
         }
-        let at = next.at;
-        let met = placed(state, batch, scope, notes, &done, at);
-        if number_of(met) != 0 {
-            return met;
+        if let Some(at) = next.at {
+            if let Some(met) = placed(state, batch, scope, notes, &done, at) {
+                return Some(met);
+            }
+            done[at] = 1;
         }
-        done[at] = 1;
         i = next.i;
         j = next.j;
     }
-    Cause::Nothing
+    None
 }
 
 // The step at child entry j of listed node i: the child is named, or the node's own turn comes.
@@ -223,14 +218,14 @@ fn next_step<'a>(
             i: node,
             j,
             twice: false,
-            at: i,
+            at: Some(i),
         };
     }
     Step {
         i: node,
         j,
         twice: false,
-        at: NONE,
+        at: None,
     }
 }
 
@@ -254,7 +249,7 @@ fn name_step<'a>(
         let first = notes[notes::NAMINGS + slot] as usize;
         return Naming {
             twice: first <= j,
-            at: NONE,
+            at: None,
         };
     }
     new_step(state, batch, scope, notes, due, firsts, i, j)
@@ -279,18 +274,18 @@ fn new_step<'a>(
     if p < i {
         return Naming {
             twice: false,
-            at: p,
+            at: Some(p),
         };
     }
     if p < NONE {
         return Naming {
             twice: false,
-            at: NONE,
+            at: None,
         };
     }
     let x = notes[notes::NAMED + j];
     let twice = notes::position_in(notes, notes::NAMED, j, x) < j;
-    Naming { twice, at: NONE }
+    Naming { twice, at: None }
 }
 
 // What placing listed node i meets, after those that are done: row 10, 11, 12 or none.
@@ -299,31 +294,28 @@ fn placed<'a>(
     batch: &'a [u8],
     scope: Scope,
     notes: &'a Notes,
-    done: &'a [u8; 65],
+    done: &'a [u8; 64],
     i: usize,
-) -> Cause
-    requires { Told READ state.now batch.now scope notes.now }
+) -> Option<Cause>
+    requires told { Told READ state.now batch.now scope notes.now }
+    requires i_lt_listed { i < scope.listed }
     ensures { PlacedIs (forest state.now) (asked batch.now scope) notes.now done.now i result }
 {
-    let k = scope.listed;
-    if k <= i {
-        return Cause::Nothing;
-    }
     if notes::grafts_new(batch, i) & (0 < record_reader::child_count(batch, i)) {
-        return Cause::GraftOverChildren(i);
+        return Some(Cause::GraftOverChildren(i));
     }
     if notes[notes::CLAIMS + i] != 1 {
-        return Cause::Nothing;
+        return None;
     }
     let t = record_reader::graft(batch, i);
-    if ids::same_tree(t, TreeId { high: 0, low: 0 }) {
-        return Cause::GraftOfRoot(i);
+    if t == (TreeId { high: 0, low: 0 }) {
+        return Some(Cause::GraftOfRoot(i));
     }
     let m = claimer(state, batch, scope, notes, done, t);
-    if m < k {
-        return Cause::ClaimedTwice(i, m);
+    if m < scope.listed {
+        return Some(Cause::ClaimedTwice(i, m));
     }
-    Cause::Nothing
+    None
 }
 
 // The first listed node that is done and claims the tree t, or their number.
@@ -332,32 +324,30 @@ fn claimer<'a>(
     batch: &'a [u8],
     scope: Scope,
     notes: &'a Notes,
-    done: &'a [u8; 65],
+    done: &'a [u8; 64],
     t: TreeId,
 ) -> usize
     requires { Told READ state.now batch.now scope notes.now }
     ensures { First (is_taken (asked batch.now scope) notes.now done.now t) scope.listed result }
 {
     let k = scope.listed;
-    let mut i = 0usize;
-    while i < k {
+    for i in 0..k {
         if takes(batch, notes, done, i, t) {
             return i;
         }
-        i += 1;
     }
     k
 }
 
 // Whether listed node i is done and claims the tree t.
-fn takes<'a>(batch: &'a [u8], notes: &'a Notes, done: &'a [u8; 65], i: usize, t: TreeId) -> bool
+fn takes<'a>(batch: &'a [u8], notes: &'a Notes, done: &'a [u8; 64], i: usize, t: TreeId) -> bool
     requires { i < 64 }
     ensures { result ≡ is_taken (batch_of batch.now) notes.now done.now t i }
 {
     if (done[i] != 1) | (notes[notes::CLAIMS + i] != 1) {
         return false;
     }
-    ids::same_tree(record_reader::graft(batch, i), t)
+    record_reader::graft(batch, i) == t
 }
 
 // Row 13: the first listed node that is left without a place, or their number.
@@ -367,12 +357,10 @@ fn placeless(scope: Scope, due: &[usize; 64]) -> usize
 {
     let k = scope.listed;
     let e = scope.named;
-    let mut i = 0usize;
-    while i < k {
-        if e < due[i] {
+    for (i, &d) in due[..k].iter().enumerate() {
+        if e < d {
             return i;
         }
-        i += 1;
     }
     k
 }
@@ -390,12 +378,10 @@ fn nowhere<'a>(
     ensures { FirstNowhere (forest state.now) (asked batch.now scope) scope.named result }
 {
     let e = scope.named;
-    let mut j = 0usize;
-    while j < e {
+    for j in 0..e {
         if nowhere_at(state, batch, scope, notes, due, firsts, j) {
             return j;
         }
-        j += 1;
     }
     e
 }

@@ -34,12 +34,9 @@ fn write_staying<'a>(state: &'a State, batch: &'a [u8], scope: Scope, notes: &mu
     requires { Told COMPARED state.now batch.now scope notes.old }
     ensures { Planned (slots_of state.now) 0 state.now batch.now scope notes.new result }
 {
-    let n = state_array::slots(state);
     let mut count = 0usize;
-    let mut i = 0usize;
-    while i < n {
+    for i in 0..state_array::slots(state) {
         count = keep_slot(state, batch, scope, notes, i, count);
-        i += 1;
     }
     count
 }
@@ -75,12 +72,9 @@ fn write_new<'a>(
     requires { Planned (slots_of state.now) 0 state.now batch.now scope notes.old staying }
     ensures { Planned (slots_of state.now) scope.listed state.now batch.now scope notes.new result }
 {
-    let k = scope.listed;
     let mut count = staying;
-    let mut j = 0usize;
-    while j < k {
+    for j in 0..scope.listed {
         count = add_listed(state, batch, scope, notes, j, count);
-        j += 1;
     }
     count
 }
@@ -124,6 +118,7 @@ fn place_of<'a>(
     let x = notes::id_of(state, scope, notes, state_array::SLOTS + j);
     let mut low = 0usize;
     let mut high = count;
+    // Not a `for`: what is left is halved each time.
     while low < high {
         let middle = low + (high - low) / 2;
         let code = notes[notes::CODES + middle] as usize;
@@ -142,11 +137,10 @@ fn insert(notes: &mut Notes, count: usize, at: usize, code: u64)
     requires notes_len { length notes.old ≡ WORDS }
     ensures { Inserted notes.old count at code notes.new }
 {
-    let mut r = count;
-    while at < r {
-        notes[notes::CODES + r] = notes[notes::CODES + (r - 1)];
-        r -= 1;
-    }
+    notes.copy_within(
+        notes::CODES + at..notes::CODES + count,
+        notes::CODES + at + 1,
+    );
     notes[notes::CODES + at] = code;
 }
 
@@ -156,11 +150,9 @@ fn write_sources<'a>(state: &'a State, batch: &'a [u8], scope: Scope, notes: &mu
     ensures { Told PLANNED state.now batch.now scope notes.new }
 {
     let count = notes[notes::COUNT] as usize;
-    let mut r = 0usize;
-    while r < count {
+    for r in 0..count {
         let source = source_of(state, batch, scope, notes, r);
         notes[notes::SOURCES + r] = source;
-        r += 1;
     }
 }
 

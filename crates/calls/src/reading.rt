@@ -32,12 +32,9 @@ fn write_listed<'a>(state: &'a State, batch: &'a [u8], scope: Scope, notes: &mut
     requires { Told 0 state.now batch.now scope notes.old }
     ensures { Told 1 state.now batch.now scope notes.new }
 {
-    let k = scope.listed;
-    let mut i = 0usize;
-    while i < k {
+    for i in 0..scope.listed {
         let x = record_reader::node_id(batch, i);
         notes[notes::LISTED + i] = x.0;
-        i += 1;
     }
 }
 
@@ -46,12 +43,9 @@ fn write_named<'a>(state: &'a State, batch: &'a [u8], scope: Scope, notes: &mut 
     requires { Told 1 state.now batch.now scope notes.old }
     ensures { Told 2 state.now batch.now scope notes.new }
 {
-    let k = scope.named;
-    let mut i = 0usize;
-    while i < k {
+    for i in 0..scope.named {
         let x = record_view::read_entry(batch, i);
         notes[notes::NAMED + i] = x.0;
-        i += 1;
     }
 }
 
@@ -60,12 +54,9 @@ fn write_ends<'a>(state: &'a State, batch: &'a [u8], scope: Scope, notes: &mut N
     requires { Told 2 state.now batch.now scope notes.old }
     ensures { Told 3 state.now batch.now scope notes.new }
 {
-    let k = scope.listed;
-    let mut i = 0usize;
-    while i < k {
+    for i in 0..scope.listed {
         let end = record_reader::first_child(batch, i) + record_reader::child_count(batch, i);
         notes[notes::ENDS + i] = end as u64;
-        i += 1;
     }
 }
 
@@ -104,15 +95,13 @@ fn find_each(state: &State, t: TreeIndex, notes: &mut Notes, from: usize, count:
     requires slot_room { SlotRoom from count to }
     ensures { notes.new ≡ fill to count (slot_word state.now t notes.old from) notes.old }
 {
-    let mut j = 0usize;
-    while j < count {
+    for j in 0..count {
         let x = FullNodeId {
             tree: t,
             node: NodeId(notes[from + j]),
         };
         let slot = state_lookup::slot_of(state, x);
         notes[to + j] = slot as u64;
-        j += 1;
     }
 }
 
@@ -140,11 +129,7 @@ fn clear(notes: &mut Notes, to: usize, n: usize)
     requires { Room to n }
     ensures { notes.new ≡ fill to n (λ i. 0) notes.old }
 {
-    let mut i = 0usize;
-    while i < n {
-        notes[to + i] = 0;
-        i += 1;
-    }
+    notes[to..to + n].fill(0);
 }
 
 // For each of n slots, one more than the first of count places that has it; 0 stands there already.
@@ -152,14 +137,10 @@ fn mark(notes: &mut Notes, from: usize, count: usize, to: usize, n: usize)
     requires { MarkRoom from count to n notes.old }
     ensures { Marked from count to n notes.old notes.new }
 {
-    let mut j = 0usize;
-    while j < count {
+    for j in 0..count {
         let i = notes[from + j] as usize;
-        j += 1;
-        if i < n {
-            if notes[to + i] < 1 {
-                notes[to + i] = j as u64;
-            }
+        if i < n && notes[to + i] < 1 {
+            notes[to + i] = (j + 1) as u64;
         }
     }
 }
@@ -169,13 +150,10 @@ fn write_claims<'a>(state: &'a State, batch: &'a [u8], scope: Scope, notes: &mut
     requires { Told 7 state.now batch.now scope notes.old }
     ensures { Told 8 state.now batch.now scope notes.new }
 {
-    let k = scope.listed;
-    let mut i = 0usize;
-    while i < k {
+    for i in 0..scope.listed {
         let slot = notes[notes::LISTED_SLOTS + i] as usize;
         let claims = notes::grafts_new(batch, i) & !notes::same_graft(state, batch, i, slot);
         notes[notes::CLAIMS + i] = flag_of(claims);
-        i += 1;
     }
 }
 

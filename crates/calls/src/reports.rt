@@ -6,7 +6,6 @@ ghost use Rattle.ids.specs.Ids.{same_id};
 ghost use Rattle.state.specs.State.{same_link, parent_of};
 ghost use Rattle.state.specs.Sound.{ascending};
 ghost use Rattle.state_array.specs.View.{view, slots_of, link_of};
-ghost use Rattle.state_focus.specs.Focus.{found_of};
 ghost use Rattle.state_array.specs.Layout.{SLOTS};
 ghost use Rattle.update.specs.Reports.{unless_in};
 ghost use Rattle.calls.specs.Layout.{TURNS, CHANGED};
@@ -21,7 +20,6 @@ use crate::notes;
 use crate::notes::{CHANGED, FATES, Notes, Scope};
 use ids::FullNodeId;
 use state_array::{LinkRow, State};
-use state_focus::FoundNode;
 
 // The bits of a node's mark in the column CHANGED, and of the mark of an old node in the column FATES.
 const ADDED: u64 = 1;
@@ -32,24 +30,28 @@ const RELINKED: u64 = 4;
 
 const REMOVED: u64 = 1;
 
-// The lengths of the four lists, how many elements they take together, and whether the lent slice has room for them.
+// The lengths of the four lists.
 #[derive(Clone, Copy)]
 pub struct Lists {
     pub added: usize,
     pub updated: usize,
     pub removed: usize,
     pub relinked: usize,
+}
+
+// The lent slice has fewer elements than the lists take: how many they take.
+#[derive(Clone, Copy)]
+pub struct TooShort {
     pub words: usize,
-    pub fit: bool,
 }
 
 // The focus before and after, and the extra ids.
 #[derive(Clone, Copy)]
 pub struct Report {
-    pub focus_before: FoundNode,
-    pub focus_after: FoundNode,
-    pub extra_before: FoundNode,
-    pub extra_after: FoundNode,
+    pub focus_before: Option<FullNodeId>,
+    pub focus_after: Option<FullNodeId>,
+    pub extra_before: Option<FullNodeId>,
+    pub extra_after: Option<FullNodeId>,
 }
 
 // The phase: what changed of each node of the outcome, which stands in `next`.
@@ -64,11 +66,9 @@ pub(crate) fn write_changed<'a>(
     ensures { Outcomes REPORTED state.now batch.now scope notes.new next.now }
 {
     let n = state_array::slots(next);
-    let mut r = 0usize;
-    while r < n {
+    for r in 0..n {
         let change = change_at(state, batch, scope, notes, next, r);
         notes[CHANGED + r] = change;
-        r += 1;
     }
 }
 
@@ -117,7 +117,7 @@ fn link_changed(was: LinkRow, next: LinkRow) -> bool
     if next.linked == 0 {
         return false;
     }
-    (was.linked == 0) | (was.index != next.index) | !ids::same_id(was.parent, next.parent)
+    (was.linked == 0) | (was.index != next.index) | (was.parent != next.parent)
 }
 
 // Whether the parent is another; to or from no parent counts.
@@ -127,7 +127,7 @@ fn parent_changed(was: LinkRow, next: LinkRow) -> bool
     if next.linked == 0 {
         return was.linked != 0;
     }
-    (was.linked == 0) | !ids::same_id(was.parent, next.parent)
+    (was.linked == 0) | (was.parent != next.parent)
 }
 
 // Whether x is the root that tree data gives a tree other than ROOT.
@@ -156,7 +156,7 @@ pub(crate) fn write_lists<'a>(
     notes: &'a Notes,
     next: &'a State,
     changes: &mut [u64],
-) -> Lists
+) -> Result<Lists, TooShort>
     ensures { ListsWritten (changes_noted state.now notes.now next.now) changes.old changes.new result }
 {
     let n = state_array::slots(state);
@@ -166,23 +166,19 @@ pub(crate) fn write_lists<'a>(
     let removed = count_of(notes, FATES, n, REMOVED);
     let relinked = count_of(notes, CHANGED, m, RELINKED);
     let words = 2 * (added + updated + removed + relinked);
-    let fit = words <= changes.len();
-    let lists = Lists {
-        added,
-        updated,
-        removed,
-        relinked,
-        words,
-        fit,
-    };
-    if !fit {
-        return lists;
+    if changes.len() < words {
+        return Err(TooShort { words });
     }
     let from_updated = write_list(next, notes, CHANGED, ADDED, 0, changes);
     let from_removed = write_list(next, notes, CHANGED, UPDATED, from_updated, changes);
     let from_relinked = write_list(state, notes, FATES, REMOVED, from_removed, changes);
     let end = write_list(next, notes, CHANGED, RELINKED, from_relinked, changes);
-    lists
+    Ok(Lists {
+        added,
+        updated,
+        removed,
+        relinked,
+    })
 }
 
 // How many of n words of the notes, from a place on, have the bit of a weight.
@@ -191,12 +187,10 @@ fn count_of(notes: &Notes, start: usize, n: usize, weight: u64) -> usize
     ensures { Counted weight notes.now start n result }
 {
     let mut count = 0usize;
-    let mut i = 0usize;
-    while i < n {
+    for i in 0..n {
         if has_bit(notes[start + i], weight) {
             count += 1;
         }
-        i += 1;
     }
     count
 }
@@ -221,17 +215,14 @@ fn write_list<'a>(
     requires { Room weight notes.now start state.now at changes.old }
     ensures { ListWritten (picked weight notes.now start state.now) at changes.old changes.new result }
 {
-    let n = state_array::slots(state);
     let mut to = at;
-    let mut i = 0usize;
-    while i < n {
+    for i in 0..state_array::slots(state) {
         if has_bit(notes[start + i], weight) {
             let x = state_array::id_at(state, i);
             changes[to] = x.tree.0 as u64;
             changes[to + 1] = x.node.0;
             to += 2;
         }
-        i += 1;
     }
     to
 }
@@ -250,34 +241,39 @@ pub(crate) fn report_update<'a>(state: &'a State, notes: &'a Notes, next: &'a St
 }
 
 // The focus before and after a host focus change, which has empty lists, and the extra ids.
-pub(crate) fn report_host(before: FoundNode, after: FoundNode) -> Report
+pub(crate) fn report_host(before: Option<FullNodeId>, after: Option<FullNodeId>) -> Report
     ensures { HostReported before after result }
 {
     report_of(before, after, before, after)
 }
 
 // What a start reports: its focus.
-pub(crate) fn report_start(after: FoundNode) -> Report
-    ensures { OnlyAfter (found_of after) result }
+pub(crate) fn report_start(after: Option<FullNodeId>) -> Report
+    ensures { OnlyAfter after result }
 {
     Report {
-        focus_before: FoundNode::Nothing,
+        focus_before: None,
         focus_after: after,
-        extra_before: FoundNode::Nothing,
-        extra_after: FoundNode::Nothing,
+        extra_before: None,
+        extra_after: None,
     }
 }
 
 // Two answers, with what is left of them as extra ids where they differ.
-fn report_of(before: FoundNode, after: FoundNode, lost: FoundNode, got: FoundNode) -> Report
+fn report_of(
+    before: Option<FullNodeId>,
+    after: Option<FullNodeId>,
+    lost: Option<FullNodeId>,
+    got: Option<FullNodeId>,
+) -> Report
     ensures { ReportOf before after lost got result }
 {
-    if same_found(before, after) {
+    if before == after {
         return Report {
             focus_before: before,
             focus_after: after,
-            extra_before: FoundNode::Nothing,
-            extra_after: FoundNode::Nothing,
+            extra_before: None,
+            extra_after: None,
         };
     }
     Report {
@@ -288,52 +284,36 @@ fn report_of(before: FoundNode, after: FoundNode, lost: FoundNode, got: FoundNod
     }
 }
 
-// Whether two answers are the same node, or none both.
-fn same_found(x: FoundNode, y: FoundNode) -> bool
-    ensures { result ≡ same_option same_id (found_of x) (found_of y) }
-{
-    let FoundNode::At(a) = x else {
-        let FoundNode::At(b) = y else {
-            return true;
-        };
-        return false;
-    };
-    let FoundNode::At(b) = y else {
-        return false;
-    };
-    ids::same_id(a, b)
-}
-
 // A node, unless it is updated or removed.
 fn unless_before<'a>(
     state: &'a State,
     notes: &'a Notes,
     next: &'a State,
-    found: FoundNode,
-) -> FoundNode
+    found: Option<FullNodeId>,
+) -> Option<FullNodeId>
     requires state_value { ascending (view state.now).forest.nodes ≡ true }
     requires next_value { ascending (view next.now).forest.nodes ≡ true }
-    ensures { found_of result ≡ unless_before (changes_noted state.now notes.now next.now) (found_of found) }
+    ensures { result ≡ unless_before (changes_noted state.now notes.now next.now) found }
 {
-    let FoundNode::At(x) = found else {
-        return FoundNode::Nothing;
-    };
+    let x = found?;
     if is_marked(next, notes, CHANGED, UPDATED, x) | is_marked(state, notes, FATES, REMOVED, x) {
-        return FoundNode::Nothing;
+        return None;
     }
     found
 }
 
 // A node, unless it is added or updated.
-fn unless_after<'a>(notes: &'a Notes, next: &'a State, found: FoundNode) -> FoundNode
+fn unless_after<'a>(
+    notes: &'a Notes,
+    next: &'a State,
+    found: Option<FullNodeId>,
+) -> Option<FullNodeId>
     requires { ascending (view next.now).forest.nodes ≡ true }
-    ensures { found_of result ≡ unless_in (picked 1 notes.now CHANGED next.now ++ picked 2 notes.now CHANGED next.now) (found_of found) }
+    ensures { result ≡ unless_in (picked 1 notes.now CHANGED next.now ++ picked 2 notes.now CHANGED next.now) found }
 {
-    let FoundNode::At(x) = found else {
-        return FoundNode::Nothing;
-    };
+    let x = found?;
     if is_marked(next, notes, CHANGED, ADDED, x) | is_marked(next, notes, CHANGED, UPDATED, x) {
-        return FoundNode::Nothing;
+        return None;
     }
     found
 }

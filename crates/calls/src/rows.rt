@@ -1,5 +1,5 @@
 // The rows of document 01's table of numbers but the pass, in the order in which a call asks them, and the scope of a batch.
-ghost use Rattle.std.specs.Prelude.{true, not, ◌≡◌, ◌+◌, ◌≤◌, ◌<◌, eqb, length, get_or};
+ghost use Rattle.std.specs.Prelude.{true, not, ◌≡◌, ◌+◌, ◌≤◌, ◌<◌, length, get_or};
 ghost use Rattle.base.specs.Tests.{is_some, distinct};
 ghost use Rattle.base.specs.Tables.{first};
 ghost use Rattle.base.specs.Search.{First};
@@ -13,7 +13,8 @@ ghost use Rattle.state_array.specs.View.{view};
 ghost use Rattle.update.specs.Numbers.{rows_before_pass};
 ghost use Rattle.update.specs.Calls.{seed, without_tree_data};
 ghost use Rattle.calls.specs.Layout.{LISTED_SLOTS, DIFFERS};
-ghost use Rattle.calls.specs.Setting.{Scoped, refusal};
+ghost use Rattle.calls.specs.Setting.{Scoped};
+ghost use Rattle.calls.specs.Refusals.{verdict};
 ghost use Rattle.calls.specs.Noted.{ClashRoom, clash_noted};
 ghost use Rattle.calls.specs.Rows.{first_number, start_rows, last_number};
 ghost use Rattle.calls.specs.Parts.{ListedAgain, ungrafted, missing, full, RootAfter};
@@ -22,16 +23,8 @@ use crate::notes;
 use crate::notes::{Notes, Refusal, Scope};
 use ids::{NodeId, TreeId, TreeIndex};
 use state_array::State;
-use state_lookup::FoundTree;
 
-// The root of a tree as a batch leaves it, if there is one.
-#[derive(Clone, Copy)]
-struct Root {
-    rooted: bool,
-    node: NodeId,
-}
-
-// Two places of one node among the listed ones; both are their number where no node is listed twice.
+// Two places of one node among the listed ones.
 #[derive(Clone, Copy)]
 pub struct Again {
     pub first: usize,
@@ -39,17 +32,55 @@ pub struct Again {
 }
 
 // Rows 1, 2 and 5 to 8.
-pub(crate) fn first_rows<'a>(state: &'a State, batch: &'a [u8]) -> Refusal
-    ensures { result ≡ refusal (first_number (view state.now).forest batch.now) }
+pub(crate) fn first_rows<'a>(state: &'a State, batch: &'a [u8]) -> Result<(), Refusal>
+    ensures { result ≡ verdict (first_number (view state.now).forest batch.now) }
 {
-    notes::refuse(first_number(state, batch))
+    if !state_sound::sound(state) {
+        return notes::refuse(1);
+    }
+    if !record_layout::layout(batch) {
+        return notes::refuse(2);
+    }
+    rows_before_pass(state, batch)
+}
+
+// Rows 5 to 8 of a record.
+fn rows_before_pass<'a>(state: &'a State, batch: &'a [u8]) -> Result<(), Refusal>
+    requires { well_formed batch.now ≡ true }
+    ensures { result ≡ verdict (first (rows_before_pass (view state.now).forest (batch_of batch.now))) }
+{
+    if listed_twice(batch) {
+        return notes::refuse(5);
+    }
+    if is_ungrafted(state, batch) {
+        return notes::refuse(6);
+    }
+    if is_missing(state, batch) {
+        return notes::refuse(7);
+    }
+    if is_full(state, batch) {
+        return notes::refuse(8);
+    }
+    Ok(())
 }
 
 // Rows 2 to 5 of a start.
-pub(crate) fn start_rows(batch: &[u8]) -> Refusal
-    ensures { result ≡ refusal (start_rows batch.now) }
+pub(crate) fn start_rows(batch: &[u8]) -> Result<(), Refusal>
+    ensures { result ≡ verdict (start_rows batch.now) }
 {
-    notes::refuse(start_number(batch))
+    if !record_layout::layout(batch) {
+        return notes::refuse(2);
+    }
+    if !record_reader::has_tree_data(batch) {
+        return notes::refuse(3);
+    }
+    if !is_root_id(record_reader::tree_id(batch)) {
+        return notes::refuse(4);
+    }
+    if listed_twice(batch) {
+        return notes::refuse(5);
+    }
+    Ok(())
 }
 
 // What a batch on a state is about.
@@ -59,15 +90,13 @@ pub(crate) fn scope_of<'a>(state: &'a State, batch: &'a [u8]) -> Scope
     let header = record_view::read_header(batch);
     let id = header.tree;
     let number = state_lookup::find_tree(state, id) as u32;
-    let after = root_after(state, batch);
-    let root = after.node;
+    let root = root_after(state, batch);
     Scope {
         tree: TreeIndex(number),
         is_root_tree: is_root_id(id),
         listed: header.nodes,
         named: entries_of(batch),
         with_tree_data: header.has_tree_data,
-        rooted: after.rooted,
         root,
     }
 }
@@ -84,16 +113,33 @@ pub(crate) fn start_scope(batch: &[u8]) -> Scope
         listed: header.nodes,
         named: entries_of(batch),
         with_tree_data: false,
-        rooted: true,
-        root,
+        root: Some(root),
     }
 }
 
 // 12's second part and rows 15 to 20, of the outcome that stands in `next`; `clash` is row 18.
-pub(crate) fn last_rows(next: &State, clash: bool) -> Refusal
-    ensures { result ≡ refusal (last_number (view next.now).forest clash) }
+pub(crate) fn last_rows(next: &State, clash: bool) -> Result<(), Refusal>
+    ensures { result ≡ verdict (last_number (view next.now).forest clash) }
 {
-    notes::refuse(last_number(next, clash))
+    let sound = state_sound::shape_is_sound(next);
+    let twice = grafted_twice(next, sound);
+    let number = update_focus::focus_number(next);
+    if twice {
+        return notes::refuse(12);
+    }
+    if number != 0 {
+        return notes::refuse(number);
+    }
+    if clash {
+        return notes::refuse(18);
+    }
+    if !sound {
+        return notes::refuse(19);
+    }
+    if state_array::MOST_NODES < state_array::slots(next) {
+        return notes::refuse(20);
+    }
+    Ok(())
 }
 
 // Row 18: the first of k listed nodes that has other data than before, so that it is old, and goes; or k.
@@ -102,12 +148,10 @@ pub(crate) fn first_clash(notes: &Notes, k: usize) -> usize
     requires clash_room { ClashRoom notes.now k }
     ensures { First (clash_noted notes.now) k result }
 {
-    let mut i = 0usize;
-    while i < k {
+    for i in 0..k {
         if clashes_at(notes, i) {
             return i;
         }
-        i += 1;
     }
     k
 }
@@ -125,97 +169,30 @@ fn clashes_at(notes: &Notes, i: usize) -> bool
     notes[notes::FATES + slot] == 1
 }
 
-// The number of rows 1, 2 and 5 to 8.
-fn first_number<'a>(state: &'a State, batch: &'a [u8]) -> u8
-    ensures { result ≡ first_number (view state.now).forest batch.now }
-{
-    if !state_sound::sound(state) {
-        return 1;
-    }
-    if !record_layout::layout(batch) {
-        return 2;
-    }
-    number_before_pass(state, batch)
-}
-
-// Rows 5 to 8 of a record.
-fn number_before_pass<'a>(state: &'a State, batch: &'a [u8]) -> u8
-    requires { well_formed batch.now ≡ true }
-    ensures { result ≡ first (rows_before_pass (view state.now).forest (batch_of batch.now)) }
-{
-    if listed_twice(batch) {
-        return 5;
-    }
-    if is_ungrafted(state, batch) {
-        return 6;
-    }
-    if is_missing(state, batch) {
-        return 7;
-    }
-    if is_full(state, batch) { 8 } else { 0 }
-}
-
-// The number of rows 2 to 5 of a start.
-fn start_number(batch: &[u8]) -> u8
-    ensures { result ≡ start_rows batch.now }
-{
-    if !record_layout::layout(batch) {
-        return 2;
-    }
-    if !record_reader::has_tree_data(batch) {
-        return 3;
-    }
-    if !is_root_id(record_reader::tree_id(batch)) {
-        return 4;
-    }
-    if listed_twice(batch) { 5 } else { 0 }
-}
-
 // Row 5: whether a record lists a node twice.
 fn listed_twice(batch: &[u8]) -> bool
     requires { well_formed batch.now ≡ true }
     ensures { result ≡ not (distinct same_node (listed_ids (batch_of batch.now).nodes)) }
 {
-    let again = listed_again(batch);
-    again.second < record_reader::node_count(batch)
+    listed_again(batch).is_some()
 }
 
-// The first listed node that was listed before, and where.
-pub(crate) fn listed_again(batch: &[u8]) -> Again
+// The first listed node that was listed before, if there is one, and where.
+pub(crate) fn listed_again(batch: &[u8]) -> Option<Again>
     requires { well_formed batch.now ≡ true }
     ensures { ListedAgain (batch_of batch.now) result }
 {
     let k = record_reader::node_count(batch);
     let mut seen = [0u64; 64];
-    let mut i = 0usize;
-    while i < k {
+    for i in 0..k {
         let x = record_reader::node_id(batch, i);
-        let first = first_of(&seen, i, x.0);
+        let first = notes::first_of(&seen[..i], x.0);
         if first < i {
-            return Again { first, second: i };
+            return Some(Again { first, second: i });
         }
         seen[i] = x.0;
-        i += 1;
     }
-    Again {
-        first: k,
-        second: k,
-    }
-}
-
-// The first of n numbers that is x, or n.
-fn first_of(seen: &[u64; 64], n: usize, x: u64) -> usize
-    requires { n ≤ 64 }
-    ensures { First (λ j. eqb (get_or seen.now j 0) x) n result }
-{
-    let mut i = 0usize;
-    while i < n {
-        if seen[i] == x {
-            return i;
-        }
-        i += 1;
-    }
-    n
+    None
 }
 
 // Row 6: tree data for a tree other than ROOT that no node grafts.
@@ -249,38 +226,29 @@ pub(crate) fn is_full<'a>(state: &'a State, batch: &'a [u8]) -> bool
 fn is_root_id(id: TreeId) -> bool
     ensures { result ≡ same_tree id ROOT }
 {
-    ids::same_tree(id, TreeId { high: 0, low: 0 })
+    id == TreeId { high: 0, low: 0 }
 }
 
 // Whether a tree exists.
 fn exists(state: &State, id: TreeId) -> bool
     ensures { result ≡ is_some (subtree_of (view state.now).forest id) }
 {
-    let FoundTree::At(e) = state_lookup::tree_of(state, id) else {
+    let Some(e) = state_lookup::tree_of(state, id) else {
         return false;
     };
     true
 }
 
-// The root of the batch's tree as the batch leaves it.
-fn root_after<'a>(state: &'a State, batch: &'a [u8]) -> Root
+// The root of the batch's tree as the batch leaves it, if it has one then.
+fn root_after<'a>(state: &'a State, batch: &'a [u8]) -> Option<NodeId>
     ensures { RootAfter (view state.now).forest (batch_of batch.now) result }
 {
     if record_reader::has_tree_data(batch) {
-        return Root {
-            rooted: true,
-            node: record_reader::tree_root(batch),
-        };
+        return Some(record_reader::tree_root(batch));
     }
-    let FoundTree::At(e) = state_lookup::tree_of(state, record_reader::tree_id(batch)) else {
-        return Root {
-            rooted: false,
-            node: NodeId(0),
-        };
-    };
+    let e = state_lookup::tree_of(state, record_reader::tree_id(batch))?;
     let root = e.root;
-    let node = root.node;
-    Root { rooted: true, node }
+    Some(root.node)
 }
 
 // How many children the listed nodes name.
@@ -292,32 +260,6 @@ fn entries_of(batch: &[u8]) -> usize
         return 0;
     }
     record_view::children_end(batch, k - 1)
-}
-
-// The number of 12's second part and of rows 15 to 20.
-fn last_number(next: &State, clash: bool) -> u8
-    ensures { result ≡ last_number (view next.now).forest clash }
-{
-    let sound = state_sound::shape_is_sound(next);
-    let twice = grafted_twice(next, sound);
-    let number = update_focus::focus_number(next);
-    if twice {
-        return 12;
-    }
-    if number != 0 {
-        return number;
-    }
-    if clash {
-        return 18;
-    }
-    if !sound {
-        return 19;
-    }
-    if state_array::MOST_NODES < state_array::slots(next) {
-        20
-    } else {
-        0
-    }
 }
 
 // 12's second part: whether a tree is grafted twice; where the shape is sound, none is.

@@ -1,6 +1,5 @@
 // The table of trees after a batch, written into the next state.
 ghost use Rattle.std.specs.Prelude.{true, ◌≡◌, ◌<◌, length};
-ghost use Rattle.std.proofs.Math.Option.{none};
 ghost use Rattle.record.specs.Parse.{batch_of};
 ghost use Rattle.state.specs.Sound.{ascending};
 ghost use Rattle.state_array.specs.Layout.{TREES};
@@ -27,11 +26,9 @@ pub(crate) fn write_trees<'a>(
     ensures { next.new ≡ trees_written (trees_after state.now batch.now scope) next.old }
 {
     let count = tree_count(state, scope.tree);
-    let mut k = 0usize;
-    while k < count {
+    for k in 0..count {
         let row = tree_after(state, batch, scope, notes, k);
         state_array::put_tree(next, k, row);
-        k += 1;
     }
 }
 
@@ -84,22 +81,21 @@ fn own_row(batch: &[u8], scope: Scope) -> TreeRow
     ensures { result ≡ tree_row (own_entry (batch_of batch.now) scope) }
 {
     let id = record_reader::tree_id(batch);
-    if scope.rooted {
-        let root = scope.root;
-        let focus = record_reader::tree_focus(batch);
-        return TreeRow {
-            id,
-            root,
-            focus,
-            exists: 1,
-        };
+    let Some(root) = scope.root else {
+        return absent(id);
+    };
+    let focus = record_reader::tree_focus(batch);
+    TreeRow {
+        id,
+        root,
+        focus,
+        exists: 1,
     }
-    absent(id)
 }
 
 // The row of a tree that does not exist.
 fn absent(id: TreeId) -> TreeRow
-    ensures { result ≡ tree_row (record { id = id; subtree = none }) }
+    ensures { result ≡ tree_row (record { id = id; subtree = None }) }
 {
     TreeRow {
         id,

@@ -14,12 +14,10 @@ ghost use Rattle.calls.specs.Says.{Told, PLANNED};
 ghost use Rattle.calls.specs.Setting.{asked};
 
 use crate::notes::{Notes, Scope};
-use crate::{notes, rows};
-use grafts::Regrafted;
+use crate::{notes, rows, why_pass};
 use ids::{FullNodeId, TreeId};
 use reasons_why::Why;
 use state_array::State;
-use state_focus::FoundNode;
 
 // 12, where two nodes of the outcome graft one tree: the node that claims it, and the other.
 pub(crate) fn clash_why<'a>(
@@ -32,7 +30,7 @@ pub(crate) fn clash_why<'a>(
     requires { Told PLANNED state.now batch.now scope notes.now }
     ensures { result ≡ why_for (clash_reason (view state.now).forest (asked batch.now scope) (view next.now).forest) }
 {
-    let Regrafted::Twice(g) = grafts::grafted_twice(next) else {
+    let Some(g) = grafts::grafted_twice(next) else {
         return reasons_why::no_reason();
     };
     let tree = g.tree;
@@ -72,9 +70,9 @@ fn claimed_why(tree: TreeId, holder: FullNodeId, claimer: FullNodeId) -> Why
         place: 0,
         other: 0,
         tree,
-        node: FoundNode::At(claimer),
-        by: FoundNode::Nothing,
-        also: FoundNode::At(holder),
+        node: Some(claimer),
+        by: None,
+        also: Some(holder),
     }
 }
 
@@ -91,17 +89,8 @@ fn gone_why<'a>(
     ensures { result ≡ why_of (updated_and_gone (id_at (view state.now).forest slot) (dropped_from state.now batch.now scope slot)) }
 {
     let x = state_array::id_at(state, slot);
-    let lost = climb::dropped(state, batch, scope, notes, slot);
-    let node = lost.node;
-    let by = lost.by;
-    Why {
-        number: 18,
-        rule: 0,
-        place: 0,
-        other: 0,
-        tree: TreeId { high: 0, low: 0 },
-        node: FoundNode::At(x),
-        by,
-        also: node,
-    }
+    let Some(lost) = climb::dropped(state, batch, scope, notes, slot) else {
+        return why_pass::of_nodes(18, x, None, None);
+    };
+    why_pass::of_nodes(18, x, lost.by, Some(lost.node))
 }

@@ -1,7 +1,7 @@
 // Why rows 9 to 14 refuse a batch: the number of what makes the first of them hold, the ids that the notes have of it, its tree and place.
 ghost use Rattle.std.specs.Prelude.{◌≡◌, ◌+◌, ◌<◌};
 ghost use Rattle.reasons.specs.Reasons.{without_place};
-ghost use Rattle.reasons_why.specs.Why.{found, why_of, why_for};
+ghost use Rattle.reasons_why.specs.Why.{why_of, why_for};
 ghost use Rattle.calls.specs.Layout.{LISTED, NAMED};
 ghost use Rattle.calls.specs.Noted.{id_noted};
 ghost use Rattle.calls.specs.Setting.{forest, asked};
@@ -16,14 +16,15 @@ use crate::{notes, pass};
 use ids::{FullNodeId, NodeId, TreeId};
 use reasons_why::Why;
 use state_array::State;
-use state_focus::FoundNode;
 
 // Why rows 9 to 14 refuse the batch.
 pub(crate) fn pass_why<'a>(state: &'a State, batch: &'a [u8], scope: Scope, notes: &'a Notes) -> Why
     requires { Told READ state.now batch.now scope notes.now }
     ensures { result ≡ why_for (row_reason (forest state.now) (asked batch.now scope)) }
 {
-    let cause = pass::cause_of(state, batch, scope, notes);
+    let Some(cause) = pass::cause_of(state, batch, scope, notes) else {
+        return reasons_why::no_reason();
+    };
     of_cause(state, batch, scope, notes, cause)
 }
 
@@ -37,18 +38,17 @@ fn of_cause<'a>(
 ) -> Why
     requires told { Told READ state.now batch.now scope notes.now }
     requires within { Within (asked batch.now scope) cause }
-    ensures { result ≡ why_for (cause_reason (forest state.now) (asked batch.now scope) cause) }
+    ensures { result ≡ why_of (cause_reason (forest state.now) (asked batch.now scope) cause) }
 {
     match cause {
-        Cause::Nothing => reasons_why::no_reason(),
         Cause::NamedTwice(j) => named_twice(state, batch, scope, notes, j),
         Cause::GraftOverChildren(i) => {
             let x = notes::listed_id(scope, notes, i);
-            of_nodes(10, x, FoundNode::Nothing, FoundNode::Nothing)
+            of_nodes(10, x, None, None)
         }
         Cause::GraftOfRoot(i) => {
             let x = notes::listed_id(scope, notes, i);
-            of_nodes(11, x, FoundNode::Nothing, FoundNode::Nothing)
+            of_nodes(11, x, None, None)
         }
         Cause::ClaimedTwice(i, m) => claimed_twice(batch, scope, notes, i, m),
         Cause::WithoutPlace(i) => without_place(scope, notes, i),
@@ -66,7 +66,7 @@ fn named_twice<'a>(
 ) -> Why
     requires told { Told READ state.now batch.now scope notes.now }
     requires j_lt_named { j < scope.named }
-    ensures { result ≡ why_for (cause_reason (forest state.now) (asked batch.now scope) (Cause.NamedTwice j)) }
+    ensures { result ≡ why_of (cause_reason (forest state.now) (asked batch.now scope) (Cause.NamedTwice j)) }
 {
     let e = scope.named;
     let x = notes[notes::NAMED + j];
@@ -93,9 +93,9 @@ fn claimed_twice<'a>(batch: &'a [u8], scope: Scope, notes: &'a Notes, i: usize, 
         place: 0,
         other: 0,
         tree,
-        node: FoundNode::At(x),
-        by: FoundNode::Nothing,
-        also: FoundNode::At(y),
+        node: Some(x),
+        by: None,
+        also: Some(y),
     }
 }
 
@@ -111,9 +111,9 @@ fn without_place(scope: Scope, notes: &Notes, i: usize) -> Why
         place: i,
         other: 0,
         tree: TreeId { high: 0, low: 0 },
-        node: FoundNode::At(x),
-        by: FoundNode::Nothing,
-        also: FoundNode::Nothing,
+        node: Some(x),
+        by: None,
+        also: None,
     }
 }
 
@@ -127,15 +127,20 @@ fn child_nowhere<'a>(
 ) -> Why
     requires told { Told READ state.now batch.now scope notes.now }
     requires j_lt_named { j < scope.named }
-    ensures { result ≡ why_for (cause_reason (forest state.now) (asked batch.now scope) (Cause.ChildNowhere j)) }
+    ensures { result ≡ why_of (cause_reason (forest state.now) (asked batch.now scope) (Cause.ChildNowhere j)) }
 {
     let child = child_id(scope, notes, j);
     let by = namer(state, batch, scope, notes, j);
-    of_nodes(14, child, by, FoundNode::Nothing)
+    of_nodes(14, child, by, None)
 }
 
 // A number and nodes alone.
-fn of_nodes(number: u8, x: FullNodeId, by: FoundNode, also: FoundNode) -> Why
+pub(crate) fn of_nodes(
+    number: u8,
+    x: FullNodeId,
+    by: Option<FullNodeId>,
+    also: Option<FullNodeId>,
+) -> Why
     ensures { result ≡ plain_nodes number x by also }
 {
     Why {
@@ -144,7 +149,7 @@ fn of_nodes(number: u8, x: FullNodeId, by: FoundNode, also: FoundNode) -> Why
         place: 0,
         other: 0,
         tree: TreeId { high: 0, low: 0 },
-        node: FoundNode::At(x),
+        node: Some(x),
         by,
         also,
     }
@@ -169,17 +174,14 @@ fn namer<'a>(
     scope: Scope,
     notes: &'a Notes,
     j: usize,
-) -> FoundNode
+) -> Option<FullNodeId>
     requires { Told READ state.now batch.now scope notes.now }
-    ensures { result ≡ found (namer_at (forest state.now) (asked batch.now scope) j) }
+    ensures { result ≡ namer_at (forest state.now) (asked batch.now scope) j }
 {
-    let k = scope.listed;
-    let mut i = 0usize;
-    while i < k {
+    for i in 0..scope.listed {
         if j < notes[notes::ENDS + i] as usize {
-            return FoundNode::At(notes::listed_id(scope, notes, i));
+            return Some(notes::listed_id(scope, notes, i));
         }
-        i += 1;
     }
-    FoundNode::Nothing
+    None
 }

@@ -14,7 +14,6 @@ use crate::{reports, rows};
 use ids::{FullNodeId, TreeId, TreeIndex};
 use reasons_why::Why;
 use state_array::State;
-use state_focus::FoundNode;
 
 // Rows 5 to 8.
 pub(crate) fn before_pass<'a>(state: &'a State, batch: &'a [u8], scope: Scope) -> Why
@@ -44,10 +43,9 @@ pub(crate) fn listed_again(batch: &[u8], tree: TreeIndex) -> Why
     requires { well_formed batch.now ≡ true }
     ensures { AgainIs batch.now tree result }
 {
-    let again = rows::listed_again(batch);
-    if record_reader::node_count(batch) <= again.second {
+    let Some(again) = rows::listed_again(batch) else {
         return reasons_why::no_reason();
-    }
+    };
     let node = record_reader::node_id(batch, again.second);
     Why {
         number: 5,
@@ -55,9 +53,9 @@ pub(crate) fn listed_again(batch: &[u8], tree: TreeIndex) -> Why
         place: again.second,
         other: again.first,
         tree: TreeId { high: 0, low: 0 },
-        node: FoundNode::At(FullNodeId { tree, node }),
-        by: FoundNode::Nothing,
-        also: FoundNode::Nothing,
+        node: Some(FullNodeId { tree, node }),
+        by: None,
+        also: None,
     }
 }
 
@@ -71,9 +69,9 @@ pub(crate) fn of_tree(number: u8, tree: TreeId) -> Why
         place: 0,
         other: 0,
         tree,
-        node: FoundNode::Nothing,
-        by: FoundNode::Nothing,
-        also: FoundNode::Nothing,
+        node: None,
+        by: None,
+        also: None,
     }
 }
 
@@ -91,8 +89,10 @@ pub(crate) fn slice_why<'a>(
 {
     reports::write_changed(state, batch, scope, notes, next);
     let mut lent = [0u64; 1];
-    let lists = reports::write_lists(state, notes, next, &mut lent);
-    let most = lists.words;
+    let Err(short) = reports::write_lists(state, notes, next, &mut lent) else {
+        return reasons_why::no_reason();
+    };
+    let most = short.words;
     if most <= room {
         return reasons_why::no_reason();
     }
@@ -102,8 +102,8 @@ pub(crate) fn slice_why<'a>(
         place: most,
         other: room,
         tree: TreeId { high: 0, low: 0 },
-        node: FoundNode::Nothing,
-        by: FoundNode::Nothing,
-        also: FoundNode::Nothing,
+        node: None,
+        by: None,
+        also: None,
     }
 }

@@ -42,8 +42,7 @@ fn write_nodes<'a>(
     ensures { next.new ≡ nodes_written (nodes_after state.now batch.now scope) next.old }
 {
     let count = notes[notes::COUNT] as usize;
-    let mut r = 0usize;
-    while r < count {
+    for r in 0..count {
         let code = notes[notes::CODES + r] as usize;
         let x = notes::id_of(state, scope, notes, code);
         let l = links::link_of(state, batch, scope, notes, code);
@@ -52,7 +51,6 @@ fn write_nodes<'a>(
         state_array::put_id(next, r, x);
         state_array::put_link(next, r, l);
         state_array::put_body(next, r, body);
-        r += 1;
     }
 }
 
@@ -69,12 +67,10 @@ fn write_children<'a>(
 {
     let count = notes[notes::COUNT] as usize;
     let mut first = 0usize;
-    let mut r = 0usize;
-    while r < count {
+    for r in 0..count {
         let source = notes[notes::SOURCES + r] as usize;
         state_array::put_first_child(next, r, first as u64);
         first = write_run(state, batch, next, source, first);
-        r += 1;
     }
 }
 
@@ -91,11 +87,9 @@ fn write_run<'a>(
     ensures next_after { next.new ≡ run_written (source_children state.now batch.now source) first next.old }
 {
     let count = child_count(state, batch, source);
-    let mut j = 0usize;
-    while j < count {
+    for j in 0..count {
         let x = child_of(state, batch, source, j);
         state_array::put_child(next, first + j, x);
-        j += 1;
     }
     first + count
 }

@@ -11,8 +11,8 @@ ghost use Rattle.cartgravel_plain.specs.Plain.{plain_index, plain_ends, plain_co
 ghost use Rattle.cartgravel.specs.Questions.{PlainLabel, PlainIds, filter_reply, node_reply, SiblingsOn, FilteredChildren, FilteredOn, FilteredSiblings};
 
 use cartgravel_plain::{
-    FilterNumber, Flag, FoundId, Listed, PlainBox, PlainCounts, PlainEnds, PlainIndex, PlainNode,
-    PlainResult, PlainTransform, PlainTreeId, SideNumber,
+    Flag, FoundId, Listed, PlainBox, PlainCounts, PlainEnds, PlainIndex, PlainNode, PlainResult,
+    PlainTransform, PlainTreeId,
 };
 use ids::{FullNodeId, TreeId, TreeIndex};
 use question_calls::{iterators, node};
@@ -137,13 +137,8 @@ pub extern "C" fn cartgravel_filter(state: &State, id: FullNodeId, filter: u32) 
     ensures { result ≡ filter_reply (view state.now) id filter }
 {
     match cartgravel_plain::filter_of(filter) {
-        FilterNumber::Known(f) => cartgravel_plain::filter_result(question_calls::filter(
-            state, id, f,
-        )),
-        FilterNumber::Unknown => PlainResult {
-            result: 0,
-            number: cartgravel_plain::unknown(state) as u32,
-        },
+        Some(f) => cartgravel_plain::filter_result(question_calls::filter(state, id, f)),
+        None => cartgravel_plain::filter_result(Err(cartgravel_plain::unknown(state))),
     }
 }
 
@@ -153,8 +148,8 @@ pub extern "C" fn cartgravel_filtered_parent(state: &State, id: FullNodeId, filt
     ensures { result ≡ node_reply (view state.now) id filtered_parent filter }
 {
     match cartgravel_plain::filter_of(filter) {
-        FilterNumber::Known(f) => cartgravel_plain::found(iterators::filtered_parent(state, id, f)),
-        FilterNumber::Unknown => cartgravel_plain::no_node(state),
+        Some(f) => cartgravel_plain::found(iterators::filtered_parent(state, id, f)),
+        None => cartgravel_plain::no_node(state),
     }
 }
 
@@ -168,10 +163,8 @@ pub extern "C" fn cartgravel_first_filtered_child(
     ensures { result ≡ node_reply (view state.now) id first_filtered_child filter }
 {
     match cartgravel_plain::filter_of(filter) {
-        FilterNumber::Known(f) => cartgravel_plain::found(iterators::first_filtered_child(
-            state, id, f,
-        )),
-        FilterNumber::Unknown => cartgravel_plain::no_node(state),
+        Some(f) => cartgravel_plain::found(iterators::first_filtered_child(state, id, f)),
+        None => cartgravel_plain::no_node(state),
     }
 }
 
@@ -185,10 +178,8 @@ pub extern "C" fn cartgravel_last_filtered_child(
     ensures { result ≡ node_reply (view state.now) id last_filtered_child filter }
 {
     match cartgravel_plain::filter_of(filter) {
-        FilterNumber::Known(f) => cartgravel_plain::found(iterators::last_filtered_child(
-            state, id, f,
-        )),
-        FilterNumber::Unknown => cartgravel_plain::no_node(state),
+        Some(f) => cartgravel_plain::found(iterators::last_filtered_child(state, id, f)),
+        None => cartgravel_plain::no_node(state),
     }
 }
 
@@ -202,10 +193,8 @@ pub extern "C" fn cartgravel_deepest_first_filtered_child(
     ensures { result ≡ node_reply (view state.now) id deepest_first_filtered_child filter }
 {
     match cartgravel_plain::filter_of(filter) {
-        FilterNumber::Known(f) => cartgravel_plain::found(iterators::deepest_first_filtered_child(
-            state, id, f,
-        )),
-        FilterNumber::Unknown => cartgravel_plain::no_node(state),
+        Some(f) => cartgravel_plain::found(iterators::deepest_first_filtered_child(state, id, f)),
+        None => cartgravel_plain::no_node(state),
     }
 }
 
@@ -219,10 +208,8 @@ pub extern "C" fn cartgravel_deepest_last_filtered_child(
     ensures { result ≡ node_reply (view state.now) id deepest_last_filtered_child filter }
 {
     match cartgravel_plain::filter_of(filter) {
-        FilterNumber::Known(f) => cartgravel_plain::found(iterators::deepest_last_filtered_child(
-            state, id, f,
-        )),
-        FilterNumber::Unknown => cartgravel_plain::no_node(state),
+        Some(f) => cartgravel_plain::found(iterators::deepest_last_filtered_child(state, id, f)),
+        None => cartgravel_plain::no_node(state),
     }
 }
 
@@ -237,8 +224,8 @@ pub extern "C" fn cartgravel_siblings<'a, 'b>(
     ensures { SiblingsOn (view state.now).forest id out.old result out.new (side_numbered side) }
 {
     match cartgravel_plain::side_of(side) {
-        SideNumber::Known(d) => cartgravel_plain::list(iterators::siblings(state, id, d, out)),
-        SideNumber::Unknown => cartgravel_plain::no_list(state),
+        Some(d) => cartgravel_plain::list(iterators::siblings(state, id, d, out)),
+        None => cartgravel_plain::no_list(state),
     }
 }
 
@@ -253,10 +240,8 @@ pub extern "C" fn cartgravel_filtered_children<'a, 'b>(
     ensures { FilteredChildren (view state.now) id out.old result out.new (filter_numbered filter) }
 {
     match cartgravel_plain::filter_of(filter) {
-        FilterNumber::Known(f) => cartgravel_plain::list(iterators::filtered_children(
-            state, id, f, out,
-        )),
-        FilterNumber::Unknown => cartgravel_plain::no_list(state),
+        Some(f) => cartgravel_plain::list(iterators::filtered_children(state, id, f, out)),
+        None => cartgravel_plain::no_list(state),
     }
 }
 
@@ -272,8 +257,8 @@ pub extern "C" fn cartgravel_filtered_siblings<'a, 'b>(
     ensures { FilteredSiblings (view state.now) id out.old result out.new (side_numbered side) (filter_numbered filter) }
 {
     match cartgravel_plain::filter_of(filter) {
-        FilterNumber::Known(f) => filtered_on(state, id, f, side, out),
-        FilterNumber::Unknown => cartgravel_plain::no_list(state),
+        Some(f) => filtered_on(state, id, f, side, out),
+        None => cartgravel_plain::no_list(state),
     }
 }
 
@@ -288,9 +273,7 @@ fn filtered_on<'a, 'b>(
     ensures { FilteredOn (view state.now) id filter out.old result out.new (side_numbered side) }
 {
     match cartgravel_plain::side_of(side) {
-        SideNumber::Known(d) => cartgravel_plain::list(iterators::filtered_siblings(
-            state, id, filter, d, out,
-        )),
-        SideNumber::Unknown => cartgravel_plain::no_list(state),
+        Some(d) => cartgravel_plain::list(iterators::filtered_siblings(state, id, filter, d, out)),
+        None => cartgravel_plain::no_list(state),
     }
 }

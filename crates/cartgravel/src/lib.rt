@@ -101,9 +101,8 @@ fn moved_on(state: &State, walk: Walk) -> PlainStep
 {
     let s = walk::step(state, walk);
     let walk = s.walk;
-    let answer = s.answer;
     PlainStep {
         walk,
-        answer: cartgravel_plain::found(answer),
+        answer: cartgravel_plain::found(s.answer),
     }
 }

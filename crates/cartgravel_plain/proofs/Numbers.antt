@@ -1,12 +1,11 @@
 -- Numbers that are none of ours. Assumes nothing.
+use Rattle.std.specs.Prelude.{None}
 use mathlib.Core.Path.{◌≡◌, refl}
 use Prim.Native.Nat.{ℕ, zero, suc}
 use Rattle.questions.specs.Kept.{side_of, filter_choice}
-use Rattle.cartgravel_plain.specs.declared.FilterNumber.TheVariants as filter
-use Rattle.cartgravel_plain.specs.declared.SideNumber.TheVariants as side
 use Rattle.cartgravel_plain.specs.Plain.{filter_numbered, side_numbered}
 
-pub no_filter : (k : ℕ) → (k ≡ 1 → ⊥) → (k ≡ 2 → ⊥) → (k ≡ 3 → ⊥) → filter.Unknown ≡ filter_numbered k
+pub no_filter : (k : ℕ) → (k ≡ 1 → ⊥) → (k ≡ 2 → ⊥) → (k ≡ 3 → ⊥) → None ≡ filter_numbered k
 unfolding filter_numbered filter_choice
 no_filter zero a b c = refl
 no_filter (suc zero) a b c = absurd (a refl)
@@ -14,7 +13,7 @@ no_filter (suc (suc zero)) a b c = absurd (b refl)
 no_filter (suc (suc (suc zero))) a b c = absurd (c refl)
 no_filter (suc (suc (suc (suc k)))) a b c = refl
 
-pub no_side : (k : ℕ) → (k ≡ 0 → ⊥) → (k ≡ 1 → ⊥) → side.Unknown ≡ side_numbered k
+pub no_side : (k : ℕ) → (k ≡ 0 → ⊥) → (k ≡ 1 → ⊥) → None ≡ side_numbered k
 unfolding side_numbered side_of
 no_side zero a b = absurd (a refl)
 no_side (suc zero) a b = absurd (b refl)

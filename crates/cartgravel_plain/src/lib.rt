@@ -1,27 +1,22 @@
-// The answers of the questions as plain numbers and structs, for C: enums become a number and fields that are 0 where there is nothing.
+// The answers of the questions as plain numbers and structs, for C: enums become a number and fields that are 0 where there is nothing. A question
+// that is refused has its number, and 0 or none in the other fields.
 #![tactic(auto)]
 
-ghost use Rattle.std.proofs.Math.Option.{none};
-ghost use Rattle.std.specs.Prelude.{◌≡◌, if◌then◌else◌};
+ghost use Rattle.std.specs.Prelude.{◌≡◌};
 ghost use Rattle.state_array.specs.View.{view};
 ghost use Rattle.node_answers.specs.Filter.{result_number};
-ghost use Rattle.node_answers.specs.Answers.{node_answer};
-ghost use Rattle.cartgravel_plain.specs.Plain.{filter_numbered, side_numbered, unknown_number, plain_result, plain_found, plain_list, plain_flag, plain_transform, plain_box};
-ghost use Rattle.cartgravel_plain.specs.Plain.{plain_tree_id, plain_index, plain_ends, plain_counts, rect_field, affine_field, tree_field, number_field, plain_node};
+ghost use Rattle.node_answers.specs.Answers.{refusal_number, answer, number_of};
+ghost use Rattle.cartgravel_plain.specs.Plain.{filter_numbered, side_numbered, unknown_number, plain_result, plain_found, plain_list, plain_flag, plain_transform, plain_box, no_rect, no_transform, no_reading};
+ghost use Rattle.cartgravel_plain.specs.Plain.{plain_tree_id, plain_index, plain_ends, plain_counts, weighed, plain_node};
 
 use geometry::{Affine, Rect};
 use geometry_box::BoundingBox;
-use ids::TreeId;
-use node_answers::{
-    BoxAnswer, CountsAnswer, FilterAnswer, HiddenAnswer, ListAnswer, NodeAnswer, NodeReading,
-    OptionalAffine, OptionalIndex, OptionalNode, OptionalRect, OptionalTree, TransformAnswer,
-    TreeEndsAnswer, TreeIdAnswer, TreeIndexAnswer,
-};
+use ids::{FullNodeId, NodeId, TreeId, TreeIndex};
+use node_answers::{Counts, NodeReading, Refusal};
 use questions::{Filter, FilterResult, Side};
 use replies::OptionalId;
+use state::SubtreeState;
 use state_array::State;
-use state_focus::FoundNode;
-use state_lookup::FoundTree;
 
 // A node, if there is one.
 #[repr(C)]
@@ -70,20 +65,6 @@ pub struct PlainBox {
 pub struct PlainResult {
     pub result: u32,
     pub number: u32,
-}
-
-// A filter by its number, if it is one of ours.
-#[derive(Clone, Copy)]
-pub enum FilterNumber {
-    Known(Filter),
-    Unknown,
-}
-
-// A side by its number, if it is one of ours.
-#[derive(Clone, Copy)]
-pub enum SideNumber {
-    Known(Side),
-    Unknown,
 }
 
 // What a node says of itself. A field whose flag (the record's) is clear is 0.
@@ -138,129 +119,155 @@ pub struct PlainCounts {
     pub number: u32,
 }
 
-pub fn found(a: NodeAnswer) -> FoundId
-    ensures { result ≡ plain_found a }
+// The number of an answer: 0, or why it is refused.
+fn number_of<T: Copy>(a: Result<T, Refusal>) -> u32
+    ensures { result ≡ number_of a }
 {
-    let node = a.node;
-    FoundId {
-        id: replies::plain_id(node),
-        number: a.number as u32,
+    match a {
+        Ok(_) => 0,
+        Err(refusal) => refusal.number() as u32,
     }
 }
 
-pub fn list(a: ListAnswer) -> Listed
+pub fn found(a: Result<Option<FullNodeId>, Refusal>) -> FoundId
+    ensures { result ≡ plain_found a }
+{
+    FoundId {
+        id: replies::plain_id(a.unwrap_or(None)),
+        number: number_of(a),
+    }
+}
+
+pub fn list(a: Result<usize, Refusal>) -> Listed
     ensures { result ≡ plain_list a }
 {
     Listed {
-        length: a.length,
-        number: a.number as u32,
+        length: a.unwrap_or(0),
+        number: number_of(a),
     }
 }
 
-pub fn hidden(a: HiddenAnswer) -> Flag
+pub fn hidden(a: Result<bool, Refusal>) -> Flag
     ensures { result ≡ plain_flag a }
 {
     Flag {
-        value: weighed(1, a.hidden) as u32,
-        number: a.number as u32,
+        value: weighed(1, a.unwrap_or(false)) as u32,
+        number: number_of(a),
     }
 }
 
-pub fn transform(a: TransformAnswer) -> PlainTransform
+pub fn transform(a: Result<Affine, Refusal>) -> PlainTransform
     ensures { result ≡ plain_transform a }
 {
-    let transform = a.transform;
     PlainTransform {
-        transform,
-        number: a.number as u32,
+        transform: a.unwrap_or(no_transform()),
+        number: number_of(a),
     }
 }
 
-pub fn bounding_box(a: BoxAnswer) -> PlainBox
+pub fn bounding_box(a: Result<BoundingBox, Refusal>) -> PlainBox
     ensures { result ≡ plain_box a }
 {
-    let number = a.number as u32;
-    let b = a.bounding_box;
-    match b {
+    let number = number_of(a);
+    match a.unwrap_or(BoundingBox::None) {
         BoundingBox::Box(x0, y0, x1, y1) => PlainBox {
             rect: Rect { x0, y0, x1, y1 },
             kind: 1,
             number,
         },
         BoundingBox::None => PlainBox {
-            rect: Rect {
-                x0: 0.0,
-                y0: 0.0,
-                x1: 0.0,
-                y1: 0.0,
-            },
+            rect: no_rect(),
             kind: 0,
             number,
         },
     }
 }
 
+// All zeros.
+fn no_rect() -> Rect
+    ensures { result ≡ no_rect }
+{
+    Rect {
+        x0: 0.0,
+        y0: 0.0,
+        x1: 0.0,
+        y1: 0.0,
+    }
+}
+
+// The same.
+fn no_transform() -> Affine
+    ensures { result ≡ no_transform }
+{
+    Affine {
+        a: 0.0,
+        b: 0.0,
+        c: 0.0,
+        d: 0.0,
+        e: 0.0,
+        f: 0.0,
+    }
+}
+
 // 1, 2 and 3 are filters.
-pub fn filter_of(number: u32) -> FilterNumber
+pub fn filter_of(number: u32) -> Option<Filter>
     ensures { result ≡ filter_numbered number }
 {
     match number {
-        1 => FilterNumber::Known(Filter::Common),
-        2 => FilterNumber::Known(Filter::WithRootException),
-        3 => FilterNumber::Known(Filter::WithoutParentChecks),
-        _ => FilterNumber::Unknown,
+        1 => Some(Filter::Common),
+        2 => Some(Filter::WithRootException),
+        3 => Some(Filter::WithoutParentChecks),
+        _ => None,
     }
 }
 
 // 0 and 1 are sides.
-pub fn side_of(number: u32) -> SideNumber
+pub fn side_of(number: u32) -> Option<Side>
     ensures { result ≡ side_numbered number }
 {
     match number {
-        0 => SideNumber::Known(Side::Following),
-        1 => SideNumber::Known(Side::Preceding),
-        _ => SideNumber::Unknown,
+        0 => Some(Side::Following),
+        1 => Some(Side::Preceding),
+        _ => None,
     }
 }
 
-// What a question with a number that is none of ours answers: 1 where the state is not sound, else 2.
-pub fn unknown(state: &State) -> u8
-    ensures { result ≡ unknown_number (view state.now).forest }
+// Why a question with a number that is none of ours is refused: 1 where the state is not sound, else 2.
+pub fn unknown(state: &State) -> Refusal
+    ensures { refusal_number result ≡ unknown_number (view state.now).forest }
 {
-    if state_sound::sound(state) { 2 } else { 1 }
+    if state_sound::sound(state) {
+        Refusal::NotOurs
+    } else {
+        Refusal::NotSound
+    }
 }
 
 // That alone, where a node is asked for.
 pub fn no_node(state: &State) -> FoundId
-    ensures { result ≡ plain_found (node_answer (unknown_number (view state.now).forest) none) }
+    ensures { result ≡ plain_found (answer (unknown_number (view state.now).forest) None) }
 {
-    FoundId {
-        id: replies::plain_id(FoundNode::Nothing),
-        number: unknown(state) as u32,
-    }
+    found(Err(unknown(state)))
 }
 
 // That alone, where a list is.
 pub fn no_list(state: &State) -> Listed
     ensures { result ≡ record { length = 0; number = unknown_number (view state.now).forest } }
 {
-    Listed {
-        length: 0,
-        number: unknown(state) as u32,
-    }
+    list(Err(unknown(state)))
 }
 
-pub fn filter_result(a: FilterAnswer) -> PlainResult
+pub fn filter_result(a: Result<FilterResult, Refusal>) -> PlainResult
     ensures { result ≡ plain_result a }
 {
     match a {
-        FilterAnswer::Refused(n) => PlainResult {
-            result: 0,
-            number: n as u32,
-        },
-        FilterAnswer::Result(r) => PlainResult {
+        Ok(r) => PlainResult {
             result: result_number(r),
             number: 0,
+        },
+        Err(refusal) => PlainResult {
+            result: 0,
+            number: refusal.number() as u32,
         },
     }
 }
@@ -275,18 +282,17 @@ fn result_number(r: FilterResult) -> u32
     }
 }
 
-pub fn tree_id(a: TreeIdAnswer) -> PlainTreeId
+pub fn tree_id(a: Result<Option<TreeId>, Refusal>) -> PlainTreeId
     ensures { result ≡ plain_tree_id a }
 {
-    let number = a.number as u32;
-    let tree = a.tree;
-    match tree {
-        OptionalTree::Given(id) => PlainTreeId {
+    let number = number_of(a);
+    match a.unwrap_or(None) {
+        Some(id) => PlainTreeId {
             id,
             present: 1,
             number,
         },
-        OptionalTree::None => PlainTreeId {
+        None => PlainTreeId {
             id: TreeId { high: 0, low: 0 },
             present: 0,
             number,
@@ -294,18 +300,17 @@ pub fn tree_id(a: TreeIdAnswer) -> PlainTreeId
     }
 }
 
-pub fn tree_index(a: TreeIndexAnswer) -> PlainIndex
+pub fn tree_index(a: Result<Option<TreeIndex>, Refusal>) -> PlainIndex
     ensures { result ≡ plain_index a }
 {
-    let number = a.number as u32;
-    let index = a.index;
-    match index {
-        OptionalIndex::Given(k) => PlainIndex {
+    let number = number_of(a);
+    match a.unwrap_or(None) {
+        Some(k) => PlainIndex {
             index: k.0,
             present: 1,
             number,
         },
-        OptionalIndex::None => PlainIndex {
+        None => PlainIndex {
             index: 0,
             present: 0,
             number,
@@ -313,162 +318,82 @@ pub fn tree_index(a: TreeIndexAnswer) -> PlainIndex
     }
 }
 
-pub fn tree_ends(a: TreeEndsAnswer) -> PlainEnds
+pub fn tree_ends(a: Result<Option<SubtreeState>, Refusal>) -> PlainEnds
     ensures { result ≡ plain_ends a }
 {
-    let number = a.number as u32;
-    let ends = a.ends;
-    match ends {
-        FoundTree::At(e) => {
-            let root = e.root;
-            let focus = e.focus;
-            PlainEnds {
-                root: replies::plain_id(FoundNode::At(root)),
-                focus: replies::plain_id(FoundNode::At(focus)),
-                number,
-            }
-        }
-        FoundTree::Nothing => PlainEnds {
-            root: replies::plain_id(FoundNode::Nothing),
-            focus: replies::plain_id(FoundNode::Nothing),
+    let number = number_of(a);
+    match a.unwrap_or(None) {
+        Some(e) => PlainEnds {
+            root: replies::plain_id(Some(e.root)),
+            focus: replies::plain_id(Some(e.focus)),
+            number,
+        },
+        None => PlainEnds {
+            root: replies::plain_id(None),
+            focus: replies::plain_id(None),
             number,
         },
     }
 }
 
-pub fn counts(a: CountsAnswer) -> PlainCounts
+pub fn counts(a: Result<Counts, Refusal>) -> PlainCounts
     ensures { result ≡ plain_counts a }
 {
+    let counted = a.unwrap_or(Counts {
+        nodes: 0,
+        trees: 0,
+        host_focused: false,
+    });
     PlainCounts {
-        nodes: a.nodes,
-        trees: a.trees,
-        host_focused: weighed(1, a.host_focused) as u32,
-        number: a.number as u32,
+        nodes: counted.nodes,
+        trees: counted.trees,
+        host_focused: weighed(1, counted.host_focused) as u32,
+        number: number_of(a),
     }
 }
 
-pub fn node(a: NodeReading) -> PlainNode
+pub fn node(a: Result<NodeReading, Refusal>) -> PlainNode
     ensures { result ≡ plain_node a }
 {
-    let own_bounds = a.bounds;
-    let own_transform = a.transform;
-    let own_graft = a.graft;
-    let descendant = a.active_descendant;
-    let bounds = plain_rect(own_bounds);
-    let transform = plain_affine(own_transform);
-    let graft = plain_tree(own_graft);
-    let active = plain_number(descendant);
-    let hidden = weighed(1, a.hidden);
-    let clips = weighed(2, a.clips_children);
-    let rect = bounds.value;
-    let affine = transform.value;
-    let tree = graft.value;
+    let r = a.unwrap_or(no_reading());
+    let own = weighed(1, r.hidden) as u32 + weighed(2, r.clips_children) as u32;
     PlainNode {
-        bounds: rect,
-        transform: affine,
-        graft: tree,
-        active_descendant: active.value,
-        label_length: a.label_length,
-        child_count: a.child_count,
-        role: a.role as u32,
-        flags: hidden as u32
-            + clips as u32
-            + active.flag as u32
-            + graft.flag as u32
-            + bounds.flag as u32
-            + transform.flag as u32,
-        number: a.number as u32,
+        bounds: r.bounds.unwrap_or(no_rect()),
+        transform: r.transform.unwrap_or(no_transform()),
+        graft: r.graft.unwrap_or(TreeId { high: 0, low: 0 }),
+        active_descendant: r.active_descendant.unwrap_or(NodeId(0)).0,
+        label_length: r.label_length,
+        child_count: r.child_count,
+        role: r.role as u32,
+        flags: own
+            + weighed(4, r.active_descendant.is_some()) as u32
+            + weighed(8, r.graft.is_some()) as u32
+            + weighed(16, r.bounds.is_some()) as u32
+            + weighed(32, r.transform.is_some()) as u32,
+        number: number_of(a),
     }
 }
 
-// A field and its flag's weight; 0 where there is nothing.
-#[derive(Clone, Copy)]
-struct RectField {
-    value: Rect,
-    flag: u8,
-}
-
-#[derive(Clone, Copy)]
-struct AffineField {
-    value: Affine,
-    flag: u8,
-}
-
-#[derive(Clone, Copy)]
-struct TreeField {
-    value: TreeId,
-    flag: u8,
-}
-
-#[derive(Clone, Copy)]
-struct NumberField {
-    value: u64,
-    flag: u8,
-}
-
-fn plain_rect(o: OptionalRect) -> RectField
-    ensures { result ≡ rect_field o }
+// What is told of no node.
+fn no_reading() -> NodeReading
+    ensures { result ≡ no_reading }
 {
-    match o {
-        OptionalRect::Given(value) => RectField { value, flag: 16 },
-        OptionalRect::None => RectField {
-            value: Rect {
-                x0: 0.0,
-                y0: 0.0,
-                x1: 0.0,
-                y1: 0.0,
-            },
-            flag: 0,
-        },
-    }
-}
-
-fn plain_affine(o: OptionalAffine) -> AffineField
-    ensures { result ≡ affine_field o }
-{
-    match o {
-        OptionalAffine::Given(value) => AffineField { value, flag: 32 },
-        OptionalAffine::None => AffineField {
-            value: Affine {
-                a: 0.0,
-                b: 0.0,
-                c: 0.0,
-                d: 0.0,
-                e: 0.0,
-                f: 0.0,
-            },
-            flag: 0,
-        },
-    }
-}
-
-fn plain_tree(o: OptionalTree) -> TreeField
-    ensures { result ≡ tree_field o }
-{
-    match o {
-        OptionalTree::Given(value) => TreeField { value, flag: 8 },
-        OptionalTree::None => TreeField {
-            value: TreeId { high: 0, low: 0 },
-            flag: 0,
-        },
-    }
-}
-
-fn plain_number(o: OptionalNode) -> NumberField
-    ensures { result ≡ number_field o }
-{
-    match o {
-        OptionalNode::Given(n) => NumberField {
-            value: n.0,
-            flag: 4,
-        },
-        OptionalNode::None => NumberField { value: 0, flag: 0 },
+    NodeReading {
+        role: 0,
+        hidden: false,
+        clips_children: false,
+        label_length: 0,
+        child_count: 0,
+        bounds: None,
+        transform: None,
+        active_descendant: None,
+        graft: None,
     }
 }
 
 // The weight of a flag that is set, else 0.
 fn weighed(weight: u8, set: bool) -> u8
-    ensures { result ≡ (if set then weight else 0) }
+    ensures { result ≡ weighed weight set }
 {
     if set { weight } else { 0 }
 }

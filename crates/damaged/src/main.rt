@@ -14,14 +14,13 @@ fn main(rt: HostRuntime) {
     let mut chunk = [0u8; 65536];
     let mut text = [0u8; 8192];
     let mut input = lines::of();
-    let mut turns = u64::MAX;
-    while 0 < turns {
+    // Nothing says that standard input ends, so the turns have a bound that no run reaches.
+    for _ in 0..u64::MAX {
         input = lines::next(input, &mut file, &mut chunk, &mut text);
         if input.ended {
             return;
         }
         judge(rt.stdout(), lines::line(&text, input));
-        turns -= 1;
     }
 }
 
@@ -80,13 +79,11 @@ fn change_all(state: &mut State, text: &[u8]) {
 // Changes the words that a line names from a place on.
 fn change(state: &mut State, line: &[u8], from: Cursor) {
     let mut c = from;
-    let mut turns = line.len();
-    while 0 < turns {
+    for _ in 0..line.len() {
         if cursor::is_done(c) {
             return;
         }
         c = with_word(state, line, c);
-        turns -= 1;
     }
 }
 

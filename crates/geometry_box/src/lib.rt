@@ -13,7 +13,8 @@ pub struct Point {
     pub y: f64,
 }
 
-// The box from (x0, y0) to (x1, y1), in the order x0, y0, x1, y1; or none.
+// The box from (x0, y0) to (x1, y1), in the order x0, y0, x1, y1; or none. Not an Option: document 01 names this enum, and document 02, #102, gives
+// it a third kind.
 #[derive(Clone, Copy)]
 pub enum BoundingBox {
     Box(f64, f64, f64, f64),
@@ -87,7 +88,8 @@ pub fn are_apart(b: BoundingBox, c: BoundingBox) -> bool
     }
 }
 
-// Whether both are boxes and their intersection is not empty.
+// Whether both are boxes and their intersection is not empty. An inner function that answers the shared area would be no plainer: it needs a
+// definition of its own, and both functions a match on its answer.
 pub fn do_meet(b: BoundingBox, c: BoundingBox) -> bool
     ensures { result ≡ meet b c }
 {

@@ -1,5 +1,3 @@
 pub mod Answers
-pub mod Links
 pub mod TreeState
-pub mod Filter
 pub mod Examples

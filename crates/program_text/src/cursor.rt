@@ -80,15 +80,13 @@ pub fn is(line: &[u8], c: Cursor, name: &[u8]) -> bool {
 // Which of some names the word is, the first at 0, how many there are where it is none of them.
 pub fn which<'a>(line: &'a [u8], c: Cursor, names: &'a [u8]) -> u64 {
     let mut name = first(names);
-    let mut n: u64 = 0;
-    while n < 64 {
+    for n in 0..64 {
         if is_done(name) | is(line, c, word(names, name)) {
             return n;
         }
         name = next(names, name);
-        n += 1;
     }
-    n
+    64
 }
 
 // The first byte of the word, 0 at the line's end.
@@ -99,16 +97,11 @@ pub fn first_byte(line: &[u8], c: Cursor) -> u8 {
     record_wire::u8_at(line, c.from)
 }
 
-// The first place from `from` on where no space stands.
+// The first place from `from` on where no space stands, or the line's end.
 fn after_spaces(line: &[u8], from: usize) -> usize {
-    let mut at = from;
-    while at < line.len() {
-        if !is_space(line[at]) {
-            return at;
-        }
-        at += 1;
-    }
-    at
+    (from..line.len())
+        .find(|&at| !is_space(line[at]))
+        .unwrap_or(line.len())
 }
 
 // Where the word that starts at `from` ends.
@@ -125,28 +118,21 @@ fn word_end(line: &[u8], from: usize) -> usize {
 
 // The first place from `from` on where a space stands, or the line's end.
 fn plain_end(line: &[u8], from: usize) -> usize {
-    let mut at = from;
-    while at < line.len() {
-        if is_space(line[at]) {
-            return at;
-        }
-        at += 1;
-    }
-    at
+    (from..line.len())
+        .find(|&at| is_space(line[at]))
+        .unwrap_or(line.len())
 }
 
 // Past the closing quote of the label whose opening quote stands at `from`, or the line's end.
 fn label_end(line: &[u8], from: usize) -> usize {
     let mut escaped = true;
-    let mut at = from;
-    while at < line.len() {
+    for at in from..line.len() {
         if (line[at] == b'"') & !escaped {
             return at + 1;
         }
         escaped = (line[at] == b'\\') & !escaped;
-        at += 1;
     }
-    at
+    line.len()
 }
 
 // A tab or a carriage return counts as a space.

@@ -7,16 +7,12 @@ const MOST_DIGITS: u64 = 999999999999999;
 
 const MOST_POWER: u64 = 22;
 
-// The largest number behind which one hexadecimal digit more fits.
-const MOST_SHIFTED: u64 = 1152921504606846975;
-
-// A run of digits: its number, how many there are, where it ends, and whether there is one and the number fits.
+// A run of digits: its number, how many there are, and where it ends.
 #[derive(Clone, Copy)]
 struct DigitRun {
     value: u64,
     count: u64,
     end: usize,
-    good: bool,
 }
 
 // A sign, or none: whether it is a minus, and where what it stands before begins.
@@ -32,89 +28,90 @@ struct Power {
     value: u64,
     negative: bool,
     end: usize,
-    good: bool,
 }
 
 // A whole number of at most `most`.
 pub fn whole(line: &[u8], c: Cursor, most: u64, fault: u8) -> Cursor {
-    let d = digits(line, c.from, c.end, 0);
-    if !d.good | (d.end < c.end) | (most < d.value) {
-        return cursor::failed(c, fault);
+    match digits(line, c.from, c.end, 0) {
+        Some(d) if (c.end <= d.end) & (d.value <= most) => with_number(line, c, d.value),
+        _ => cursor::failed(c, fault),
     }
-    let mut e = c;
-    e.number = d.value;
-    cursor::next(line, e)
+}
+
+// On the next word, with a number.
+fn with_number(line: &[u8], c: Cursor, number: u64) -> Cursor {
+    cursor::next(line, Cursor { number, ..c })
 }
 
 // A whole number, or a row of them, FIRST..LAST.
 pub fn row(line: &[u8], c: Cursor, fault: u8) -> Cursor {
-    let first = digits(line, c.from, c.end, 0);
+    let Some(first) = digits(line, c.from, c.end, 0) else {
+        return cursor::failed(c, fault);
+    };
     let dots = first.end;
     if (record_wire::u8_at(line, dots) != b'.') | (record_wire::u8_at(line, past(dots)) != b'.') {
-        let mut d = whole(line, c, u64::MAX, fault);
-        d.last = d.number;
-        return d;
+        let d = whole(line, c, u64::MAX, fault);
+        return Cursor {
+            last: d.number,
+            ..d
+        };
     }
-    let last = digits(line, past(past(dots)), c.end, 0);
-    if !first.good | !last.good | (last.end < c.end) | (last.value < first.value) {
-        return cursor::failed(c, fault);
+    match digits(line, past(past(dots)), c.end, 0) {
+        Some(d) if (c.end <= d.end) & (first.value <= d.value) => {
+            let last = d.value;
+            with_number(line, Cursor { last, ..c }, first.value)
+        }
+        _ => cursor::failed(c, fault),
     }
-    let mut e = c;
-    e.number = first.value;
-    e.last = last.value;
-    cursor::next(line, e)
 }
 
 // A tree id: ROOT, its low half, or its high and low half with a colon between them.
 pub fn tree(line: &[u8], c: Cursor, fault: u8) -> Cursor {
-    let mut e = c;
-    e.high = 0;
-    e.number = 0;
+    let of_low = Cursor { high: 0, ..c };
     if cursor::is(line, c, b"ROOT") {
-        return cursor::next(line, e);
+        return with_number(line, of_low, 0);
     }
-    let high = digits(line, c.from, c.end, 0);
-    if record_wire::u8_at(line, high.end) != b':' {
-        return whole(line, e, u64::MAX, fault);
-    }
-    let low = digits(line, past(high.end), c.end, 0);
-    if !high.good | !low.good | (low.end < c.end) {
+    let Some(first) = digits(line, c.from, c.end, 0) else {
         return cursor::failed(c, fault);
+    };
+    if record_wire::u8_at(line, first.end) != b':' {
+        return whole(line, of_low, u64::MAX, fault);
     }
-    e.high = high.value;
-    e.number = low.value;
-    cursor::next(line, e)
+    match digits(line, past(first.end), c.end, 0) {
+        Some(low) if c.end <= low.end => {
+            let high = first.value;
+            with_number(line, Cursor { high, ..c }, low.value)
+        }
+        _ => cursor::failed(c, fault),
+    }
 }
 
 // A decimal, of which the cursor's number is the bits, or these bits themselves, `0x` and hexadecimal digits.
 pub fn float(line: &[u8], c: Cursor, fault: u8) -> Cursor {
-    if (record_wire::u8_at(line, c.from) == b'0')
-        & (record_wire::u8_at(line, past(c.from)) == b'x')
-    {
-        return bits(line, c, fault);
+    let is_hexadecimal = (record_wire::u8_at(line, c.from) == b'0')
+        & (record_wire::u8_at(line, past(c.from)) == b'x');
+    let bits = if is_hexadecimal {
+        hexadecimal(line, past(past(c.from)), c.end)
+    } else {
+        decimal(line, c.from, c.end)
+    };
+    match bits {
+        Some(number) => with_number(line, c, number),
+        None => cursor::failed(c, fault),
     }
-    of_decimal(line, c, fault)
 }
 
-// The bits of a number: sixteen hexadecimal digits at most behind `0x`.
-fn bits(line: &[u8], c: Cursor, fault: u8) -> Cursor {
-    let first = past(past(c.from));
+// A number of sixteen hexadecimal digits at most.
+fn hexadecimal(line: &[u8], from: usize, end: usize) -> Option<u64> {
+    if end <= from {
+        return None;
+    }
     let mut value: u64 = 0;
-    let mut at = first;
-    while at < c.end {
-        let digit = hex_digit(record_wire::u8_at(line, at));
-        if (15 < digit) | (MOST_SHIFTED < value) {
-            return cursor::failed(c, fault);
-        }
-        value = 16 * (value % (MOST_SHIFTED + 1)) + (digit % 16) as u64;
-        at += 1;
+    for at in from..end {
+        let digit = char::from(record_wire::u8_at(line, at)).to_digit(16)?;
+        value = value.checked_mul(16)?.checked_add(digit as u64)?;
     }
-    if c.end <= first {
-        return cursor::failed(c, fault);
-    }
-    let mut e = c;
-    e.number = value;
-    cursor::next(line, e)
+    Some(value)
 }
 
 // The value of a hexadecimal digit, 16 if it is none.
@@ -127,71 +124,53 @@ pub fn hex_digit(byte: u8) -> u8 {
     }
 }
 
-// A decimal.
-fn of_decimal(line: &[u8], c: Cursor, fault: u8) -> Cursor {
-    let sign = sign_at(line, c.from);
-    let whole_part = digits(line, sign.end, c.end, 0);
-    let mantissa = with_fraction(line, c.end, whole_part);
-    let power = exponent(line, mantissa.end, c.end);
-    if !mantissa.good | !power.good | (power.end < c.end) | (MOST_DIGITS < mantissa.value) {
-        return cursor::failed(c, fault);
+// The bits of a decimal.
+fn decimal(line: &[u8], from: usize, end: usize) -> Option<u64> {
+    let sign = sign_at(line, from);
+    let whole_part = digits(line, sign.end, end, 0)?;
+    let mantissa = with_fraction(line, end, whole_part)?;
+    let power = exponent(line, mantissa.end, end)?;
+    if (power.end < end) | (MOST_DIGITS < mantissa.value) {
+        return None;
     }
     let up = if power.negative { 0 } else { power.value };
     let down = if power.negative { power.value } else { 0 };
-    let all_down = std::num::wrapping_add_u64(mantissa.count, down);
-    if (MOST_POWER < distance(up, all_down)) | (all_down < down) {
-        return cursor::failed(c, fault);
+    let all_down = mantissa.count.checked_add(down)?;
+    if MOST_POWER < up.abs_diff(all_down) {
+        return None;
     }
-    let bits = bits_of(scaled(mantissa.value, up, all_down));
-    let mut e = c;
-    e.number = with_sign(bits, sign.negative);
-    cursor::next(line, e)
+    let x = scaled(mantissa.value, up, all_down);
+    let signed = if sign.negative { -x } else { x };
+    if !signed.is_finite() {
+        return None;
+    }
+    Some(signed.to_bits())
 }
 
-// The digits from `from` on, put behind the digits of a number before them.
-fn digits(line: &[u8], from: usize, end: usize, before: u64) -> DigitRun {
-    let mut d = DigitRun {
-        value: before,
-        count: 0,
-        end: from,
-        good: true,
-    };
-    let mut at = from;
-    while at < end {
-        let byte = record_wire::u8_at(line, at);
-        if !is_digit(byte) {
-            return ended(d, at);
-        }
-        d = with_digit(d, byte);
-        at += 1;
+// The digits from `from` on, put behind the digits of a number before them, if there is one and the number fits.
+fn digits(line: &[u8], from: usize, end: usize, before: u64) -> Option<DigitRun> {
+    let mut value = before;
+    for at in from..end {
+        let Some(digit) = char::from(record_wire::u8_at(line, at)).to_digit(10) else {
+            return run(from, at, value);
+        };
+        value = value.checked_mul(10)?.checked_add(digit as u64)?;
     }
-    ended(d, at)
+    run(from, end, value)
 }
 
-// A run of digits that ends here.
-fn ended(d: DigitRun, end: usize) -> DigitRun {
-    let mut e = d;
-    e.end = end;
-    e.good = d.good & (0 < d.count);
-    e
-}
-
-// With a digit more.
-fn with_digit(d: DigitRun, byte: u8) -> DigitRun {
-    let digit = (byte % 16 % 10) as u64;
-    let mut e = d;
-    e.count = std::num::wrapping_add_u64(d.count, 1);
-    if (u64::MAX - digit) / 10 < d.value {
-        e.good = false;
-        return e;
+// A run from one place to before another, unless it is empty.
+fn run(from: usize, end: usize, value: u64) -> Option<DigitRun> {
+    let count = end.checked_sub(from)? as u64;
+    if count < 1 {
+        return None;
     }
-    e.value = 10 * d.value + digit;
-    e
+    Some(DigitRun { value, count, end })
 }
 
 // Whether a byte is a decimal digit.
 pub fn is_digit(byte: u8) -> bool {
-    (b'0' <= byte) & (byte <= b'9')
+    byte.is_ascii_digit()
 }
 
 // The sign at a place, if one stands there.
@@ -210,36 +189,33 @@ fn sign_at(line: &[u8], at: usize) -> Sign {
 }
 
 // A decimal's digits without the point, with the count of those behind it.
-fn with_fraction(line: &[u8], end: usize, whole_part: DigitRun) -> DigitRun {
-    let mut d = whole_part;
-    d.count = 0;
+fn with_fraction(line: &[u8], end: usize, whole_part: DigitRun) -> Option<DigitRun> {
     if record_wire::u8_at(line, whole_part.end) != b'.' {
-        return d;
+        return Some(DigitRun {
+            count: 0,
+            ..whole_part
+        });
     }
-    d = digits(line, past(whole_part.end), end, whole_part.value);
-    d.good = d.good & whole_part.good;
-    d
+    digits(line, past(whole_part.end), end, whole_part.value)
 }
 
 // The exponent at a place, 0 where none stands there.
-fn exponent(line: &[u8], at: usize, end: usize) -> Power {
+fn exponent(line: &[u8], at: usize, end: usize) -> Option<Power> {
     let byte = record_wire::u8_at(line, at);
     if (byte != b'e') & (byte != b'E') {
-        return Power {
+        return Some(Power {
             value: 0,
             negative: false,
             end: at,
-            good: true,
-        };
+        });
     }
     let sign = sign_at(line, past(at));
-    let d = digits(line, sign.end, end, 0);
-    Power {
+    let d = digits(line, sign.end, end, 0)?;
+    Some(Power {
         value: d.value,
         negative: sign.negative,
         end: d.end,
-        good: d.good,
-    }
+    })
 }
 
 // The place after a place.
@@ -247,41 +223,18 @@ pub fn past(at: usize) -> usize {
     std::num::wrapping_add_usize(at, 1)
 }
 
-// How far two numbers lie apart.
-fn distance(a: u64, b: u64) -> u64 {
-    if a < b { b - a } else { a - b }
-}
-
 // A number times a power of ten, divided by another.
 pub fn scaled(value: u64, up: u64, down: u64) -> f64 {
     let x = std::num::nearest_u64_to_f64(value);
-    let factor = ten_to(distance(up, down));
+    let factor = ten_to(up.abs_diff(down));
     if up < down { x / factor } else { x * factor }
 }
 
 // A power of ten.
 pub fn ten_to(power: u64) -> f64 {
     let mut x = 1.0;
-    let mut i: u64 = 0;
-    while i < power {
-        x = x * 10.0;
-        i += 1;
+    for _ in 0..power {
+        x *= 10.0;
     }
     x
-}
-
-// The bits of a finite number.
-fn bits_of(x: f64) -> u64 {
-    if !geometry::is_finite(x) {
-        return 0;
-    }
-    f64::to_bits(x)
-}
-
-// The bits with a sign, of a number that has none.
-fn with_sign(bits: u64, negative: bool) -> u64 {
-    if negative {
-        return std::num::wrapping_add_u64(bits, 9223372036854775808);
-    }
-    bits
 }

@@ -1,7 +1,7 @@
 // What can be wrong with a line, and how it is said: what was found, and what was expected.
 use crate::cursor::Cursor;
 use crate::print::{Out, put};
-use crate::{cursor, print, utf8};
+use crate::{cursor, lines, print, utf8};
 
 // The faults, named by what was expected: the lines of `expected`, from 1 on.
 pub const OUTSIDE: u8 = 1;
@@ -104,14 +104,11 @@ fn found(out: &mut Out, line: &[u8], c: Cursor) {
 // Writes a word of any bytes, at most 60 of them.
 fn printable(out: &mut Out, word: &[u8]) {
     let plain = utf8::is_plain(word);
-    let mut i: usize = 0;
-    while i < word.len() {
-        if MOST_SHOWN <= i {
-            put(out, b"..");
-            return;
-        }
-        print::letter(out, word[i], plain);
-        i += 1;
+    for &byte in lines::part(word, MOST_SHOWN) {
+        print::letter(out, byte, plain);
+    }
+    if MOST_SHOWN < word.len() {
+        put(out, b"..");
     }
 }
 

@@ -43,9 +43,8 @@ pub fn next<R: Read>(
     i.length = 0;
     i.cut = false;
     i.number = std::num::wrapping_add_u64(input.number, 1);
-    // Nothing says that a file ends, so the turns are counted down from a number that no run uses up.
-    let mut turns = u64::MAX;
-    while 0 < turns {
+    // Nothing says that a file ends, so the turns have a bound that no run reaches.
+    for _ in 0..u64::MAX {
         i = filled(i, file, chunk);
         if i.end <= i.from {
             return at_end(i);
@@ -56,7 +55,6 @@ pub fn next<R: Read>(
             return i;
         }
         i = with_byte(i, line, byte);
-        turns -= 1;
     }
     at_end(i)
 }
@@ -138,19 +136,10 @@ pub fn read_full<R: Read>(file: &mut R, buffer: &mut [u8]) -> usize
 
 // The first n bytes, or all.
 pub fn part(bytes: &[u8], n: usize) -> &[u8] {
-    if n < bytes.len() {
-        return &bytes[0..n];
-    }
-    bytes
+    &bytes[..n.min(bytes.len())]
 }
 
 // The bytes from one place to before another, none where they do not lie so.
 pub fn between(bytes: &[u8], from: usize, end: usize) -> &[u8] {
-    if bytes.len() < end {
-        return &bytes[..0];
-    }
-    if end < from {
-        return &bytes[..0];
-    }
-    &bytes[from..end]
+    bytes.get(from..end).unwrap_or(&[])
 }

@@ -34,12 +34,10 @@ pub fn blank(stdout: Stdout) -> Out {
 // Words as they are.
 pub fn put(out: &mut Out, text: &[u8]) {
     let mut at = text_end(out);
-    let mut i: usize = 0;
-    while i < text.len() {
+    for &byte in text {
         let place = next_place(out, at);
-        out.kept[place] = text[i];
+        out.kept[place] = byte;
         at = place + 1;
-        i += 1;
     }
     set_end(out, at);
 }
@@ -97,21 +95,8 @@ fn wide(byte: u8) -> usize
 // number.
 pub fn name_unborn(out: &mut Out, number: usize, t: TreeId) {
     out.kept[UNBORN] = (number % 256) as u8;
-    put_word(out, HIGH, t.high);
-    put_word(out, LOW, t.low);
-}
-
-// Stores a word, its lowest byte first.
-fn put_word(out: &mut Out, at: usize, word: u64)
-    requires { at ≤ 16 }
-{
-    let mut rest = word;
-    let mut i: usize = 0;
-    while i < 8 {
-        out.kept[at + i] = (rest % 256) as u8;
-        rest /= 256;
-        i += 1;
-    }
+    out.kept[HIGH..HIGH + 8].copy_from_slice(&t.high.to_le_bytes());
+    out.kept[LOW..LOW + 8].copy_from_slice(&t.low.to_le_bytes());
 }
 
 // A number in decimal.
@@ -124,7 +109,7 @@ pub fn number(out: &mut Out, n: u64) {
 // A number in at least so many hexadecimal digits.
 pub fn hex(out: &mut Out, n: u64, width: usize) {
     let mut text = [0u8; 16];
-    let from = hex_digits(n, width, &mut text);
+    let from = digits(n, 16, width, &mut text);
     put(out, &text[from..]);
 }
 
@@ -132,34 +117,23 @@ pub fn hex(out: &mut Out, n: u64, width: usize) {
 pub fn decimal_digits(n: u64, text: &mut [u8; 20]) -> usize
     ensures { result ≤ 20 }
 {
-    let mut rest = n;
-    let mut at: usize = 20;
-    while 0 < at {
-        at -= 1;
-        text[at] = digit((rest % 10) as u8);
-        rest /= 10;
-        if rest < 1 {
-            return at;
-        }
-    }
-    at
+    digits(n, 10, 1, text)
 }
 
-// Puts at least so many hexadecimal digits of a number at the end of a text, one at least and 16 at most; where they start.
-fn hex_digits(n: u64, width: usize, text: &mut [u8; 16]) -> usize
-    ensures { result ≤ 16 }
+// Puts at least so many digits of a number at the end of a text, one at least and at most what fits; where they start.
+fn digits<const N: usize>(n: u64, base: u64, width: usize, text: &mut [u8; N]) -> usize
+    requires { (0 < base) × (base ≤ 16) }
+    ensures { result ≤ N }
 {
     let mut rest = n;
-    let mut at: usize = 16;
-    while 0 < at {
-        at -= 1;
-        text[at] = digit((rest % 16) as u8);
-        rest /= 16;
-        if (rest < 1) & (width <= 16 - at) {
+    for at in (0..N).rev() {
+        text[at] = digit((rest % base) as u8);
+        rest /= base;
+        if (rest < 1) & (width <= N - at) {
             return at;
         }
     }
-    at
+    0
 }
 
 // A digit of at most 15 as a letter.
@@ -193,31 +167,14 @@ pub fn count(out: &mut Out, n: u64, one: &[u8], several: &[u8]) {
 
 // Line n of a text, the first at 0.
 pub fn put_line(out: &mut Out, text: &[u8], n: u64) {
-    let from = line_start(text, n);
-    put(out, lines::between(text, from, line_end(text, from)));
+    put(out, line(text, n));
 }
 
-// Where line n of a text starts.
-fn line_start(text: &[u8], n: u64) -> usize {
-    let mut at: usize = 0;
-    let mut i: u64 = 0;
-    while i < n {
-        at = std::num::wrapping_add_usize(line_end(text, at), 1);
-        i += 1;
-    }
-    at
-}
-
-// Where the line ends that starts at a place.
-fn line_end(text: &[u8], from: usize) -> usize {
-    let mut at = from;
-    while at < text.len() {
-        if text[at] == b'\n' {
-            return at;
-        }
-        at += 1;
-    }
-    at
+// Line n of a text, empty past the last.
+fn line(text: &[u8], n: u64) -> &[u8] {
+    text.split(|&byte| byte == b'\n')
+        .nth(n as usize)
+        .unwrap_or(&[])
 }
 
 // Which call of a text is spoken of, and the line where it begins.
@@ -270,43 +227,33 @@ pub fn tree_id(out: &mut Out, t: TreeId) {
 
 // Whether this is ROOT.
 fn is_root(t: TreeId) -> bool {
-    (t.high == 0) & (t.low == 0)
+    t == TreeId { high: 0, low: 0 }
 }
 
 // A text in which `@` stands for the first id, `&` for the second, `$` for the tree's name and `#` for the number.
 pub fn tell(out: &mut Out, text: &[u8], x: FullNodeId, y: FullNodeId, t: TreeId, n: u64) {
     let mut from: usize = 0;
-    let mut at: usize = 0;
-    while at < text.len() {
-        if is_mark(text[at]) {
+    for (at, &byte) in text.iter().enumerate() {
+        if is_mark(byte) {
             put(out, lines::between(text, from, at));
-            put_mark(out, text[at], x, y, t, n);
+            put_mark(out, byte, x, y, t, n);
             from = at + 1;
         }
-        at += 1;
     }
-    put(out, lines::between(text, from, at));
+    put(out, lines::between(text, from, text.len()));
 }
 
-// Line n of such a text.
+// A line of such a text, the first at 0.
 pub fn tell_line(
     out: &mut Out,
     text: &[u8],
-    line: u64,
+    which: u64,
     x: FullNodeId,
     y: FullNodeId,
     t: TreeId,
     n: u64,
 ) {
-    let from = line_start(text, line);
-    tell(
-        out,
-        lines::between(text, from, line_end(text, from)),
-        x,
-        y,
-        t,
-        n,
-    );
+    tell(out, line(text, which), x, y, t, n);
 }
 
 // Whether a byte of a text stands for something else.

@@ -14,70 +14,40 @@ pub fn known() -> [u8; 4096] {
 // Names a role.
 pub fn set(roles: &mut [u8; 4096], role: u64, name: &[u8]) {
     let at = start_of(role);
-    let mut i: usize = 0;
-    while i < 16 {
-        roles[at + i] = record_wire::u8_at(name, i);
-        i += 1;
+    for (i, byte) in roles[at..at + 16].iter_mut().enumerate() {
+        *byte = record_wire::u8_at(name, i);
     }
 }
 
 // The number of a name, 256 if no role has it.
 pub fn find(roles: &[u8; 4096], name: &[u8]) -> u64 {
-    let mut role: u64 = 0;
-    while role < 256 {
-        if has_name(roles, role, name) {
-            return role;
-        }
-        role += 1;
-    }
-    role
+    (0..256)
+        .find(|&role| has_name(roles, role, name))
+        .unwrap_or(256)
 }
 
 // Whether a role has a name.
 fn has_name(roles: &[u8; 4096], role: u64, name: &[u8]) -> bool {
-    if name.len() < 1 {
-        return false;
-    }
-    if 16 < name.len() {
+    if name.is_empty() | (16 < name.len()) {
         return false;
     }
     let at = start_of(role);
-    let mut i: usize = 0;
-    while i < 16 {
-        if roles[at + i] != record_wire::u8_at(name, i) {
-            return false;
-        }
-        i += 1;
-    }
-    true
+    roles[at..at + 16]
+        .iter()
+        .enumerate()
+        .all(|(i, &byte)| byte == record_wire::u8_at(name, i))
 }
 
 // Whether a word can name a role: a letter, then letters, digits, `-` and `_`.
 pub fn is_name(name: &[u8]) -> bool {
-    if 16 < name.len() {
-        return false;
-    }
-    if !is_letter(record_wire::u8_at(name, 0)) {
-        return false;
-    }
-    let mut i: usize = 0;
-    while i < name.len() {
-        if !is_name_byte(name[i]) {
-            return false;
-        }
-        i += 1;
-    }
-    true
-}
-
-// Whether a byte is a letter.
-fn is_letter(byte: u8) -> bool {
-    ((b'a' <= byte) & (byte <= b'z')) | ((b'A' <= byte) & (byte <= b'Z'))
+    (name.len() <= 16)
+        & record_wire::u8_at(name, 0).is_ascii_alphabetic()
+        & name.iter().all(|&byte| is_name_byte(byte))
 }
 
 // Whether a byte can stand in a name.
 fn is_name_byte(byte: u8) -> bool {
-    is_letter(byte) | ((b'0' <= byte) & (byte <= b'9')) | (byte == b'-') | (byte == b'_')
+    byte.is_ascii_alphanumeric() | (byte == b'-') | (byte == b'_')
 }
 
 // Where a role's name starts.

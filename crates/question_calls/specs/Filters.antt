@@ -1,8 +1,7 @@
 -- What is known of a node that is not hidden, what the clip test asks beside it, and what is told of a node by those above it. Assumes nothing.
-use Rattle.std.specs.Prelude.{Bool, true, false, ◌||◌, ◌≡◌, ℕ, ◌≤◌, ◌<◌, if◌then◌else◌}
-use mathlib.Core.List.{List, head?}
-use Rattle.std.proofs.Math.Option.{none, some}
-use Rattle.base.specs.Tests.{◌and◌, same_option}
+use Rattle.std.specs.Prelude.{Bool, true, false, ◌||◌, ◌≡◌, ℕ, ◌≤◌, ◌<◌, if◌then◌else◌, None, Some}
+use mathlib.Core.List.{List}
+use Rattle.base.specs.Tests.{◌and◌, same_option, head_of}
 use Rattle.ids.specs.Ids.{same_id}
 use Rattle.ids.specs.declared.FullNodeId.{FullNodeId}
 use Rattle.geometry_box.specs.declared.BoundingBox.{BoundingBox}
@@ -32,13 +31,13 @@ pub record Unhidden (s : List ℕ) (i : ℕ) : Type 0 where
 -- whether the nearest node that is listed ahead of x, `level` levels up, lies inside a box
 unfoldable pub nearest_inside : Seen → Side → ℕ → FullNodeId → BoundingBox → Bool
 nearest_inside v side level x outer =
-    elim (head? (shown_ahead v side level x)) [ none ↦ false | some y ↦ meet (bounding_box v.forest y) outer ]
+    elim (head_of (shown_ahead v side level x)) [ None ↦ false | Some y ↦ meet (bounding_box v.forest y) outer ]
 
 -- ## By what is known of the parent
 
 -- whether `common_filter` drops the parent
 unfoldable pub parent_dropped : Seen → FullNodeId → Bool
-parent_dropped v x = elim (parent_at v.forest.nodes x) [ none ↦ false | some p ↦ is_exclude_subtree (common_filter v p) ]
+parent_dropped v x = elim (parent_at v.forest.nodes x) [ None ↦ false | Some p ↦ is_exclude_subtree (common_filter v p) ]
 
 -- what is known of a node is so; here and below `focused` is the slot of the focused node
 abbrev pub Knows : List ℕ → ℕ → Known → Type 0
@@ -72,7 +71,7 @@ excepted_filter excepted = if excepted then WithRootException else Common
 
 -- whether a node that `common_filter` says this of is included, ROOT's root being excepted or not
 unfoldable pub is_kept : Forest → Bool → FilterResult → FullNodeId → Bool
-is_kept f excepted result x = is_include result || (excepted and same_option same_id (root_of f) (some x))
+is_kept f excepted result x = is_include result || (excepted and same_option same_id (root_of f) (Some x))
 
 -- the node's children stand in its place
 unfoldable pub is_exclude_node : FilterResult → Bool

@@ -1,7 +1,5 @@
 -- A run of siblings by places, and a list of ids in a buffer. Assumes nothing.
-use Rattle.std.specs.Prelude.{List, ◌≡◌, ℕ, ◌≤◌, ◌<◌, length, get_or}
-use Rattle.std.proofs.Math.Option.{some}
-use Rattle.std.proofs.Math.ListN.{get_elem?}
+use Rattle.std.specs.Prelude.{List, ◌≡◌, ℕ, ◌≤◌, ◌<◌, length, get_or, Some, slice_get}
 use Rattle.ids.specs.Ids.{id_words}
 use Rattle.ids.specs.declared.FullNodeId.{FullNodeId}
 use Rattle.state_array.specs.View.{id_in, slots_of, view}
@@ -28,7 +26,7 @@ pub record RunOf (s : List ℕ) (side : Side) (xs : List FullNodeId) (r : Run) :
   pub count_is : r.count ≡ length xs
   pub few : r.count ≤ 256
   pub stands : (k : ℕ) → k < r.count → InRun s side r k
-  pub each : (k : ℕ) → k < r.count → get_elem? xs k ≡ some (in_run s side r k)
+  pub each : (k : ℕ) → k < r.count → slice_get xs k ≡ Some (in_run s side r k)
 
 -- ## Lists in a buffer
 

@@ -1,7 +1,6 @@
 -- What the filters ask of a node by its slot, and what is found above it and beside it. Assumes nothing.
-use Rattle.std.specs.Prelude.{Bool, true, false, ◌≡◌, ℕ, length, if◌then◌else◌}
+use Rattle.std.specs.Prelude.{Bool, true, false, ◌≡◌, ℕ, length, if◌then◌else◌, Option, None, Some}
 use mathlib.Core.List.{List, [], ◌∷◌, ◌++◌, flat_map}
-use Rattle.std.proofs.Math.Option.{Option, none, some}
 use Rattle.base.specs.Tests.{first_given}
 use Rattle.ids.specs.declared.FullNodeId.{FullNodeId}
 use Rattle.state.specs.State.{Forest}
@@ -51,12 +50,12 @@ shown_ahead v side level x = flat_map (shown (own_filter v) side v.forest) (ahea
 
 -- the node in a slot, and its ancestors
 unfoldable pub up_from : List ℕ → ℕ → List FullNodeId
-up_from s p = elim (slot_id s p) [ none ↦ [] | some y ↦ y ∷ ancestors (view s).forest y ]
+up_from s p = elim (slot_id s p) [ None ↦ [] | Some y ↦ y ∷ ancestors (view s).forest y ]
 
 module _ (filter : FullNodeId → FilterResult) where
   -- the first included node of a list
   abbrev pub first_included : List FullNodeId → Option FullNodeId
-  first_included up = first_given (λ p. if is_included filter p then some p else none) up
+  first_included up = first_given (λ p. if is_included filter p then Some p else None) up
 
   -- r is the slot of the filtered parent of x, and how many ancestors from the parent on are ExcludeNode
   pub record Above (s : List ℕ) (x : FullNodeId) (r : Place) : Type 0 where
@@ -67,8 +66,8 @@ module _ (filter : FullNodeId → FilterResult) where
   unfoldable pub listed_from : Side → List ℕ → Place → List FullNodeId
   listed_from side s r =
       elim (slot_id s r.slot) [
-        | none ↦ []
-        | some x ↦ x ∷ flat_map (shown filter side (view s).forest) (ahead side (view s).forest r.level x)
+        | None ↦ []
+        | Some x ↦ x ∷ flat_map (shown filter side (view s).forest) (ahead side (view s).forest r.level x)
       ]
 
   -- what is listed from a place on, the same from r on, whose node is the first of it

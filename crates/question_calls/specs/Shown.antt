@@ -1,7 +1,6 @@
 -- What the functions over slots find under a filter. Assumes nothing.
-use Rattle.std.specs.Prelude.{Bool, ◌≡◌, ℕ, length, if◌then◌else◌}
+use Rattle.std.specs.Prelude.{Bool, ◌≡◌, ℕ, length, if◌then◌else◌, Option}
 use mathlib.Core.List.{List, ◌++◌, flat_map}
-use Rattle.std.proofs.Math.Option.{Option}
 use Rattle.ids.specs.declared.FullNodeId.{FullNodeId}
 use Rattle.state.specs.State.{Forest}
 use Rattle.state_array.specs.View.{view}

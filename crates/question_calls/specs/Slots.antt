@@ -1,6 +1,5 @@
 -- A node of the state in memory by its slot. Assumes nothing.
-use Rattle.std.specs.Prelude.{true, List, ◌≡◌, ℕ, ◌<◌, ltb, if◌then◌else◌}
-use Rattle.std.proofs.Math.Option.{Option, none, some}
+use Rattle.std.specs.Prelude.{true, List, ◌≡◌, ℕ, ◌<◌, ltb, if◌then◌else◌, Option, None, Some}
 use Rattle.ids.specs.declared.FullNodeId.{FullNodeId}
 use Rattle.state.specs.State.{Forest}
 use Rattle.state.specs.Sound.{sound}
@@ -12,7 +11,7 @@ Sound s = sound (view s).forest ≡ true
 
 -- the node in a slot; none past the last
 unfoldable pub slot_id : List ℕ → ℕ → Option FullNodeId
-slot_id s r = if ltb r (slots_of s) then some (id_in s r) else none
+slot_id s r = if ltb r (slots_of s) then Some (id_in s r) else None
 
 -- what is said of the node in slot i, where the state is sound and the slot holds a node
 abbrev pub OfSlot : List ℕ → ℕ → (Forest → FullNodeId → Type 0) → Type 0

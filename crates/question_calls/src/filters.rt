@@ -1,7 +1,6 @@
 // Module 7: the three filters of src/filters.rs over the state in memory, in its order, and the question. A node that a function here is asked
 // about is named by its slot.
 ghost use Rattle.std.specs.Prelude.{false, ◌≡◌, ℕ};
-ghost use Rattle.std.proofs.Math.Option.{some};
 ghost use Rattle.base.specs.Tests.{same_option};
 ghost use Rattle.ids.specs.Ids.{same_id};
 ghost use Rattle.state.specs.Down.{root_of};
@@ -16,24 +15,18 @@ use crate::steps::Place;
 use crate::{links, node_asked, plain};
 use geometry_box::BoundingBox;
 use ids::{FullNodeId, TreeId};
-use node_answers::FilterAnswer;
+use node_answers::Refusal;
 use questions::{Filter, FilterResult, Side};
 use state_array::State;
-use state_lookup::FoundTree;
 
 // The question: what a filter says of a node.
-pub fn filter(state: &State, id: FullNodeId, filter: Filter) -> FilterAnswer
+pub fn filter(state: &State, id: FullNodeId, filter: Filter) -> Result<FilterResult, Refusal>
     ensures { result ≡ filter_answer (view state.now) id filter }
 {
     let mut parents = [0u16; state_array::SLOTS];
-    let asked = node_asked::asked(state, id, &mut parents);
-    let number = asked.number;
-    if number != 0 {
-        return FilterAnswer::Refused(number);
-    }
+    let slot = node_asked::asked(state, id, &mut parents)?;
     let focused = plain::focused_slot(state);
-    let slot = asked.slot;
-    FilterAnswer::Result(filter_at(state, &parents, focused, filter, slot))
+    Ok(filter_at(state, &parents, focused, filter, slot))
 }
 
 // One of the three.
@@ -416,11 +409,11 @@ pub(crate) fn is_passed(
 
 // Whether it is ROOT's root.
 fn is_root(state: &State, i: usize) -> bool
-    ensures { result ≡ same_option same_id (root_of (view state.now).forest) (some (id_in state.now i)) }
+    ensures { result ≡ same_option same_id (root_of (view state.now).forest) (Some (id_in state.now i)) }
 {
     match state_lookup::tree_of(state, TreeId { high: 0, low: 0 }) {
-        FoundTree::At(e) => ids::same_id(e.root, state_array::id_at(state, i)),
-        FoundTree::Nothing => false,
+        Some(e) => e.root == state_array::id_at(state, i),
+        None => false,
     }
 }
 

@@ -1,9 +1,8 @@
 // Module 6 over the state in memory, a node by its slot: parent, children, siblings, the inherited hidden flag, transform, bounding box.
 // Each answers for any words, and where the state is sound and slot i holds a node, what questions/Links and questions/Boxes say.
 // A slot that is handed out is the number of slots where there is no such node.
-ghost use mathlib.Core.List.{head?};
-ghost use Rattle.std.specs.Prelude.{◌≡◌, ◌+◌, ◌<◌, length, get_or};
-ghost use Rattle.std.proofs.Math.ListN.{get_elem?};
+ghost use Rattle.base.specs.Tests.{head_of};
+ghost use Rattle.std.specs.Prelude.{◌≡◌, ◌+◌, ◌<◌, length, get_or, slice_get};
 ghost use Rattle.state.specs.State.{parent_at};
 ghost use Rattle.questions.specs.Links.{child_ids, siblings, ancestors, hidden_at, is_hidden};
 ghost use Rattle.questions.specs.Boxes.{direct_transform, transform, bounding_box};
@@ -16,7 +15,6 @@ use geometry_box::BoundingBox;
 use ids::FullNodeId;
 use questions::Side;
 use state_array::State;
-use state_lookup::FoundTree;
 
 // The parent's slot.
 pub(crate) fn parent_slot(state: &State, parents: &[u16], i: usize) -> usize
@@ -38,8 +36,8 @@ pub(crate) fn child_count(state: &State, i: usize) -> usize
         return shape.child_count as usize;
     }
     match state_lookup::tree_of(state, shape.graft) {
-        FoundTree::At(_) => 1,
-        FoundTree::Nothing => 0,
+        Some(_) => 1,
+        None => 0,
     }
 }
 
@@ -55,14 +53,14 @@ pub(crate) fn child_id(state: &State, i: usize, k: usize) -> FullNodeId
         return FullNodeId { tree, node };
     }
     match state_lookup::tree_of(state, shape.graft) {
-        FoundTree::At(e) => e.root,
-        FoundTree::Nothing => x,
+        Some(e) => e.root,
+        None => x,
     }
 }
 
 // The slot of child k.
 fn child_slot(state: &State, i: usize, k: usize) -> usize
-    ensures { OfSlot state.now i (λ f x. slot_id state.now result ≡ get_elem? (child_ids f x) k) }
+    ensures { OfSlot state.now i (λ f x. slot_id state.now result ≡ slice_get (child_ids f x) k) }
 {
     if child_count(state, i) <= k {
         return state_array::slots(state);
@@ -72,7 +70,7 @@ fn child_slot(state: &State, i: usize, k: usize) -> usize
 
 // The slot of the first child, or on the preceding side of the last.
 pub(crate) fn first_child_slot(state: &State, side: Side, i: usize) -> usize
-    ensures { OfSlot state.now i (λ f x. slot_id state.now result ≡ head? (turned side (child_ids f x))) }
+    ensures { OfSlot state.now i (λ f x. slot_id state.now result ≡ head_of (turned side (child_ids f x))) }
 {
     match side {
         Side::Following => child_slot(state, i, 0),
@@ -82,7 +80,7 @@ pub(crate) fn first_child_slot(state: &State, side: Side, i: usize) -> usize
 
 // The slot of the last child.
 fn last_child_slot(state: &State, i: usize) -> usize
-    ensures { OfSlot state.now i (λ f x. slot_id state.now result ≡ head? (turned Preceding (child_ids f x))) }
+    ensures { OfSlot state.now i (λ f x. slot_id state.now result ≡ head_of (turned Preceding (child_ids f x))) }
 {
     let count = child_count(state, i);
     if count == 0 {
@@ -93,7 +91,7 @@ fn last_child_slot(state: &State, i: usize) -> usize
 
 // The slot of the next sibling on a side, from the recorded link and the parent's children.
 pub(crate) fn sibling_slot(state: &State, parents: &[u16], side: Side, i: usize) -> usize
-    ensures { OfSlot state.now i (λ f x. slot_id state.now result ≡ head? (siblings side f x)) }
+    ensures { OfSlot state.now i (λ f x. slot_id state.now result ≡ head_of (siblings side f x)) }
 {
     match side {
         Side::Following => following_slot(state, parents, i),
@@ -103,7 +101,7 @@ pub(crate) fn sibling_slot(state: &State, parents: &[u16], side: Side, i: usize)
 
 // That of the next one in order.
 fn following_slot(state: &State, parents: &[u16], i: usize) -> usize
-    ensures { OfSlot state.now i (λ f x. slot_id state.now result ≡ head? (siblings Following f x)) }
+    ensures { OfSlot state.now i (λ f x. slot_id state.now result ≡ head_of (siblings Following f x)) }
 {
     let n = state_array::slots(state);
     let link = state_array::link_at(state, i);
@@ -124,7 +122,7 @@ fn following_slot(state: &State, parents: &[u16], i: usize) -> usize
 
 // That of the one before it.
 fn preceding_slot(state: &State, parents: &[u16], i: usize) -> usize
-    ensures { OfSlot state.now i (λ f x. slot_id state.now result ≡ head? (siblings Preceding f x)) }
+    ensures { OfSlot state.now i (λ f x. slot_id state.now result ≡ head_of (siblings Preceding f x)) }
 {
     let n = state_array::slots(state);
     let link = state_array::link_at(state, i);
@@ -190,14 +188,12 @@ pub(crate) fn transform_of(state: &State, parents: &[u16], i: usize) -> Affine
     let n = state_array::slots(state);
     let mut whole = direct_transform(state, i);
     let mut p = parent_slot(state, parents, i);
-    let mut room = state_array::SLOTS;
-    while p < n {
-        if room == 0 {
+    for _ in 0..state_array::SLOTS {
+        if n <= p {
             return whole;
         }
         whole = geometry_box::product(direct_transform(state, p), whole);
         p = parent_slot(state, parents, p);
-        room -= 1;
     }
     whole
 }

@@ -87,10 +87,7 @@ pub(crate) fn put_siblings<'a, 'b>(
     ensures { out.new ≡ written (id_words (siblings side (view state.now).forest (id_in state.now i))) out.old }
 {
     let run = siblings_run(state, parents, side, i);
-    let n = run.count;
-    let mut k = 0usize;
-    while k < n {
+    for k in 0..run.count {
         store(out, k, sibling_at(state, side, run, k));
-        k += 1;
     }
 }

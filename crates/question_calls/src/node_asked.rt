@@ -1,29 +1,46 @@
-// The node that a question asks about: numbers 1 and 22, and its slot.
+// The node that a question asks about: its slot, or why the question is refused.
+ghost use Rattle.std.specs.Prelude.{◌≡◌, OnOk};
+ghost use Rattle.state_array.specs.View.{view};
+ghost use Rattle.questions.specs.Answers.{state_number};
+ghost use Rattle.node_answers.specs.Answers.{number_of};
 ghost use Rattle.question_calls.specs.Asks.{Asks};
+ghost use Rattle.question_calls.specs.Slots.{Sound};
 
 use ids::FullNodeId;
+use node_answers::Refusal;
 use state_array::State;
 
-// 1 or 22, or 0 and the node's slot.
-#[derive(Clone, Copy)]
-pub struct AskedNode {
-    pub number: u8,
-    pub slot: usize,
-}
-
 // Where the node stands, in any state.
-pub(crate) fn asked<'a, 'b>(state: &'a State, id: FullNodeId, parents: &'b mut [u16]) -> AskedNode
+pub(crate) fn asked<'a, 'b>(
+    state: &'a State,
+    id: FullNodeId,
+    parents: &'b mut [u16],
+) -> Result<usize, Refusal>
     ensures { Asks state.now id result }
 {
+    noted(state, parents)?;
+    standing(state, id)
+}
+
+// Whether the state is sound; the parents of its nodes are noted.
+pub(crate) fn noted<'a, 'b>(state: &'a State, parents: &'b mut [u16]) -> Result<(), Refusal>
+    ensures number { number_of result ≡ state_number (view state.now).forest }
+    ensures sound { OnOk result (Sound state.now) }
+{
     if !state_sound::sound_noting(state, parents) {
-        return AskedNode { number: 1, slot: 0 };
+        return Err(Refusal::NotSound);
     }
+    Ok(())
+}
+
+// Where the node stands in a sound state.
+pub(crate) fn standing(state: &State, id: FullNodeId) -> Result<usize, Refusal>
+    requires { Sound state.now }
+    ensures { Asks state.now id result }
+{
     let slot = state_lookup::slot_of(state, id);
     if state_array::slots(state) <= slot {
-        return AskedNode {
-            number: 22,
-            slot: 0,
-        };
+        return Err(Refusal::NotPresent);
     }
-    AskedNode { number: 0, slot }
+    Ok(slot)
 }

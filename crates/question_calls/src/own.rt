@@ -4,18 +4,17 @@ ghost use Rattle.base.specs.Bytes.{bit};
 ghost use Rattle.ids.specs.Ids.{id_words};
 ghost use Rattle.record.specs.Batch.{active_descendant?, graft?, bounds?, transform?};
 ghost use Rattle.state_array.specs.View.{body_in, id_in, label_in, view};
-ghost use Rattle.state_focus.specs.Focus.{found_of};
 ghost use Rattle.questions.specs.Answers.{written};
 ghost use Rattle.questions.specs.Links.{child_ids};
 ghost use Rattle.question_calls.specs.Asks.{NodeAt};
 ghost use Rattle.question_calls.specs.Slots.{slot_id};
-ghost use Rattle.node_answers.specs.Answers.{optional_rect, optional_affine, optional_node, optional_tree};
 ghost use Rattle.node_answers.specs.Reading.{reading_of};
 
 use crate::links;
-use node_answers::{NodeReading, OptionalAffine, OptionalNode, OptionalRect, OptionalTree};
+use geometry::{Affine, Rect};
+use ids::{FullNodeId, NodeId, TreeId};
+use node_answers::NodeReading;
 use state_array::State;
-use state_focus::FoundNode;
 
 // What the node in slot i says of itself.
 pub(crate) fn reading(state: &State, i: usize) -> NodeReading
@@ -24,7 +23,6 @@ pub(crate) fn reading(state: &State, i: usize) -> NodeReading
 {
     let flags = state_array::word_at(state, state_array::FLAGS, i);
     NodeReading {
-        number: 0,
         role: state_array::role_at(state, i) as u8,
         hidden: flag(flags, 1),
         clips_children: flag(flags, 2),
@@ -42,10 +40,8 @@ pub(crate) fn put_label<'a, 'b>(state: &'a State, i: usize, n: usize, out: &'b m
     requires { (n ≡ length (label_in state.now i)) × (n ≤ length out.old) }
     ensures { out.new ≡ written (label_in state.now i) out.old }
 {
-    let mut j = 0usize;
-    while j < n {
+    for j in 0..n {
         out[j] = state_array::label_byte(state, i, j);
-        j += 1;
     }
 }
 
@@ -55,66 +51,64 @@ pub(crate) fn put_children<'a, 'b>(state: &'a State, i: usize, n: usize, out: &'
     requires n_value { (n ≡ length (child_ids (view state.now).forest (id_in state.now i))) × (2 * n ≤ length out.old) }
     ensures { out.new ≡ written (id_words (child_ids (view state.now).forest (id_in state.now i))) out.old }
 {
-    let mut k = 0usize;
-    while k < n {
+    for k in 0..n {
         let x = links::child_id(state, i, k);
         let at = 2 * k;
         out[at] = x.tree.0 as u64;
         out[at + 1] = x.node.0;
-        k += 1;
     }
 }
 
 // The node in a slot; none past the last.
-pub(crate) fn node_at(state: &State, i: usize) -> FoundNode
-    ensures { found_of result ≡ slot_id state.now i }
+pub(crate) fn node_at(state: &State, i: usize) -> Option<FullNodeId>
+    ensures { result ≡ slot_id state.now i }
 {
     if state_array::slots(state) <= i {
-        return FoundNode::Nothing;
+        return None;
     }
-    FoundNode::At(state_array::id_at(state, i))
+    Some(state_array::id_at(state, i))
 }
 
 // A node's own bounds.
-fn bounds(state: &State, i: usize) -> OptionalRect
-    ensures { result ≡ optional_rect (bounds? (body_in state.now i)) }
+fn bounds(state: &State, i: usize) -> Option<Rect>
+    ensures { result ≡ bounds? (body_in state.now i) }
 {
     if !flag(state_array::word_at(state, state_array::FLAGS, i), 16) {
-        return OptionalRect::None;
+        return None;
     }
-    OptionalRect::Given(state_array::bounds_at(state, i))
+    Some(state_array::bounds_at(state, i))
 }
 
 // A node's own transform.
-fn transform(state: &State, i: usize) -> OptionalAffine
-    ensures { result ≡ optional_affine (transform? (body_in state.now i)) }
+fn transform(state: &State, i: usize) -> Option<Affine>
+    ensures { result ≡ transform? (body_in state.now i) }
 {
     if !flag(state_array::word_at(state, state_array::FLAGS, i), 32) {
-        return OptionalAffine::None;
+        return None;
     }
-    OptionalAffine::Given(state_array::transform_at(state, i))
+    Some(state_array::transform_at(state, i))
 }
 
 // The active descendant that a node names.
-fn active_descendant(state: &State, i: usize) -> OptionalNode
-    ensures { result ≡ optional_node (active_descendant? (body_in state.now i)) }
+fn active_descendant(state: &State, i: usize) -> Option<NodeId>
+    ensures { result ≡ active_descendant? (body_in state.now i) }
 {
     if !flag(state_array::word_at(state, state_array::FLAGS, i), 4) {
-        return OptionalNode::None;
+        return None;
     }
-    OptionalNode::Given(state_array::active_descendant_at(state, i))
+    Some(state_array::active_descendant_at(state, i))
 }
 
 // The tree that a node grafts.
-fn graft(state: &State, i: usize) -> OptionalTree
-    ensures { result ≡ optional_tree (graft? (body_in state.now i)) }
+fn graft(state: &State, i: usize) -> Option<TreeId>
+    ensures { result ≡ graft? (body_in state.now i) }
 {
     let shape = state_array::shape_at(state, i);
     if !state_array::is_graft(shape.flags) {
-        return OptionalTree::None;
+        return None;
     }
     let tree = shape.graft;
-    OptionalTree::Given(tree)
+    Some(tree)
 }
 
 // Whether the flag of a weight is set.

@@ -1,8 +1,7 @@
 // Module 7 over the state in memory, a node by its slot: what `common_filter` asks of a node, of its ancestors and of its neighbours. The slot
 // of the focused node is worked out once for a question and handed on.
 ghost use Rattle.std.specs.Prelude.{false, ◌≡◌};
-ghost use mathlib.Core.List.{head?};
-ghost use Rattle.state_array.specs.View.{view};
+ghost use Rattle.base.specs.Tests.{head_of};
 ghost use Rattle.questions.specs.Filters.{active_descendant_at, is_transparent, without_parent_checks};
 ghost use Rattle.questions.specs.Links.{is_hidden};
 ghost use Rattle.question_calls.specs.Slots.{Sound, slot_id, OfSlot};
@@ -14,7 +13,6 @@ use crate::{links, steps};
 use ids::FullNodeId;
 use questions::{FilterResult, Side};
 use state_array::State;
-use state_focus::FoundNode;
 
 // The slot of the node that is focused for the filters; past the last slot where none is.
 pub(crate) fn focused_slot(state: &State) -> usize
@@ -24,7 +22,7 @@ pub(crate) fn focused_slot(state: &State) -> usize
     if state_array::host(state) == 0 {
         return n;
     }
-    let FoundNode::At(x) = state_focus::effective_focus(state) else {
+    let Some(x) = state_focus::effective_focus(state) else {
         return n;
     };
     let i = state_lookup::slot_of(state, x);
@@ -109,6 +107,7 @@ pub(crate) fn included_above(state: &State, parents: &[u16], focused: usize, i: 
     let n = state_array::slots(state);
     let mut p = links::parent_slot(state, parents, i);
     let mut level = 0usize;
+    // Not a `for`: each step asks for the parent of the one before.
     while p < n {
         if is_include(own_filter_at(state, focused, p)) {
             return Place { slot: p, level };
@@ -132,6 +131,7 @@ pub(crate) fn shown_from(
 {
     let n = state_array::slots(state);
     let mut here = at;
+    // Not a `for`: each step finds where the walk goes on.
     loop {
         let i = here.slot;
         if n <= i {
@@ -154,7 +154,7 @@ pub(crate) fn neighbour(
     at: Place,
 ) -> usize
     requires { Sound state.now }
-    ensures { OfSlot state.now at.slot (λ f x. slot_id state.now result ≡ head? (shown_ahead (seen_at state.now focused) side at.level x)) }
+    ensures { OfSlot state.now at.slot (λ f x. slot_id state.now result ≡ head_of (shown_ahead (seen_at state.now focused) side at.level x)) }
 {
     let next = steps::after(state, parents, side, at);
     let found = shown_from(state, parents, focused, side, next);

@@ -1,7 +1,6 @@
 // Module 8 under a filter, over the state in memory, a node by its slot: the steps of src/iterators.rs, and what src/node.rs asks of ancestors
 // and children. A list is named by the place of its first node; no list is made twice.
-ghost use Rattle.std.specs.Prelude.{◌≡◌, ◌≤◌, length};
-ghost use Rattle.std.proofs.Math.ListN.{get_elem?};
+ghost use Rattle.std.specs.Prelude.{◌≡◌, ◌≤◌, length, slice_get};
 ghost use Rattle.questions.specs.Filters.{without_parent_checks, filter_of};
 ghost use Rattle.questions.specs.Walks.{filtered_parent};
 ghost use Rattle.question_calls.specs.Slots.{Sound, slot_id, OfSlot};
@@ -42,6 +41,7 @@ fn shown_from(
     let n = state_array::slots(state);
     let mut here = at;
     let mut consider_children = false;
+    // Not a `for`: each step finds where the walk goes on.
     loop {
         let i = here.slot;
         if n <= i {
@@ -126,6 +126,7 @@ fn climb(state: &State, parents: &[u16], focused: usize, filter: Filter, i: usiz
     let n = state_array::slots(state);
     let mut p = links::parent_slot(state, parents, i);
     let mut level = 0usize;
+    // Not a `for`: each step asks for the parent of the one before.
     while p < n {
         if !filters::is_passed(state, parents, focused, filter, p) {
             return Place { slot: p, level };
@@ -176,6 +177,7 @@ fn included_from(state: &State, parents: &[u16], focused: usize, from: usize) ->
 {
     let n = state_array::slots(state);
     let mut p = from;
+    // Not a `for`: each step asks for the parent of the one before.
     while p < n {
         if plain::is_include(plain::common_filter_without_parent_checks(
             state, parents, focused, p,
@@ -240,6 +242,7 @@ pub(crate) fn deepest_child(
     if n <= deepest {
         return n;
     }
+    // Not a `for`: each step goes down to the child that it finds.
     loop {
         let known = filters::known_included(state, filter, deepest);
         let next = filtered_child(state, parents, focused, filter, known, side, deepest);
@@ -309,6 +312,7 @@ pub(crate) fn collect(
     let n = state_array::slots(state);
     let mut here = start;
     let mut k = 0usize;
+    // Not a `for`: the walk finds where the list ends.
     loop {
         let i = here.slot;
         if n <= i {
@@ -333,18 +337,15 @@ pub(crate) fn listed_at(
 ) -> usize
     requires sound { Sound state.now }
     requires knows { Knows state.now focused known }
-    ensures { slot_id state.now result ≡ get_elem? (listed_from (filter_of filter (seen_at state.now focused)) side state.now start) count }
+    ensures { slot_id state.now result ≡ slice_get (listed_from (filter_of filter (seen_at state.now focused)) side state.now start) count }
 {
     let n = state_array::slots(state);
     let mut here = start;
-    let mut left = count;
-    while left > 0 {
-        let i = here.slot;
-        if n <= i {
+    for _ in 0..count {
+        if n <= here.slot {
             return n;
         }
         here = shown_after(state, parents, focused, filter, known, side, here);
-        left -= 1;
     }
     here.slot
 }

@@ -24,22 +24,17 @@ pub(crate) fn after(state: &State, parents: &[u16], side: Side, at: Place) -> Pl
 {
     let n = state_array::slots(state);
     let mut i = at.slot;
-    let mut level = at.level;
-    loop {
+    for level in (0..=at.level).rev() {
         let next = links::sibling_slot(state, parents, side, i);
         if next < n {
             return Place { slot: next, level };
         }
-        if level < 1 {
+        i = links::parent_slot(state, parents, i);
+        if n <= i {
             return Place { slot: n, level: 0 };
         }
-        let parent = links::parent_slot(state, parents, i);
-        if n <= parent {
-            return Place { slot: n, level: 0 };
-        }
-        i = parent;
-        level -= 1;
     }
+    Place { slot: n, level: 0 }
 }
 
 // To what is met next after a node: its first child on this side, or what comes after it.

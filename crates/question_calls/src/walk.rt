@@ -1,59 +1,47 @@
 // Module 8, the sibling walk that the caller keeps, by value; `cartgravel_next` is lent it by `&mut`. No list is made: the sibling at the walk's
 // count is found by its place, or by as many steps of the walking engine.
-ghost use Rattle.std.proofs.Math.Option.{some};
-ghost use Rattle.std.specs.Prelude.{◌≡◌, ◌+◌, ◌<◌};
-ghost use Rattle.std.proofs.Math.ListN.{get_elem?};
+ghost use Rattle.std.specs.Prelude.{◌≡◌, ◌+◌, ◌<◌, slice_get};
 ghost use Rattle.state_array.specs.View.{slots_of, view};
-ghost use Rattle.state_focus.specs.Focus.{found_of};
 ghost use Rattle.questions.specs.Filters.{seen, filter_of};
 ghost use Rattle.questions.specs.Kept.{side_of, filter_choice, next_of};
 ghost use Rattle.questions.specs.Links.{siblings};
 ghost use Rattle.questions.specs.Walks.{filtered_siblings};
 ghost use Rattle.question_calls.specs.Slots.{Sound, OfSlot};
-ghost use Rattle.question_calls.specs.Walk.{stepped_of, handed_out, number_for, Ours, FindsAt};
+ghost use Rattle.question_calls.specs.Walk.{stepped_of, handed_out, AsksWalk, Ours, FindsAt};
 
 use crate::{lists, node_asked, plain, shown};
-use node_answers::NodeAnswer;
+use ids::FullNodeId;
+use node_answers::Refusal;
 use questions::{Filter, Side, Walk};
 use state_array::State;
-use state_focus::FoundNode;
 
 // What a call answers, and the walk after it.
 #[derive(Clone, Copy)]
 pub struct Stepped {
     pub walk: Walk,
-    pub answer: NodeAnswer,
+    pub answer: Result<Option<FullNodeId>, Refusal>,
 }
 
 // The next sibling in the state given, or nothing at the end. The walk moves on with an answer alone.
 pub fn step(state: &State, walk: Walk) -> Stepped
     ensures { result ≡ stepped_of (next_of (view state.now) walk) }
 {
-    let node = walk.node;
     let mut parents = [0u16; state_array::SLOTS];
-    let asked = node_asked::asked(state, node, &mut parents);
-    let number = number_of(asked.number, walk.side, walk.filter);
-    if number != 0 {
-        return hand_out(walk, walk.count, number, FoundNode::Nothing);
-    }
-    let found = sibling_at(
-        state,
-        &parents,
-        asked.slot,
-        walk.side,
-        walk.filter,
-        walk.count,
-    );
+    let slot = match asked(state, walk, &mut parents) {
+        Ok(slot) => slot,
+        Err(refusal) => return hand_out(walk, walk.count, Err(refusal)),
+    };
+    let found = sibling_at(state, &parents, slot, walk.side, walk.filter, walk.count);
     let further = one_more(walk.count);
     match found {
-        FoundNode::Nothing => hand_out(walk, walk.count, 0, found),
-        FoundNode::At(_) => hand_out(walk, further, 0, found),
+        None => hand_out(walk, walk.count, Ok(None)),
+        Some(_) => hand_out(walk, further, Ok(found)),
     }
 }
 
 // An answer, and the walk with a count.
-fn hand_out(walk: Walk, count: u64, number: u8, found: FoundNode) -> Stepped
-    ensures { result ≡ handed_out walk count number found }
+fn hand_out(walk: Walk, count: u64, answer: Result<Option<FullNodeId>, Refusal>) -> Stepped
+    ensures { result ≡ handed_out walk count answer }
 {
     let node = walk.node;
     Stepped {
@@ -63,10 +51,7 @@ fn hand_out(walk: Walk, count: u64, number: u8, found: FoundNode) -> Stepped
             filter: walk.filter,
             count,
         },
-        answer: NodeAnswer {
-            number,
-            node: found,
-        },
+        answer,
     }
 }
 
@@ -81,20 +66,19 @@ fn one_more(count: u64) -> u64
     }
 }
 
-// 1, then 2 where the side or the filter is none of ours, then 22; `asked` is 1, 22 or 0.
-fn number_of(asked: u8, side: u32, filter: u32) -> u8
-    ensures { result ≡ number_for asked side filter }
+// The slot of the node that a walk is about. Before it is looked for, the side and the filter must be ours.
+fn asked<'a, 'b>(state: &'a State, walk: Walk, parents: &'b mut [u16]) -> Result<usize, Refusal>
+    ensures { AsksWalk state.now walk result }
 {
-    if asked == 1 {
-        return 1;
+    node_asked::noted(state, parents)?;
+    if 1 < walk.side {
+        return Err(Refusal::NotOurs);
     }
-    if 1 < side {
-        return 2;
+    if 3 < walk.filter {
+        return Err(Refusal::NotOurs);
     }
-    if 3 < filter {
-        return 2;
-    }
-    asked
+    let node = walk.node;
+    node_asked::standing(state, node)
 }
 
 // The sibling at a place of the walk's list, if there is one.
@@ -105,7 +89,7 @@ fn sibling_at(
     side: u32,
     filter: u32,
     count: u64,
-) -> FoundNode
+) -> Option<FullNodeId>
     requires sound { Sound state.now }
     requires i_bound { i < slots_of state.now }
     requires ours { Ours side filter }
@@ -119,17 +103,17 @@ fn sibling_at(
 }
 
 // Without a filter, by its place among the parent's children.
-fn plain_at(state: &State, parents: &[u16], i: usize, side: Side, count: u64) -> FoundNode
+fn plain_at(state: &State, parents: &[u16], i: usize, side: Side, count: u64) -> Option<FullNodeId>
     requires sound { Sound state.now }
     requires i_bound { i < slots_of state.now }
-    ensures { OfSlot state.now i (λ f x. found_of result ≡ get_elem? (siblings side f x) count) }
+    ensures { OfSlot state.now i (λ f x. result ≡ slice_get (siblings side f x) count) }
 {
     let run = lists::siblings_run(state, parents, side, i);
     let k = count as usize;
     if run.count <= k {
-        return FoundNode::Nothing;
+        return None;
     }
-    FoundNode::At(lists::sibling_at(state, side, run, k))
+    Some(lists::sibling_at(state, side, run, k))
 }
 
 // Under a filter, by the walking engine.
@@ -140,9 +124,9 @@ fn shown_at(
     side: Side,
     filter: Filter,
     count: u64,
-) -> FoundNode
+) -> Option<FullNodeId>
     requires { Sound state.now }
-    ensures { OfSlot state.now i (λ f x. found_of result ≡ get_elem? (filtered_siblings (filter_of filter (seen (view state.now))) side f x) count) }
+    ensures { OfSlot state.now i (λ f x. result ≡ slice_get (filtered_siblings (filter_of filter (seen (view state.now))) side f x) count) }
 {
     let focused = plain::focused_slot(state);
     let start = shown::shown_sibling(state, parents, focused, filter, side, i);
@@ -157,15 +141,15 @@ fn shown_at(
         count,
     );
     if state_array::slots(state) <= slot {
-        return FoundNode::Nothing;
+        return None;
     }
-    FoundNode::At(state_array::id_at(state, slot))
+    Some(state_array::id_at(state, slot))
 }
 
 // The side that a number means.
 fn side_of(number: u32) -> Side
     requires { number < 2 }
-    ensures { side_of number ≡ some result }
+    ensures { side_of number ≡ Some result }
 {
     if number == 0 {
         Side::Following
@@ -177,7 +161,7 @@ fn side_of(number: u32) -> Side
 // The filter that a number means.
 fn filter_of(number: u32) -> Filter
     requires { (0 < number) × (number < 4) }
-    ensures { filter_choice number ≡ some (some result) }
+    ensures { filter_choice number ≡ Some (Some result) }
 {
     match number {
         1 => Filter::Common,

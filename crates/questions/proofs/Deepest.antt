@@ -1,8 +1,10 @@
 -- Each filtered child is deeper than its parent, so the steps to the deepest one end. Assumes nothing.
 use mathlib.Core.Bool.{true}
+use Rattle.base.specs.Tests.{head_of}
 use mathlib.Core.List.Memᴰ
-use mathlib.Core.List.{List, [], ◌∷◌, flat_map, head?, Memᴰ}
-use mathlib.Core.Option.{Option, none, some, none-ne-some, some-injective}
+use mathlib.Core.List.{List, [], ◌∷◌, flat_map, Memᴰ}
+use Rattle.std.specs.Prelude.{Option, None, Some}
+use Rattle.std.proofs.lemmas.Option.{none-some, same_Some}
 use mathlib.Core.Path.{◌≡◌, refl, sym, ap, ◌∙◌, subst}
 use Prim.Native.Nat.{ℕ, zero, suc, ◌+◌, ◌≤◌}
 use native.Mathlib.Omega.{arith}
@@ -58,11 +60,11 @@ module _ (s : Forest) (h : Shape s) where
 
   -- a step from a present node is to a deeper one
   abbrev pub Deepens : (FullNodeId → Option FullNodeId) → Type 0
-  Deepens step = (x y : FullNodeId) → present s.nodes x ≡ true → step x ≡ some y → Deep (suc (length (ancestors s x))) y
+  Deepens step = (x y : FullNodeId) → present s.nodes x ≡ true → step x ≡ Some y → Deep (suc (length (ancestors s x))) y
 
-  head_member : (xs : List FullNodeId) (y : FullNodeId) → head? xs ≡ some y → Memᴰ y xs
-  head_member [] y e = absurd (none-ne-some y e)
-  head_member (x ∷ xs) y e = Memᴰ.head (sym (some-injective x y e))
+  head_member : (xs : List FullNodeId) (y : FullNodeId) → head_of xs ≡ Some y → Memᴰ y xs
+  head_member [] y e = absurd (none-some y e)
+  head_member (x ∷ xs) y e = Memᴰ.head (sym (same_Some x y e))
 
   pub first_deepens : (filter : FullNodeId → FilterResult) → Deepens (first_filtered_child filter s)
   unfolding first_filtered_child
@@ -74,12 +76,12 @@ module _ (s : Forest) (h : Shape s) where
 
   module _ (step : FullNodeId → Option FullNodeId) (deepens : Deepens step) where
     -- by the step
-    by_none : (room : ℕ) (x : FullNodeId) → step x ≡ none → deepest_within room step x ≡ none
+    by_none : (room : ℕ) (x : FullNodeId) → step x ≡ None → deepest_within room step x ≡ None
     unfolding deepest_within
     by_none zero x e = refl
     by_none (suc room) x e = rw (e, deepest_within) refl
 
-    by_some : (room : ℕ) (x y : FullNodeId) → step x ≡ some y → deepest_within (suc room) step x ≡ or_else y (deepest_within room step y)
+    by_some : (room : ℕ) (x y : FullNodeId) → step x ≡ Some y → deepest_within (suc room) step x ≡ or_else y (deepest_within room step y)
     unfolding deepest_within
     by_some room x y e = rw (e, deepest_within) refl
 
@@ -93,15 +95,15 @@ module _ (s : Forest) (h : Shape s) where
             → ((y : FullNodeId) → present s.nodes y ≡ true → length s.nodes ≤ room + length (ancestors s y)
             → deepest_within (suc room) step y ≡ deepest_within room step y)
             → deepest_within (suc (suc room)) step x ≡ deepest_within (suc room) step x
-        go none e f = by_none (suc (suc room)) x e ∙ sym (by_none (suc room) x e)
-        go (some y) e f =
+        go None e f = by_none (suc (suc room)) x e ∙ sym (by_none (suc room) x e)
+        go (Some y) e f =
             let d = deepens x y there e in
             by_some (suc room) x y e ∙ ap (or_else y) (f y d.0 (omega (arith, l, d.1))) ∙ sym (by_some room x y e)
 
     -- the deepest from x: none where there is no step, else the deepest from the next, or the next itself
-    pub deepest_none : (x : FullNodeId) → step x ≡ none → deepest_within (length s.nodes) step x ≡ none
+    pub deepest_none : (x : FullNodeId) → step x ≡ None → deepest_within (length s.nodes) step x ≡ None
     deepest_none x e = by_none (length s.nodes) x e
 
-    pub deepest_step : (x y : FullNodeId) → present s.nodes x ≡ true → step x ≡ some y
+    pub deepest_step : (x y : FullNodeId) → present s.nodes x ≡ true → step x ≡ Some y
         → deepest_within (length s.nodes) step x ≡ or_else y (deepest_within (length s.nodes) step y)
     deepest_step x y there e = sym (deepest_more (length s.nodes) x there (omega arith)) ∙ by_some (length s.nodes) x y e

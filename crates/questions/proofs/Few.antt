@@ -1,14 +1,13 @@
 -- A walk meets no more nodes than there are, so its list is no longer. Assumes nothing.
 use mathlib.Core.Bool.{Bool, true, false}
 use mathlib.Core.List.{List, [], ◌∷◌, ◌++◌, map, reverse, flat_map, map-append, reverse-cons, Memᴰ}
-use mathlib.Core.Option.{Option, none, some}
 use mathlib.Core.Path.{◌≡◌, refl, sym, ap, ◌∙◌, subst}
 use Prim.Native.Nat.{ℕ, zero, suc, ◌+◌, ◌≤◌, ◌<◌}
 use native.Mathlib.Omega.{arith}
 use lib.ListN.{length, get_or, take, drop, length-append, take-append-drop}
 use lib.Seq.{drop-cons, take-suc}
 use borrow.Author.Tests.{leb-true}
-use Rattle.std.specs.Prelude.{if◌then◌else◌}
+use Rattle.std.specs.Prelude.{if◌then◌else◌, Option, None, Some}
 use Rattle.base.proofs.Sums.{sum_over, sum_most}
 use Rattle.ids.specs.declared.FullNodeId.{FullNodeId}
 use Rattle.state.specs.State.{ParentAndIndex, Forest, present, link_at}
@@ -112,7 +111,7 @@ module _ (side : Side) (s : Forest) where
 
     root_few : weight r.root ≤ length s.nodes
     root_few =
-        let start : List Met = record { id = r.root; link = none } ∷ [] in
+        let start : List Met = record { id = r.root; link = None } ∷ [] in
         let way = way_down_from s r.root r.is_the_root in
         let few = leb-true (length (way_down s)) (length s.nodes) h.ends in
         omega (
@@ -122,12 +121,12 @@ module _ (side : Side) (s : Forest) where
         )
 
     -- a node without a link is the root
-    climb_top : (k : ℕ) (x : FullNodeId) → link_at s.nodes x ≡ none → climb k s.nodes x ≡ x
+    climb_top : (k : ℕ) (x : FullNodeId) → link_at s.nodes x ≡ None → climb k s.nodes x ≡ x
     unfolding climb
     climb_top zero x q = refl
     climb_top (suc k) x q = rw (q, climb) refl
 
-    top_root : (x : FullNodeId) → present s.nodes x ≡ true → link_at s.nodes x ≡ none → x ≡ r.root
+    top_root : (x : FullNodeId) → present s.nodes x ≡ true → link_at s.nodes x ≡ None → x ≡ r.root
     top_root x there q = let z = d.climbs x there in sym (climb_top z.0 x q) ∙ z.2
 
     -- ## Climbing
@@ -136,7 +135,7 @@ module _ (side : Side) (s : Forest) where
     Few level x = weight x + sum_over weight (ahead side s level x) ≤ length s.nodes
 
     -- what is ahead of a node and of its parent
-    up_sum : (level : ℕ) (x : FullNodeId) (l : ParentAndIndex) → link_at s.nodes x ≡ some l → ((j : ℕ) → Few j l.parent) → Few level x
+    up_sum : (level : ℕ) (x : FullNodeId) (l : ParentAndIndex) → link_at s.nodes x ≡ Some l → ((j : ℕ) → Few j l.parent) → Few level x
     unfolding ahead flat_map
     up_sum level x l q few = go level
       where
@@ -167,9 +166,9 @@ module _ (side : Side) (s : Forest) where
     few_at k before level x there deep = go (link_at s.nodes x) refl k before deep
       where
         go : (o : Option ParentAndIndex) → link_at s.nodes x ≡ o → (k : ℕ) → ((j : ℕ) → k ≡ suc j → FewFrom j) → length (ancestors s x) ≤ k → Few level x
-        go none q k before deep = omega (arith, root_few, ap weight (top_root x there q), ap (sum_over weight) (ahead_top side s h level x q))
-        go (some l) q zero before deep = absurd (omega (arith, ap length (ancestors_step s h x l q)))
-        go (some l) q (suc k) before deep =
+        go None q k before deep = omega (arith, root_few, ap weight (top_root x there q), ap (sum_over weight) (ahead_top side s h level x q))
+        go (Some l) q zero before deep = absurd (omega (arith, ap length (ancestors_step s h x l q)))
+        go (Some l) q (suc k) before deep =
             up_sum level x l q (λ j. before k refl j l.parent (parent_present s h x l q) (omega (arith, ap length (ancestors_step s h x l q))))
 
     few_from : (k : ℕ) → FewFrom k

@@ -1,11 +1,11 @@
 -- The law that ties the kept walk to its list. Assumes nothing.
 use mathlib.Core.List.{List, [], ◌∷◌, ◌++◌, map}
-use mathlib.Core.Option.{Option, none, some}
+use Rattle.std.specs.Prelude.{Option, None, Some, slice_get}
 use mathlib.Core.Path.{◌≡◌, refl, ap, ◌∙◌}
 use Prim.Native.Nat.{ℕ, zero, suc, ◌+◌}
 use native.Mathlib.Nat.{suc-add}
 use native.Mathlib.Omega.{arith}
-use lib.ListN.{length, get_elem?, drop, replicate}
+use lib.ListN.{length, drop, replicate}
 use Rattle.ids.specs.declared.FullNodeId.{FullNodeId}
 use Rattle.state.specs.State.{Forest, State}
 use Rattle.questions.specs.declared.Walk.{Walk}
@@ -32,26 +32,26 @@ module _ (s : State) where
   number w = walk_number s.forest w
 
   -- a call that is answered 0
-  next_is : (w : Walk) (o : Option FullNodeId) → number w ≡ 0 → get_elem? (list w) w.count ≡ o → next_of s w ≡ stepped 0 w o
+  next_is : (w : Walk) (o : Option FullNodeId) → number w ≡ 0 → slice_get (list w) w.count ≡ o → next_of s w ≡ stepped 0 w o
   unfolding next_of after
   next_is w o e q = rw (e, q) refl
 
   -- at the end, for good
-  ends : (w : Walk) (k : ℕ) → number w ≡ 0 → drop w.count (list w) ≡ [] → answers k s w ≡ replicate k none
+  ends : (w : Walk) (k : ℕ) → number w ≡ 0 → drop w.count (list w) ≡ [] → answers k s w ≡ replicate k None
   unfolding answers stepped
   ends w zero e q = refl
-  ends w (suc k) e q = rw (next_is w none e (at_none (list w) w.count q)) (ap (λ (l : List (Option FullNodeId)). none ∷ l) (ends w k e q))
+  ends w (suc k) e q = rw (next_is w None e (at_none (list w) w.count q)) (ap (λ (l : List (Option FullNodeId)). None ∷ l) (ends w k e q))
 
   from : (xs : List FullNodeId) (w : Walk) (k : ℕ) → number w ≡ 0 → drop w.count (list w) ≡ xs
-      → answers (length xs + k) s w ≡ map some xs ++ replicate k none
+      → answers (length xs + k) s w ≡ map Some xs ++ replicate k None
   unfolding answers stepped
   from [] w k e q = let none_left : 0 + k ≡ k = omega arith in rw none_left (ends w k e q)
   from (x ∷ xs) w k e q =
       let at = at_some (list w) w.count x xs q in
       let rest = from xs (moved w) k (number_moved s.forest w ∙ e) (ap (drop (suc w.count)) (list_moved (seen s) w) ∙ at.1) in
-      rw (suc-add, next_is w (some x) e at.0) (ap (λ (l : List (Option FullNodeId)). some x ∷ l) rest)
+      rw (suc-add, next_is w (Some x) e at.0) (ap (λ (l : List (Option FullNodeId)). Some x ∷ l) rest)
 
   -- From count 0 the answers one after another are the list, and then the end for good.
   pub walk_answers : (w : Walk) (k : ℕ) → number w ≡ 0 → w.count ≡ 0
-      → answers (length (list w) + k) s w ≡ map some (list w) ++ replicate k none
+      → answers (length (list w) + k) s w ≡ map Some (list w) ++ replicate k None
   walk_answers w k e z = from (list w) w k e (ap (λ (c : ℕ). drop c (list w)) z)

@@ -1,6 +1,5 @@
 -- Module 6, transform and bounding box: document 01, "Boxes". Assumes nothing.
-use Rattle.std.specs.Prelude.{List, map}
-use Rattle.std.proofs.Math.Option.{Option, none, some}
+use Rattle.std.specs.Prelude.{List, map, Option, None, Some}
 use Rattle.ids.specs.declared.FullNodeId.{FullNodeId}
 use Rattle.geometry.specs.declared.Rect.{Rect}
 use Rattle.geometry.specs.declared.Affine.{Affine}
@@ -14,7 +13,7 @@ use Rattle.questions.specs.Links.{ancestors}
 -- the node's own transform; the identity where it has none
 unfoldable pub direct_transform : Forest → FullNodeId → Affine
 direct_transform s x =
-    elim (find x s.nodes) [ none ↦ identity | some n ↦ elim (transform? n.body) [ none ↦ identity | some t ↦ t ] ]
+    elim (find x s.nodes) [ None ↦ identity | Some n ↦ elim (transform? n.body) [ None ↦ identity | Some t ↦ t ] ]
 
 -- the own transforms of its ancestors, nearest first
 unfoldable pub transforms_above : Forest → FullNodeId → List Affine
@@ -26,8 +25,8 @@ transform s x = chain (direct_transform s x) (transforms_above s x)
 
 -- the node's own bounds
 unfoldable pub raw_bounds : Forest → FullNodeId → Option Rect
-raw_bounds s x = elim (find x s.nodes) [ none ↦ none | some n ↦ bounds? n.body ]
+raw_bounds s x = elim (find x s.nodes) [ None ↦ None | Some n ↦ bounds? n.body ]
 
 -- The bounding box: that of the bounds under the transforms; none without bounds, or where a number on the way is not finite.
 unfoldable pub bounding_box : Forest → FullNodeId → BoundingBox
-bounding_box s x = elim (raw_bounds s x) [ none ↦ box.None | some r ↦ box_under (direct_transform s x) (transforms_above s x) r ]
+bounding_box s x = elim (raw_bounds s x) [ None ↦ box.None | Some r ↦ box_under (direct_transform s x) (transforms_above s x) r ]

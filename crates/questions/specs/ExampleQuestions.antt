@@ -1,7 +1,6 @@
 -- The questions of modules 6 to 8 about a node, and worked cases: a sound state, and what its nodes answer.
 -- Assumes nothing.
-use Rattle.std.specs.Prelude.{Bool, true, List, [], ◌∷◌, ◌≡◌}
-use Rattle.std.proofs.Math.Option.{Option, none, some}
+use Rattle.std.specs.Prelude.{Bool, true, List, [], ◌∷◌, ◌≡◌, Option, None, Some}
 use Rattle.ids.specs.declared.FullNodeId.{FullNodeId}
 use Rattle.geometry.specs.declared.Affine.{Affine}
 use Rattle.geometry_box.specs.declared.BoundingBox.{BoundingBox}
@@ -66,10 +65,10 @@ answer s x (DeepestLastFilteredChild f) = one (deepest_last_filtered_child (filt
 
 -- a node, or none
 abbrev pub is : FullNodeId → Said
-is x = one (some x)
+is x = one (Some x)
 
 abbrev pub nothing : Said
-nothing = one none
+nothing = one None
 
 -- ## Cases
 

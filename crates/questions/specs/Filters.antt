@@ -1,8 +1,7 @@
 -- Module 7, the three filters, in the order of src/filters.rs: document 01, "Filter and walks". Assumes nothing.
-use Rattle.std.specs.Prelude.{Bool, true, false, not, ◌||◌, ℕ, eqb, if◌then◌else◌}
-use mathlib.Core.List.{List, [], ◌∷◌, head?}
-use Rattle.std.proofs.Math.Option.{Option, none, some}
-use Rattle.base.specs.Tests.{◌and◌, is_some, same_option}
+use Rattle.std.specs.Prelude.{Bool, true, false, not, ◌||◌, ℕ, eqb, if◌then◌else◌, Option, None, Some}
+use mathlib.Core.List.{List, [], ◌∷◌}
+use Rattle.base.specs.Tests.{◌and◌, is_some, same_option, head_of}
 use Rattle.ids.specs.Ids.{same_id}
 use Rattle.ids.specs.declared.FullNodeId.{FullNodeId}
 use Rattle.geometry_box.specs.Boxes.{apart, meet}
@@ -26,10 +25,10 @@ use Rattle.questions.specs.Walks.{filtered_parent, filtered_siblings}
 unfoldable pub active_descendant_at : List NodeState → FullNodeId → Option FullNodeId
 active_descendant_at ns x =
     elim (find x ns) [
-      | none ↦ none
-      | some n ↦ elim (active_descendant? n.body) [
-        | none ↦ none
-        | some a ↦ let y : FullNodeId = record { tree = x.tree; node = a } in if present ns y then some y else none
+      | None ↦ None
+      | Some n ↦ elim (active_descendant? n.body) [
+        | None ↦ None
+        | Some a ↦ let y : FullNodeId = record { tree = x.tree; node = a } in if present ns y then Some y else None
       ]
     ]
 
@@ -39,10 +38,10 @@ unfoldable pub focused_node : State → Option FullNodeId
 focused_node s =
     if s.host_focused
     then elim (effective_focus s.forest) [
-      | none ↦ none
-      | some e ↦ elim (active_descendant_at s.forest.nodes e) [ none ↦ some e | some a ↦ if same_id a e then none else some a ]
+      | None ↦ None
+      | Some e ↦ elim (active_descendant_at s.forest.nodes e) [ None ↦ Some e | Some a ↦ if same_id a e then None else Some a ]
     ]
-    else none
+    else None
 
 -- What a filter sees: a forest, and the focused node, if there is one.
 pub record Seen : Type 0 where
@@ -54,7 +53,7 @@ abbrev pub seen : State → Seen
 seen s = record { forest = s.forest; focused = focused_node s }
 
 unfoldable pub is_focused : Seen → FullNodeId → Bool
-is_focused s x = same_option same_id s.focused (some x)
+is_focused s x = same_option same_id s.focused (Some x)
 
 -- the roles that a filter tells apart
 abbrev pub GENERIC_CONTAINER : ℕ
@@ -67,35 +66,35 @@ TEXT_RUN = 1
 unfoldable pub is_transparent : Forest → FullNodeId → Bool
 is_transparent s x =
     elim (find x s.nodes) [
-      | none ↦ false
-      | some n ↦ is_some (graft_at s.nodes x) || (eqb n.body.role GENERIC_CONTAINER || eqb n.body.role TEXT_RUN)
+      | None ↦ false
+      | Some n ↦ is_some (graft_at s.nodes x) || (eqb n.body.role GENERIC_CONTAINER || eqb n.body.role TEXT_RUN)
     ]
 
 -- whether it clips its children
 unfoldable pub clips_at : Forest → FullNodeId → Bool
-clips_at s x = elim (find x s.nodes) [ none ↦ false | some n ↦ clips_children n.body ]
+clips_at s x = elim (find x s.nodes) [ None ↦ false | Some n ↦ clips_children n.body ]
 
 -- ## `common_filter_base`, `common_filter_without_parent_checks`
 
 -- the first that holds: focused, hidden, transparent
 unfoldable pub common_filter_base : Seen → FullNodeId → Option FilterResult
 common_filter_base s x =
-    if is_focused s x then some Include
-    else if is_hidden s.forest x then some ExcludeSubtree
-    else if is_transparent s.forest x then some ExcludeNode
-    else none
+    if is_focused s x then Some Include
+    else if is_hidden s.forest x then Some ExcludeSubtree
+    else if is_transparent s.forest x then Some ExcludeNode
+    else None
 
 unfoldable pub without_parent_checks : Seen → FullNodeId → FilterResult
-without_parent_checks s x = elim (common_filter_base s x) [ none ↦ Include | some r ↦ r ]
+without_parent_checks s x = elim (common_filter_base s x) [ None ↦ Include | Some r ↦ r ]
 
 -- ## `common_filter`
 
 -- whether the nearest filtered sibling of x on one side lies inside the box of p
 unfoldable pub neighbour_inside : Side → Seen → FullNodeId → FullNodeId → Bool
 neighbour_inside side s p x =
-    elim (head? (filtered_siblings (without_parent_checks s) side s.forest x)) [
-      | none ↦ false
-      | some y ↦ meet (bounding_box s.forest y) (bounding_box s.forest p)
+    elim (head_of (filtered_siblings (without_parent_checks s) side s.forest x)) [
+      | None ↦ false
+      | Some y ↦ meet (bounding_box s.forest y) (bounding_box s.forest p)
     ]
 
 -- x lies outside the box of p, which clips its children, and no neighbour of x lies inside it
@@ -107,7 +106,7 @@ clipped_by s p x =
 
 -- so with its filtered parent
 unfoldable pub is_clipped : Seen → FullNodeId → Bool
-is_clipped s x = elim (filtered_parent (without_parent_checks s) s.forest x) [ none ↦ false | some p ↦ clipped_by s p x ]
+is_clipped s x = elim (filtered_parent (without_parent_checks s) s.forest x) [ None ↦ false | Some p ↦ clipped_by s p x ]
 
 unfoldable pub is_exclude_subtree : FilterResult → Bool
 is_exclude_subtree Include = false
@@ -120,9 +119,9 @@ ordinary s x parent_dropped = if parent_dropped then ExcludeSubtree else if is_c
 
 -- `common_filter` asks the same question of the parent, each time one step nearer the root; `up` are the ancestors of x
 unfoldable pub common_filter_from : Seen → FullNodeId → List FullNodeId → FilterResult
-common_filter_from s x [] = elim (common_filter_base s x) [ none ↦ ordinary s x false | some r ↦ r ]
+common_filter_from s x [] = elim (common_filter_base s x) [ None ↦ ordinary s x false | Some r ↦ r ]
 common_filter_from s x (p ∷ up) =
-    elim (common_filter_base s x) [ none ↦ ordinary s x (is_exclude_subtree (common_filter_from s p up)) | some r ↦ r ]
+    elim (common_filter_base s x) [ None ↦ ordinary s x (is_exclude_subtree (common_filter_from s p up)) | Some r ↦ r ]
 
 unfoldable pub common_filter : Seen → FullNodeId → FilterResult
 common_filter s x = common_filter_from s x (ancestors s.forest x)
@@ -131,7 +130,7 @@ common_filter s x = common_filter_from s x (ancestors s.forest x)
 
 -- ROOT's root is included, whatever it is
 unfoldable pub with_root_exception : Seen → FullNodeId → FilterResult
-with_root_exception s x = if same_option same_id (root_of s.forest) (some x) then Include else common_filter s x
+with_root_exception s x = if same_option same_id (root_of s.forest) (Some x) then Include else common_filter s x
 
 -- ## The three
 

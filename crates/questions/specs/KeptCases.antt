@@ -1,7 +1,6 @@
 -- Module 8, the kept walk by worked cases: each call's number, its answer and the walk after it, every field. Derived by hand from document 01,
 -- "Filter and walks". Assumes nothing.
-use Rattle.std.specs.Prelude.{List, [], ◌∷◌, ◌≡◌, ℕ, ◌+◌}
-use Rattle.std.proofs.Math.Option.{none, some}
+use Rattle.std.specs.Prelude.{List, [], ◌∷◌, ◌≡◌, ℕ, ◌+◌, None, Some}
 use Rattle.ids.specs.declared.FullNodeId.{FullNodeId}
 use Rattle.record.specs.ExampleNodes.{parent, leaf}
 use Rattle.state.specs.State.{State}
@@ -24,11 +23,11 @@ pub record KeptCase : Type 0 where
 -- with an answer the count goes up by one; else the walk is as it was
 abbrev hands_out : State → FullNodeId → ℕ → ℕ → ℕ → FullNodeId → KeptCase
 hands_out s x side filter count y =
-    record { state = s; kept = walk x side filter count; says = record { number = 0; found = some y; walk = walk x side filter (count + 1) } }
+    record { state = s; kept = walk x side filter count; says = record { number = 0; found = Some y; walk = walk x side filter (count + 1) } }
 
 abbrev stays : ℕ → State → FullNodeId → ℕ → ℕ → ℕ → KeptCase
 stays number s x side filter count =
-    record { state = s; kept = walk x side filter count; says = record { number = number; found = none; walk = walk x side filter count } }
+    record { state = s; kept = walk x side filter count; says = record { number = number; found = None; walk = walk x side filter count } }
 
 -- 1 has [2, 3]: three_deep after 4 and what was below 3 went
 unfoldable pub later : State

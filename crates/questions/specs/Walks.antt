@@ -1,9 +1,8 @@
 -- Module 8, lists of children and siblings under a filter, and module 6's filtered parent and deepest filtered child: document 01, "Filter and walks".
 -- The filter is a parameter: what it says of each node. Assumes nothing.
-use Rattle.std.specs.Prelude.{Bool, true, false, not, ℕ, zero, suc, length, if◌then◌else◌}
-use mathlib.Core.List.{List, [], ◌∷◌, reverse, flat_map, head?}
-use Rattle.std.proofs.Math.Option.{Option, none, some}
-use Rattle.base.specs.Tests.{is_nil, first_given}
+use Rattle.std.specs.Prelude.{Bool, true, false, not, ℕ, zero, suc, length, if◌then◌else◌, Option, None, Some}
+use mathlib.Core.List.{List, [], ◌∷◌, reverse, flat_map}
+use Rattle.base.specs.Tests.{is_nil, first_given, head_of}
 use Rattle.ids.specs.declared.FullNodeId.{FullNodeId}
 use Rattle.state.specs.State.{Forest}
 use Rattle.questions.specs.declared.Side.{Side}
@@ -24,13 +23,13 @@ leading p (x ∷ xs) = if p x then x ∷ leading p xs else []
 
 -- d, or c where there is none
 abbrev pub or_else : FullNodeId → Option FullNodeId → Option FullNodeId
-or_else c none = some c
-or_else c (some d) = some d
+or_else c None = Some c
+or_else c (Some d) = Some d
 
 -- where steps from x end, if there is one: at most `room` of them
 unfoldable pub deepest_within : ℕ → (FullNodeId → Option FullNodeId) → FullNodeId → Option FullNodeId
-deepest_within zero step x = none
-deepest_within (suc room) step x = elim (step x) [ none ↦ none | some c ↦ or_else c (deepest_within room step c) ]
+deepest_within zero step x = None
+deepest_within (suc room) step x = elim (step x) [ None ↦ None | Some c ↦ or_else c (deepest_within room step c) ]
 
 module _ (filter : FullNodeId → FilterResult) where
   -- ## Filtered children
@@ -55,10 +54,10 @@ module _ (filter : FullNodeId → FilterResult) where
 
   -- the first and the last of them
   unfoldable pub first_filtered_child : Forest → FullNodeId → Option FullNodeId
-  first_filtered_child s x = head? (filtered_children s x)
+  first_filtered_child s x = head_of (filtered_children s x)
 
   unfoldable pub last_filtered_child : Forest → FullNodeId → Option FullNodeId
-  last_filtered_child s x = head? (reverse (filtered_children s x))
+  last_filtered_child s x = head_of (reverse (filtered_children s x))
 
   -- ## The deepest filtered child: the first (or last) filtered child, that of it, and so on while there is one
 
@@ -77,7 +76,7 @@ module _ (filter : FullNodeId → FilterResult) where
   is_excluded_node x = elim (filter x) [ Include ↦ false | ExcludeNode ↦ true | ExcludeSubtree ↦ false ]
 
   unfoldable pub filtered_parent : Forest → FullNodeId → Option FullNodeId
-  filtered_parent s x = first_given (λ p. if is_included p then some p else none) (ancestors s x)
+  filtered_parent s x = first_given (λ p. if is_included p then Some p else None) (ancestors s x)
 
   -- ## Filtered siblings
 
@@ -87,7 +86,7 @@ module _ (filter : FullNodeId → FilterResult) where
 
   -- none if no ancestor is included, or the nearest included one has no filtered child
   unfoldable pub has_filtered_siblings : Forest → FullNodeId → Bool
-  has_filtered_siblings s x = elim (filtered_parent s x) [ none ↦ false | some p ↦ not (is_nil (filtered_children s p)) ]
+  has_filtered_siblings s x = elim (filtered_parent s x) [ None ↦ false | Some p ↦ not (is_nil (filtered_children s p)) ]
 
   -- Filtered siblings on one side, nearest first: the same over the siblings on that side, climbing while the parent is ExcludeNode.
   unfoldable pub filtered_siblings : Side → Forest → FullNodeId → List FullNodeId

@@ -3,14 +3,14 @@ use mathlib.Core.Bool.{Bool, true, false, not, true≢false, false≢true}
 use mathlib.Core.List.Memᴰ
 use mathlib.Core.List.{List, [], ◌∷◌, Memᴰ}
 use mathlib.Core.Logic.{⊎_elim}
-use mathlib.Core.Option.{Option, none, some, none-ne-some, some-injective}
+use Rattle.std.proofs.lemmas.Option.{none-some, same_Some}
 use mathlib.Core.Path.{◌≡◌, refl, sym, ap, ◌∙◌}
 use Prim.Native.Nat.{ℕ, zero, suc, ◌+◌, ◌<◌}
 use native.Mathlib.Omega.{arith}
 use lib.Dec.{leb}
 use lib.ListN.{length}
 use borrow.Author.Tests.{ltb-true, leb-true, leb-false}
-use Rattle.std.specs.Prelude.{if◌then◌else◌}
+use Rattle.std.specs.Prelude.{if◌then◌else◌, Option, None, Some}
 use Rattle.base.specs.Tests.{◌and◌, is_nil, all, keep, has, same_option}
 use Rattle.base.proofs.Cases.{by_test, by_option}
 use Rattle.base.proofs.Tests.{both, joined, not_true, clash, refuted, same_option→≡}
@@ -35,7 +35,7 @@ use Rattle.reasons.proofs.Circle.{circle}
 use Rattle.reasons.proofs.Places.{member_at, at_member, From, from_start, from_head, from_tail}
 
 -- no node passes
-pub spot_none : (k : ℕ) (p : NodeState → Bool) (ns : List NodeState) → spot_from k p ns ≡ none → (n : NodeState) → Memᴰ n ns → p n ≡ false
+pub spot_none : (k : ℕ) (p : NodeState → Bool) (ns : List NodeState) → spot_from k p ns ≡ None → (n : NodeState) → Memᴰ n ns → p n ≡ false
 unfolding spot_from
 spot_none k p [] e n x'' = elim x'' [ ]
 spot_none k p (m ∷ ns) e n (Memᴰ.head q) = ap p q ∙ (none_if (p m) _ _ e).0
@@ -50,7 +50,7 @@ module _ (s : Forest) where
   spot_from_lem k p (n ∷ ns) h =
       says_else (λ x. NodeAt s x (λ n. p n ≡ true)) (p n) _ _ (λ t. (n, from_head h, refl, t)) (λ t. spot_from_lem (suc k) p ns (from_tail h))
 
-  spot_at : (p : NodeState → Bool) (x : Spot) → spot p s.nodes ≡ some x → NodeAt s x (λ n. p n ≡ true)
+  spot_at : (p : NodeState → Bool) (x : Spot) → spot p s.nodes ≡ Some x → NodeAt s x (λ n. p n ≡ true)
   spot_at p x e = said (λ x. NodeAt s x (λ n. p n ≡ true)) (spot p s.nodes) (spot_from_lem 0 p s.nodes (from_start s.nodes)) x e
 
   -- a rule for the nodes, each by itself
@@ -66,8 +66,8 @@ module _ (s : Forest) where
 
   -- of no ids there is none
   abbrev pub Least : List FullNodeId → Option FullNodeId → Type 0
-  Least xs none = xs ≡ []
-  Least xs (some x) = Smallest xs x
+  Least xs None = xs ≡ []
+  Least xs (Some x) = Smallest xs x
 
   pub smallest_least : (xs : List FullNodeId) → Least xs (smallest xs)
   unfolding smallest
@@ -83,7 +83,7 @@ module _ (s : Forest) where
       ))
       (λ z q. rw (q, smallest) (pick z (rw q at rest) (before z x) refl))
     where
-      pick : (z : FullNodeId) → Smallest xs z → (c : Bool) → before z x ≡ c → Least (x ∷ xs) (if c then some z else some x)
+      pick : (z : FullNodeId) → Smallest xs z → (c : Bool) → before z x ≡ c → Least (x ∷ xs) (if c then Some z else Some x)
       pick z least true t = (
         Memᴰ.tail least.0,
         λ y i. ⊎_elim (λ p. rw p (refuted (λ e. clash (before_self x) (before_trans x z x e t)))) (λ j. least.1 y j)
@@ -132,44 +132,44 @@ module _ (s : Forest) where
 
   -- what climbing finds in at most `room` steps: the topmost node, or that all of them lead to nodes never met
   abbrev Within : ℕ → FullNodeId → Option Dropped → Type 0
-  Within room x none = (y : FullNodeId) × UnmetUp s room x y
-  Within room x (some d) = Topmost s x d
+  Within room x None = (y : FullNodeId) × UnmetUp s room x y
+  Within room x (Some d) = Topmost s x d
 
   -- one step more
-  up_higher : {k : ℕ} {x p y : FullNodeId} → Unmet s p → parent_at s.nodes x ≡ some p → UnmetUp s k p y → UnmetUp s (suc k) x y
+  up_higher : {k : ℕ} {x p y : FullNodeId} → Unmet s p → parent_at s.nodes x ≡ Some p → UnmetUp s k p y → UnmetUp s (suc k) x y
   unfolding parent_at
   up_higher {k} {x} {p} {y} u q h =
-      let l = some_from (link_at s.nodes x) (λ l. some l.parent) p q in
-      let same : l.0.parent ≡ p = some-injective l.0.parent p l.2 in
+      let l = some_from (link_at s.nodes x) (λ l. Some l.parent) p q in
+      let same : l.0.parent ≡ p = same_Some l.0.parent p l.2 in
       step {k = k} {y = y} l.0 l.1 (rw same u) (rw same h)
 
-  within_higher : (room : ℕ) (x p : FullNodeId) → Unmet s p → parent_at s.nodes x ≡ some p → (o : Option Dropped) → Within room p o → Within (suc room) x o
-  within_higher room x p u q none h = (h.0, up_higher u q h.1)
-  within_higher room x p u q (some d) h = record { steps = suc h.steps; above = up_higher u q h.above; records = h.records; last = h.last }
+  within_higher : (room : ℕ) (x p : FullNodeId) → Unmet s p → parent_at s.nodes x ≡ Some p → (o : Option Dropped) → Within room p o → Within (suc room) x o
+  within_higher room x p u q None h = (h.0, up_higher u q h.1)
+  within_higher room x p u q (Some d) h = record { steps = suc h.steps; above = up_higher u q h.above; records = h.records; last = h.last }
 
   topmost_says : (room : ℕ) (x : FullNodeId) → Within room x (topmost_within room s (reached s) x)
   unfolding topmost_within
   topmost_says zero x = (x, there)
   topmost_says (suc room) x =
       by_option (parent_at s.nodes x)
-      (λ q. rw (q, topmost_within) (record { steps = 0; above = there; records = q; last = λ p e. absurd (none-ne-some p e) }))
+      (λ q. rw (q, topmost_within) (record { steps = 0; above = there; records = q; last = λ p e. absurd (none-some p e) }))
       (λ p q. rw (q, topmost_within) (pick p q (present s.nodes p and is_nil (met_links s (reached s) p)) refl (topmost_says room p)))
     where
       unmet_test : (p y : FullNodeId) → p ≡ y → Unmet s y → present s.nodes p and is_nil (met_links s (reached s) p) ≡ true
       unmet_test p y e h = joined (ap (present s.nodes) e ∙ h.0) (ap (λ z. is_nil (met_links s (reached s) z)) e ∙ ap is_nil h.1)
 
-      pick : (p : FullNodeId) → parent_at s.nodes x ≡ some p → (c : Bool) → present s.nodes p and is_nil (met_links s (reached s) p) ≡ c
+      pick : (p : FullNodeId) → parent_at s.nodes x ≡ Some p → (c : Bool) → present s.nodes p and is_nil (met_links s (reached s) p) ≡ c
           → Within room p (topmost_within room s (reached s) p)
-          → Within (suc room) x (if c then topmost_within room s (reached s) p else some (record { node = x; by = some p }))
+          → Within (suc room) x (if c then topmost_within room s (reached s) p else Some (record { node = x; by = Some p }))
       pick p q true t above =
           let met = both t in within_higher room x p (met.0, nil_of met.1) q (topmost_within room s (reached s) p) above
       pick p q false t above =
-          record { steps = 0; above = there; records = q; last = λ y e h. clash t (unmet_test p y (some-injective p y e) h) }
+          record { steps = 0; above = there; records = q; last = λ y e h. clash t (unmet_test p y (same_Some p y e) h) }
 
   -- as many steps as there are nodes
   climbs_within : (x : FullNodeId) (o : Option Dropped) → Unmet s x → Within (length s.nodes) x o → Climbs s x o
-  climbs_within x none h z = circle s x z.0 h z.1
-  climbs_within x (some d) h z = z
+  climbs_within x None h z = circle s x z.0 h z.1
+  climbs_within x (Some d) h z = z
 
   unmet_says : IfSome (Breaks s) (unmet s (reached s))
   unfolding unmet is_never_met Breaks
@@ -194,7 +194,7 @@ module _ (s : Forest) where
       (λ t. wrong_says once (suc k) ns (from_tail h))
 
   -- so it is where no node is met twice, and none never
-  met_once : spot (is_met_twice s (reached s)) s.nodes ≡ none → spot (is_never_met s (reached s)) s.nodes ≡ none → MetOnce
+  met_once : spot (is_met_twice s (reached s)) s.nodes ≡ None → spot (is_never_met s (reached s)) s.nodes ≡ None → MetOnce
   unfolding is_met_twice is_never_met
   met_once twice never n i =
       one (met_links s (reached s) n.id) (spot_none 0 (is_met_twice s (reached s)) s.nodes twice n i)
@@ -210,9 +210,9 @@ module _ (s : Forest) where
   links_say =
       let crowd = spot_says crowded too_many_children (λ x z. (z.0, z.1, z.2, ltb-true 256 (length z.0.body.children) z.3)) in
       let twice = spot_says (is_met_twice s (reached s)) met_twice (λ x z. (z.0, z.1, z.2, leb-true 2 (length (met_links s (reached s) z.0.id)) z.3)) in
-      let never : unmet s (reached s) ≡ none → spot (is_never_met s (reached s)) s.nodes ≡ none =
+      let never : unmet s (reached s) ≡ None → spot (is_never_met s (reached s)) s.nodes ≡ None =
       none_made (λ x. never_met x (topmost_within (length s.nodes) s (reached s) x.id)) (spot (is_never_met s (reached s)) s.nodes) in
-      let single : at met_twice (spot (is_met_twice s (reached s)) s.nodes) ≡ none → spot (is_met_twice s (reached s)) s.nodes ≡ none =
+      let single : at met_twice (spot (is_met_twice s (reached s)) s.nodes) ≡ None → spot (is_met_twice s (reached s)) s.nodes ≡ None =
       none_made met_twice (spot (is_met_twice s (reached s)) s.nodes) in
       let full = spot_says (λ n. not (graft_is_bare n)) graft_with_children (λ x z. (z.0, z.1, z.2, not_true z.3)) in
       says_each (Breaks s)
@@ -238,14 +238,14 @@ module _ (s : Forest) where
 
   -- one of some nodes, with this id, grafts t
   abbrev Grafting : List NodeState → TreeId → FullNodeId → Type 0
-  Grafting ns t y = (m : NodeState) × Memᴰ m ns × (m.id ≡ y) × (graft? m.body ≡ some t)
+  Grafting ns t y = (m : NodeState) × Memᴰ m ns × (m.id ≡ y) × (graft? m.body ≡ Some t)
 
   holder_says : (ns : List NodeState) (t : TreeId) → IfSome (Grafting ns t) (holder ns t)
   unfolding holder
   holder_says ns t =
       says_first (Grafting ns t) _ ns
-      (λ m i. says_if (Grafting ns t) (same_option same_tree (graft? m.body) (some t)) m.id
-      (λ q. (m, i, refl, same_option→≡ same_tree same_tree→≡ (graft? m.body) (some t) q)))
+      (λ m i. says_if (Grafting ns t) (same_option same_tree (graft? m.body) (Some t)) m.id
+      (λ q. (m, i, refl, same_option→≡ same_tree same_tree→≡ (graft? m.body) (Some t) q)))
 
   pub regraft_says : (k : ℕ) (ns : List NodeState) → From k ns s.nodes → IfSome (λ g. Breaks s (grafted_twice g)) (graft_twice_from k ns)
   unfolding graft_twice_from Breaks
@@ -279,7 +279,7 @@ module _ (s : Forest) where
       by_test (grafted s.nodes k e) (λ t. rw t (unrooted_says (suc k) es (from_tail h))) (λ t. rw t (e, from_head h, refl, t))
 
   -- a rule that holds by a test
-  unless_says : (t : Bool) (b : Broken) → (t ≡ false → Breaks s b) → IfSome (Breaks s) (if t then none else some b)
+  unless_says : (t : Bool) (b : Broken) → (t ≡ false → Breaks s b) → IfSome (Breaks s) (if t then None else Some b)
   unless_says true b h = tt
   unless_says false b h = h refl
 
@@ -292,8 +292,8 @@ module _ (s : Forest) where
       let twice = twice_says 0 [] s.trees (λ t e. absurd (false≢true e)) (from_start s.trees) in
       let unrooted = unrooted_says 0 s.trees (from_start s.trees) in
       says_each (Breaks s)
-      (elim (graft_twice_from 0 s.nodes) [ none ↦ none | some g ↦ some (grafted_twice g) ]
-      ∷ (if root_first s.trees then none else some root_not_first)
+      (elim (graft_twice_from 0 s.nodes) [ None ↦ None | Some g ↦ Some (grafted_twice g) ]
+      ∷ (if root_first s.trees then None else Some root_not_first)
       ∷ tree_twice_from 0 [] s.trees
       ∷ unrooted_from s.nodes 0 s.trees
       ∷ [])
@@ -326,10 +326,10 @@ module _ (s : Forest) where
       let field = spot_says (λ n. not (fields_ok n.body)) broken_field (λ x z. (z.0, z.1, z.2, not_true z.3)) in
       let focus = unless_says (focus_present s) no_focus (λ t. t) in
       says_each (Breaks s)
-      ((if leb (length s.nodes) 256 then none else some tooManyNodes)
-      ∷ (if leb (length s.trees) 32 then none else some tooManyTrees)
+      ((if leb (length s.nodes) 256 then None else Some tooManyNodes)
+      ∷ (if leb (length s.trees) 32 then None else Some tooManyTrees)
       ∷ broken_shape s
       ∷ at broken_field (spot (λ n. not (fields_ok n.body)) s.nodes)
-      ∷ (if focus_present s then none else some no_focus)
+      ∷ (if focus_present s then None else Some no_focus)
       ∷ [])
       (nodes, λ _. (trees, λ _. (shape_says, λ _. (field, λ _. (focus, λ _. tt)))))

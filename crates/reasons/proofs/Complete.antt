@@ -3,14 +3,13 @@ use mathlib.Core.Bool.{Bool, true, false, not, false≢true}
 use mathlib.Core.List.Memᴰ
 use mathlib.Core.List.{List, [], ◌∷◌, ◌++◌, Memᴰ}
 use mathlib.Core.Logic.{⊎_elim}
-use mathlib.Core.Option.{Option, none, some}
 use mathlib.Core.Path.{◌≡◌, refl, sym, ap, ◌∙◌, subst}
 use Prim.Native.Nat.{ℕ, zero, suc, ◌+◌, ◌-◌, ◌≤◌, ◌<◌}
 use native.Mathlib.Omega.{arith}
 use lib.Dec.{leb}
 use lib.ListN.{length}
 use borrow.Author.Tests.{eq-eqb, leb-true, le-leb}
-use Rattle.std.specs.Prelude.{if◌then◌else◌}
+use Rattle.std.specs.Prelude.{if◌then◌else◌, Option, None, Some}
 use Rattle.base.specs.Tests.{is_none, all, has, same_option}
 use Rattle.base.proofs.Cases.{by_test, by_option}
 use Rattle.base.proofs.Tests.{joined, clash, iff, not_false, all_member}
@@ -116,7 +115,7 @@ module _ (s : Forest) (k : Unbroken s) where
       (Memᴰ.cases_cons i)
 
   start : Met
-  start = record { id = r.root; link = none }
+  start = record { id = r.root; link = None }
 
   going_start : Going 0 start
   unfolding within start met_links
@@ -179,7 +178,7 @@ module _ (s : Forest) (k : Unbroken s) where
       on : (l : Option ParentAndIndex) → Memᴰ l (met_links s (reached s) n.id) → IsMet n.id
       on l j =
           ⊎_elim
-          (λ p. by_test (same_option same_id (root_of s) (some n.id))
+          (λ p. by_test (same_option same_id (root_of s) (Some n.id))
           (λ t. subst IsMet (same_id→≡ r.root n.id (rw r.is_the_root at t)) root_met)
           (λ t. absurd (Memᴰ.not-nil (rw t at p))))
           (λ p. let z = links_below_lem s (reached s) n.id s.nodes l p in
@@ -213,13 +212,13 @@ module _ (s : Forest) (k : Unbroken s) where
       (le-leb (length (way_down s)) (length s.nodes) short)
 
 -- where no rule is found broken, the shape is sound
-pub shape_complete : (s : Forest) → broken_shape s ≡ none → sound_shape s ≡ true
+pub shape_complete : (s : Forest) → broken_shape s ≡ None → sound_shape s ≡ true
 shape_complete s e = unbroken_sound s (unbroken s e)
 
 -- ## The answers
 
 -- so where the shape is not sound, a broken rule is found, and it is the first that is broken
-pub shape_found : (s : Forest) → sound_shape s ≡ false → (b : Broken) × (broken_shape s ≡ some b) × FirstOfShape s b
+pub shape_found : (s : Forest) → sound_shape s ≡ false → (b : Broken) × (broken_shape s ≡ Some b) × FirstOfShape s b
 shape_found s e =
     by_option (broken_shape s) (λ q. absurd (clash e (shape_complete s q))) (λ b q. (b, q, shape_first s b q))
 
@@ -264,24 +263,24 @@ state_complete s = iff there back
     there : is_none (broken_state s) ≡ true → sound s ≡ true
     there e =
         let z = none_each
-        ((if leb (length s.nodes) 256 then none else some tooManyNodes)
-        ∷ (if leb (length s.trees) 32 then none else some tooManyTrees)
+        ((if leb (length s.nodes) 256 then None else Some tooManyNodes)
+        ∷ (if leb (length s.trees) 32 then None else Some tooManyTrees)
         ∷ broken_shape s
         ∷ at broken_field (spot (λ n. not (fields_ok n.body)) s.nodes)
-        ∷ (if focus_present s then none else some no_focus)
+        ∷ (if focus_present s then None else Some no_focus)
         ∷ []) (none_of (broken_state s) e) in
         let fields = none_made broken_field (spot (λ n. not (fields_ok n.body)) s.nodes) z.1.1.1.0 in
         sound_of s (record {
           shape = shape_complete s z.1.1.0;
-          few_nodes = (none_unless (leb (length s.nodes) 256) tooManyNodes none z.0).0;
-          few_trees = (none_unless (leb (length s.trees) 32) tooManyTrees none z.1.0).0;
+          few_nodes = (none_unless (leb (length s.nodes) 256) tooManyNodes None z.0).0;
+          few_trees = (none_unless (leb (length s.trees) 32) tooManyTrees None z.1.0).0;
           fields = all_of (λ n. fields_ok n.body) s.nodes (λ n i. not_false (spot_none 0 (λ n. not (fields_ok n.body)) s.nodes fields n i));
-          focus = (none_unless (focus_present s) no_focus none z.1.1.1.1.0).0;
+          focus = (none_unless (focus_present s) no_focus None z.1.1.1.1.0).0;
         })
 
     back : sound s ≡ true → is_none (broken_state s) ≡ true
     back e = by_option (broken_state s) (λ q. rw q) (λ b q. absurd (clash (state_broken s b q) e))
 
-pub state_found : (s : Forest) → sound s ≡ false → (b : Broken) × (broken_state s ≡ some b) × FirstOfState s b
+pub state_found : (s : Forest) → sound s ≡ false → (b : Broken) × (broken_state s ≡ Some b) × FirstOfState s b
 state_found s e =
     by_option (broken_state s) (λ q. absurd (clash e (sym (state_complete s) ∙ ap is_none q))) (λ b q. (b, q, state_first s b q))

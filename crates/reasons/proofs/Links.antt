@@ -3,14 +3,13 @@
 use mathlib.Core.Bool.{Bool, true, false, ◌||◌}
 use mathlib.Core.List.{List, [], ◌∷◌, map, Memᴰ}
 use mathlib.Core.Logic.{◌⊎◌, inl, inr, ⊎_elim}
-use mathlib.Core.Option.{Option, none, some}
 use mathlib.Core.Path.{◌≡◌, refl, sym, ap, ◌∙◌, subst}
 use Prim.Native.Nat.{ℕ, zero, suc, ◌+◌, ◌-◌, ◌≤◌, ◌<◌}
 use native.Mathlib.Nat.{zero-add, suc-add}
 use native.Mathlib.Omega.{arith}
 use lib.ListN.{length}
 use borrow.Author.Tests.{eqb-true, eq-eqb}
-use Rattle.std.specs.Prelude.{if◌then◌else◌}
+use Rattle.std.specs.Prelude.{if◌then◌else◌, Option, None, Some}
 use Rattle.base.specs.Tests.{◌and◌, any, all, keep, count, has, same_option}
 use Rattle.base.proofs.Cases.{by_test, by_option}
 use Rattle.base.proofs.Tests.{both, joined, clash, refuted, all_member, or_right, has_keep}
@@ -34,20 +33,20 @@ use Rattle.reasons.proofs.Lists.{member_map, count_map_keep}
 
 -- is this link
 abbrev is_link : ParentAndIndex → Option ParentAndIndex → Bool
-is_link k l = same_option same_link (some k) l
+is_link k l = same_option same_link (Some k) l
 
 children_later : (k : ParentAndIndex) (p : FullNodeId) (i : ℕ) (cs : List NodeId) → k.index < i → count (λ m. is_link k m.link) (children_met p i cs) ≡ 0
 unfolding children_met met_under same_link
 children_later k p i [] l = refl
 children_later k p i (c ∷ cs) l =
-    let other : is_link k (some (record { parent = p; index = i })) ≡ false = refuted (λ e. omega (arith, eqb-true k.index i (both e).1)) in
+    let other : is_link k (Some (record { parent = p; index = i })) ≡ false = refuted (λ e. omega (arith, eqb-true k.index i (both e).1)) in
     rw other (children_later k p (suc i) cs (omega arith))
 
 children_once : (k : ParentAndIndex) (p : FullNodeId) (i : ℕ) (cs : List NodeId) → count (λ m. is_link k m.link) (children_met p i cs) ≤ 1
 unfolding children_met met_under same_link
 children_once k p i [] = omega arith
 children_once k p i (c ∷ cs) =
-    by_test (is_link k (some (record { parent = p; index = i })))
+    by_test (is_link k (Some (record { parent = p; index = i })))
     (λ t. rw t (omega (arith, children_later k p (suc i) cs (omega (arith, eqb-true k.index i (both t).1)))))
     (λ t. rw t (children_once k p (suc i) cs))
 
@@ -55,7 +54,7 @@ below_once : (s : Forest) (k : ParentAndIndex) (n : NodeState) → count (λ m. 
 unfolding met_under
 below_once s k n =
     below_by (λ ms. count (λ m. is_link k m.link) ms ≤ 1) s n (children_once k n.id 0 n.body.children) (omega arith)
-    (λ u. by_test (is_link k (some (record { parent = n.id; index = 0 }))) (λ t. rw t (omega arith)) (λ t. rw t (omega arith)))
+    (λ u. by_test (is_link k (Some (record { parent = n.id; index = 0 }))) (λ t. rw t (omega arith)) (λ t. rw t (omega arith)))
 
 -- below another node than its parent it is not met
 below_elsewhere : (s : Forest) (k : ParentAndIndex) (n : NodeState) → (k.parent ≡ n.id → ⊥) → count (λ m. is_link k m.link) (below s n) ≡ 0
@@ -131,26 +130,26 @@ from_once s xs x k (n ∷ ns) up =
 
 -- the root's part
 abbrev pub root_links : Forest → FullNodeId → List (Option ParentAndIndex)
-root_links s x = if same_option same_id (root_of s) (some x) then none ∷ [] else []
+root_links s x = if same_option same_id (root_of s) (Some x) then None ∷ [] else []
 
 pub differ_once : (s : Forest) (xs : List FullNodeId) (x : FullNodeId) → ascending s.nodes ≡ true → (l : Option ParentAndIndex)
     → count (same_option same_link l) (met_links s xs x) ≤ 1
 unfolding met_links
-differ_once s xs x up none =
-    let split = count_append (same_option same_link none) (root_links s x) (links_from s xs x s.nodes) in
-    let later : count (same_option same_link none) (links_from s xs x s.nodes) ≡ 0 =
-    count_none (same_option same_link none) (links_from s xs x s.nodes)
+differ_once s xs x up None =
+    let split = count_append (same_option same_link None) (root_links s x) (links_from s xs x s.nodes) in
+    let later : count (same_option same_link None) (links_from s xs x s.nodes) ≡ 0 =
+    count_none (same_option same_link None) (links_from s xs x s.nodes)
     (λ l i. let z = links_below_lem s xs x s.nodes l i in rw (sym z.5 ∙ (below_under s z.0 z.2 z.3).1)) in
-    by_test (same_option same_id (root_of s) (some x)) (λ t. let sum = rw t at split in rw t (omega arith)) (λ t. let sum = rw t at split in rw t (omega arith))
-differ_once s xs x up (some k) =
+    by_test (same_option same_id (root_of s) (Some x)) (λ t. let sum = rw t at split in rw t (omega arith)) (λ t. let sum = rw t at split in rw t (omega arith))
+differ_once s xs x up (Some k) =
     let split = count_append (is_link k) (root_links s x) (links_from s xs x s.nodes) in
     let rest = from_once s xs x k s.nodes up in
-    by_test (same_option same_id (root_of s) (some x)) (λ t. rw t rest) (λ t. rw t rest)
+    by_test (same_option same_id (root_of s) (Some x)) (λ t. rw t rest) (λ t. rw t rest)
 
 pub same_link_refl : (l : Option ParentAndIndex) → same_option same_link l l ≡ true
 unfolding same_link
-same_link_refl none = refl
-same_link_refl (some l) = joined (same_id_refl l.parent) (eq-eqb l.index l.index refl)
+same_link_refl None = refl
+same_link_refl (Some l) = joined (same_id_refl l.parent) (eq-eqb l.index l.index refl)
 
 -- links that are all one link are at most one
 pub one_link : (s : Forest) (xs : List FullNodeId) (x : FullNodeId) → ascending s.nodes ≡ true → (k : Option ParentAndIndex)
@@ -227,7 +226,7 @@ module _ (s : Forest) (h : Shape s) where
   unfolding met_links
   met_link xs x l i =
       ⊎_elim
-      (λ j. by_test (same_option same_id (root_of s) (some x))
+      (λ j. by_test (same_option same_id (root_of s) (Some x))
       (λ t. let same : r.root ≡ x = same_id→≡ r.root x (rw r.is_the_root at t) in
       ap (link_at s.nodes) (sym same) ∙ d.parentless ∙ sym (mathlib.Core.List.Memᴰ.eq_of_singleton (rw t at j)))
       (λ t. absurd (mathlib.Core.List.Memᴰ.not-nil (rw t at j))))
@@ -240,7 +239,7 @@ module _ (s : Forest) (h : Shape s) where
   met_once xs x = one_link s xs x h.ordered (link_at s.nodes x) (met_link xs x)
 
   -- a node that records no parent is climbed from to itself
-  stays : (k : ℕ) (x : FullNodeId) → link_at s.nodes x ≡ none → climb k s.nodes x ≡ x
+  stays : (k : ℕ) (x : FullNodeId) → link_at s.nodes x ≡ None → climb k s.nodes x ≡ x
   unfolding climb
   stays zero x p = refl
   stays (suc k) x p = rw (p, climb)
@@ -273,12 +272,12 @@ module _ (s : Forest) (h : Shape s) where
       by_option (link_at s.nodes x)
       (λ p. let c = d.climbs x e in
       let top : x ≡ r.root = sym (stays c.0 x p) ∙ c.2 in
-      let at-root : same_option same_id (root_of s) (some x) ≡ true = rw (r.is_the_root, top, same_id_refl r.root) in
-      let z : ◌≡◌ {A = List (Option ParentAndIndex)} (none ∷ links_from s (reached s) x s.nodes) [] = rw at-root at q in
+      let at-root : same_option same_id (root_of s) (Some x) ≡ true = rw (r.is_the_root, top, same_id_refl r.root) in
+      let z : ◌≡◌ {A = List (Option ParentAndIndex)} (None ∷ links_from s (reached s) x s.nodes) [] = rw at-root at q in
       let no : ◌≡◌ {A = ℕ} 0 1 = cc in omega arith)
       (λ l p. let c = child s h x l p in
       let i = find_member s.nodes l.parent c.parent c.there in
       let up : has same_id (reached s) c.parent.id ≡ true = rw (find_id s.nodes l.parent c.parent c.there)
       (reached_all l.parent (parent_present s h x l p)) in
-      mathlib.Core.List.Memᴰ.not-nil (subst (λ (ls : List (Option ParentAndIndex)). Memᴰ (some l) ls) q
-      (mathlib.Core.List.Memᴰ.append_right (root_links s x) (below_links s (reached s) s.nodes c.parent (record { id = x; link = some l }) i up c.below))))
+      mathlib.Core.List.Memᴰ.not-nil (subst (λ (ls : List (Option ParentAndIndex)). Memᴰ (Some l) ls) q
+      (mathlib.Core.List.Memᴰ.append_right (root_links s x) (below_links s (reached s) s.nodes c.parent (record { id = x; link = Some l }) i up c.below))))

@@ -1,6 +1,7 @@
 -- What is said of a rule that is broken is so of it alone: two that are so agree. Assumes nothing.
 use mathlib.Core.List.{List, [], ◌∷◌}
-use mathlib.Core.Option.{Option, none, some, some-injective}
+use Rattle.std.specs.Prelude.{Option, None, Some}
+use Rattle.std.proofs.lemmas.Option.{same_Some}
 use mathlib.Core.Path.{◌≡◌, refl, sym, ap, ◌∙◌}
 use Prim.Native.Nat.{ℕ, zero, suc, ◌≤◌}
 use native.Mathlib.Omega.{arith}
@@ -14,12 +15,12 @@ use Rattle.reasons.proofs.Places.{at_same}
 -- ## Climbing
 
 -- one link is recorded
-same_parent : (ns : List NodeState) (x : FullNodeId) (k l : ParentAndIndex) → link_at ns x ≡ some k → link_at ns x ≡ some l → l.parent ≡ k.parent
-same_parent ns x k l p q = ap (λ (m : ParentAndIndex). m.parent) (some-injective l k (sym q ∙ p))
+same_parent : (ns : List NodeState) (x : FullNodeId) (k l : ParentAndIndex) → link_at ns x ≡ Some k → link_at ns x ≡ Some l → l.parent ≡ k.parent
+same_parent ns x k l p q = ap (λ (m : ParentAndIndex). m.parent) (same_Some l k (sym q ∙ p))
 
 -- no step leads on from y
 abbrev pub Stops : List NodeState → (FullNodeId → ParentAndIndex → Type 0) → FullNodeId → Type 0
-Stops ns P y = (l : ParentAndIndex) → link_at ns y ≡ some l → P y l → ⊥
+Stops ns P y = (l : ParentAndIndex) → link_at ns y ≡ Some l → P y l → ⊥
 
 module _ {ns : List NodeState} {P : FullNodeId → ParentAndIndex → Type 0} where
   -- the way up ends at one node
@@ -57,7 +58,7 @@ dropped_one d e p q = λ i. record { node = p i; by = q i }
 
 module _ (s : Forest) where
   -- the topmost node never met, or that there is none
-  top_stops : (d : Dropped) → parent_at s.nodes d.node ≡ d.by → ((p : FullNodeId) → d.by ≡ some p → Unmet s p → ⊥)
+  top_stops : (d : Dropped) → parent_at s.nodes d.node ≡ d.by → ((p : FullNodeId) → d.by ≡ Some p → Unmet s p → ⊥)
       → Stops s.nodes (λ z l. Unmet s l.parent) d.node
   unfolding parent_at
   top_stops d records last l q u = last l.parent (sym records ∙ rw (parent_at, q)) u
@@ -70,12 +71,12 @@ module _ (s : Forest) where
       omega (arith, round.1, way.1, up_longest k.above way.2 (top_stops d k.records k.last))
 
   pub climbs_one : (x : FullNodeId) (o p : Option Dropped) → Climbs s x o → Climbs s x p → o ≡ p
-  climbs_one x none none h k = refl
-  climbs_one x none (some d) h k = absurd (circle_endless x d h k)
-  climbs_one x (some d) none h k = absurd (circle_endless x d k h)
-  climbs_one x (some d) (some e) h k =
+  climbs_one x None None h k = refl
+  climbs_one x None (Some d) h k = absurd (circle_endless x d h k)
+  climbs_one x (Some d) None h k = absurd (circle_endless x d k h)
+  climbs_one x (Some d) (Some e) h k =
       let same = up_one h.above k.above (top_stops d h.records h.last) (top_stops e k.records k.last) in
-      ap some (dropped_one d e same (sym h.records ∙ ap (parent_at s.nodes) same ∙ k.records))
+      ap Some (dropped_one d e same (sym h.records ∙ ap (parent_at s.nodes) same ∙ k.records))
 
   -- the link recorded and the link under which the node is met
   pub links_one : (p : Spot) (r m r' m' : Option FullNodeId) → Breaks s (wrong_link p r m) → Breaks s (wrong_link p r' m') → (r ≡ r') × (m ≡ m')

@@ -2,7 +2,7 @@
 use mathlib.Core.Bool.{Bool, true, false, not, false≢true}
 use mathlib.Core.List.Memᴰ
 use mathlib.Core.List.{List, [], ◌∷◌, ◌++◌}
-use mathlib.Core.Option.{Option, none, some, none-ne-some, some-injective}
+use Rattle.std.proofs.lemmas.Option.{none-some, same_Some}
 use mathlib.Core.Path.{◌≡◌, refl, sym, ap, ◌∙◌}
 use Prim.Native.Nat.{ℕ, zero, suc, ◌+◌, ◌-◌, ◌≤◌, ◌<◌}
 use native.Mathlib.Nat.{add-zero, zero-add, suc-add}
@@ -10,7 +10,7 @@ use native.Mathlib.Omega.{arith}
 use lib.Dec.{leb}
 use lib.ListN.{length}
 use borrow.Author.Tests.{lt-ltb, lt-leb, le-leb}
-use Rattle.std.specs.Prelude.{if◌then◌else◌}
+use Rattle.std.specs.Prelude.{if◌then◌else◌, Option, None, Some}
 use Rattle.base.specs.Tests.{is_some, all, has, first_given}
 use Rattle.base.proofs.Cases.{by_test, by_option, by_order}
 use Rattle.base.proofs.Tests.{clash, refuted, all_member, or_right}
@@ -40,24 +40,24 @@ use Rattle.reasons.proofs.Unbroken.{absent_above}
 
 module _ {A : Type 0} where
   -- the first of some stands at a place before which there is none
-  pub first_at : (os : List (Option A)) (x : A) → first_given (λ o. o) os ≡ some x
-      → (i : ℕ) × At (some x) os i × ((j : ℕ) (o : Option A) → j < i → At o os j → o ≡ none)
-  first_at [] x e = absurd (none-ne-some x e)
-  first_at (none ∷ os) x e =
+  pub first_at : (os : List (Option A)) (x : A) → first_given (λ o. o) os ≡ Some x
+      → (i : ℕ) × At (Some x) os i × ((j : ℕ) (o : Option A) → j < i → At o os j → o ≡ None)
+  first_at [] x e = absurd (none-some x e)
+  first_at (None ∷ os) x e =
       let z = first_at os x e in (suc z.0, at_tail z.1, one_more z.0 z.2)
     where
-      one_more : (k : ℕ) → ((j : ℕ) (o : Option A) → j < k → At o os j → o ≡ none) → (j : ℕ) (o : Option A) → j < suc k → At o (none ∷ os) j → o ≡ none
+      one_more : (k : ℕ) → ((j : ℕ) (o : Option A) → j < k → At o os j → o ≡ None) → (j : ℕ) (o : Option A) → j < suc k → At o (None ∷ os) j → o ≡ None
       one_more k h zero o less (at_head q) = q
       one_more k h (suc j) o less (at_tail i) = h j o (omega arith) i
-  first_at (some y ∷ os) x e = (0, at_head (sym e), λ j o less i. absurd (omega arith))
+  first_at (Some y ∷ os) x e = (0, at_head (sym e), λ j o less i. absurd (omega arith))
 
   -- some of which are the first of others
   pub flat : (xs ys zs : List (Option A)) → first_given (λ o. o) (xs ++ first_given (λ o. o) ys ∷ zs) ≡ first_given (λ o. o) (xs ++ ys ++ zs)
   flat [] [] zs = refl
-  flat [] (none ∷ ys) zs = flat [] ys zs
-  flat [] (some y ∷ ys) zs = refl
-  flat (none ∷ xs) ys zs = flat xs ys zs
-  flat (some x ∷ xs) ys zs = refl
+  flat [] (None ∷ ys) zs = flat [] ys zs
+  flat [] (Some y ∷ ys) zs = refl
+  flat (None ∷ xs) ys zs = flat xs ys zs
+  flat (Some x ∷ xs) ys zs = refl
 
   -- what stands before what stands there
   at_earlier : {x : A} {xs : List A} {i : ℕ} (j : ℕ) → At x xs i → j ≤ i → (y : A) × At y xs j
@@ -79,18 +79,18 @@ module _ {A : Type 0} where
 
 -- a search finds a broken rule, at this place or an earlier one
 abbrev Finds : Option Broken → ℕ → Type 0
-Finds o k = (b : Broken) × (o ≡ some b) × (place b ≤ k)
+Finds o k = (b : Broken) × (o ≡ Some b) × (place b ≤ k)
 
 -- counted from 0
 counted : {o : Option Broken} {k : ℕ} → Finds o (0 + k) → Finds o k
 counted z = (z.0, z.1, omega (arith, z.2))
 
-unless_found : (t : Bool) (b : Broken) (k : ℕ) → place b ≡ 0 → t ≡ false → Finds (if t then none else some b) k
+unless_found : (t : Bool) (b : Broken) (k : ℕ) → place b ≡ 0 → t ≡ false → Finds (if t then None else Some b) k
 unless_found true b k p e = absurd (false≢true (sym e))
 unless_found false b k p e = (b, refl, omega arith)
 
 spot_lowest : {n : NodeState} (k : ℕ) (p : NodeState → Bool) {ns : List NodeState} {i : ℕ} → At n ns i → p n ≡ true
-    → (x : Spot) × (spot_from k p ns ≡ some x) × (x.slot ≤ k + i)
+    → (x : Spot) × (spot_from k p ns ≡ Some x) × (x.slot ≤ k + i)
 unfolding spot_from
 spot_lowest {n = n} k p {ns = []} x6 e = elim x6 [ ]
 spot_lowest k p {ns = m ∷ ns} (at_head q) e = let t : p m ≡ true = ap p (sym q) ∙ e in (record { slot = k; id = m.id }, rw t, omega arith)
@@ -153,13 +153,13 @@ disorder_finds k {ns = h ∷ ns} (at_tail a) (at_tail c) l e =
     (λ t. (out_of_order (record { slot = k; id = h.id }), rw t, omega arith))
 
 -- two nodes graft one tree
-regraft_lowest : {n m : NodeState} (k : ℕ) {ns : List NodeState} {i j : ℕ} (t : TreeId) → At n ns i → At m ns j → i < j → graft? n.body ≡ some t
-    → graft? m.body ≡ some t
-    → (g : Regraft) × (graft_twice_from k ns ≡ some g) × (g.node.slot ≤ k + i)
+regraft_lowest : {n m : NodeState} (k : ℕ) {ns : List NodeState} {i j : ℕ} (t : TreeId) → At n ns i → At m ns j → i < j → graft? n.body ≡ Some t
+    → graft? m.body ≡ Some t
+    → (g : Regraft) × (graft_twice_from k ns ≡ Some g) × (g.node.slot ≤ k + i)
 unfolding graft_twice_from
 regraft_lowest k t (at_head p) (at_head q) l e f = absurd (omega arith)
 regraft_lowest {m} k {ns = h ∷ ns} t (at_head p) (at_tail a) l e f =
-    let q : graft? h.body ≡ some t = ap (λ (z : NodeState). graft? z.body) (sym p) ∙ e in
+    let q : graft? h.body ≡ Some t = ap (λ (z : NodeState). graft? z.body) (sym p) ∙ e in
     let held : is_some (holder ns t) ≡ true = holder_some ns t ∙ has_given same_tree same_tree_refl (λ z. graft? z.body) ns m t (at_member a) f in
     by_option (holder ns t) (λ r. absurd (false≢true (sym (ap is_some r) ∙ held)))
     (λ y r. (record { tree = t; node = record { slot = k; id = h.id }; other = y }, rw (q, graft_twice_from, r), omega arith))
@@ -202,21 +202,21 @@ module _ (s : Forest) where
 
   -- the search for the rule that a broken one is of
   unfoldable search : Broken → Option Broken
-  search tooManyNodes = if leb (length s.nodes) 256 then none else some tooManyNodes
-  search tooManyTrees = if leb (length s.trees) 32 then none else some tooManyTrees
+  search tooManyNodes = if leb (length s.nodes) 256 then None else Some tooManyNodes
+  search tooManyTrees = if leb (length s.trees) 32 then None else Some tooManyTrees
   search (too_many_children p) = at too_many_children (spot crowded s.nodes)
   search (absent_below p x) = absence s
   search (met_twice p) = at met_twice (spot (is_met_twice s (reached s)) s.nodes)
   search (never_met p d) = unmet s (reached s)
   search (wrong_link p recorded met) = wrong_link_from 0 s (reached s) s.nodes
   search (graft_with_children p) = at graft_with_children (spot (λ n. not (graft_is_bare n)) s.nodes)
-  search (grafted_twice g) = elim (graft_twice_from 0 s.nodes) [ none ↦ none | some g ↦ some (grafted_twice g) ]
-  search root_not_first = if root_first s.trees then none else some root_not_first
+  search (grafted_twice g) = elim (graft_twice_from 0 s.nodes) [ None ↦ None | Some g ↦ Some (grafted_twice g) ]
+  search root_not_first = if root_first s.trees then None else Some root_not_first
   search (tree_twice k t) = tree_twice_from 0 [] s.trees
   search (tree_unrooted k t) = unrooted_from s.nodes 0 s.trees
   search (out_of_order p) = disorder_from 0 s.nodes
   search (broken_field p) = at broken_field (spot (λ n. not (fields_ok n.body)) s.nodes)
-  search no_focus = if focus_present s then none else some no_focus
+  search no_focus = if focus_present s then None else Some no_focus
 
   finds : (c : Broken) → Breaks s c → Finds (search c) (place c)
   unfolding search Breaks place crowded is_met_twice is_never_met unmet disagrees met_link
@@ -254,8 +254,8 @@ module _ (s : Forest) where
 
   abbrev trees : List (Option Broken)
   trees =
-      elim (graft_twice_from 0 s.nodes) [ none ↦ none | some g ↦ some (grafted_twice g) ]
-      ∷ (if root_first s.trees then none else some root_not_first)
+      elim (graft_twice_from 0 s.nodes) [ None ↦ None | Some g ↦ Some (grafted_twice g) ]
+      ∷ (if root_first s.trees then None else Some root_not_first)
       ∷ tree_twice_from 0 [] s.trees
       ∷ unrooted_from s.nodes 0 s.trees
       ∷ []
@@ -264,10 +264,10 @@ module _ (s : Forest) where
   shape = links ++ trees ++ disorder_from 0 s.nodes ∷ []
 
   abbrev limits : List (Option Broken)
-  limits = (if leb (length s.nodes) 256 then none else some tooManyNodes) ∷ (if leb (length s.trees) 32 then none else some tooManyTrees) ∷ []
+  limits = (if leb (length s.nodes) 256 then None else Some tooManyNodes) ∷ (if leb (length s.trees) 32 then None else Some tooManyTrees) ∷ []
 
   abbrev others : List (Option Broken)
-  others = at broken_field (spot (λ n. not (fields_ok n.body)) s.nodes) ∷ (if focus_present s then none else some no_focus) ∷ []
+  others = at broken_field (spot (λ n. not (fields_ok n.body)) s.nodes) ∷ (if focus_present s then None else Some no_focus) ∷ []
 
   abbrev state : List (Option Broken)
   state = limits ++ shape ++ others
@@ -330,7 +330,7 @@ module _ (s : Forest) where
   disorder_rank k [] = tt
   disorder_rank k (n ∷ ns) = by_test (all (λ m. before n.id m.id) ns) (λ t. rw t (disorder_rank (suc k) ns)) (λ t. rw t refl)
 
-  unless_rank : (k : ℕ) (t : Bool) (b : Broken) → rank b ≡ k → IfSome (Ranks k) (if t then none else some b)
+  unless_rank : (k : ℕ) (t : Bool) (b : Broken) → rank b ≡ k → IfSome (Ranks k) (if t then None else Some b)
   unless_rank k true b e = tt
   unless_rank k false b e = e
 
@@ -339,7 +339,7 @@ module _ (s : Forest) where
   Ranked k [] = Unit {0}
   Ranked k (o ∷ os) = IfSome (Ranks k) o × Ranked (suc k) os
 
-  ranked_at : {b : Broken} (k : ℕ) {os : List (Option Broken)} {i : ℕ} → Ranked k os → At (some b) os i → rank b ≡ k + i
+  ranked_at : {b : Broken} (k : ℕ) {os : List (Option Broken)} {i : ℕ} → Ranked k os → At (Some b) os i → rank b ≡ k + i
   ranked_at {b = b} k {os = []} h x6 = elim x6 [ ]
   ranked_at {b} k {os = o ∷ os} h (at_head q) = said (Ranks k) o h.0 b (sym q) ∙ sym (add-zero k)
   ranked_at k {os = o ∷ os} h (at_tail i) = omega (arith, ranked_at (suc k) h.1 i)
@@ -364,11 +364,11 @@ module _ (s : Forest) where
 
   -- ## The first rule
 
-  first_rule : (lo : ℕ) (os : List (Option Broken)) → From lo os state → (b : Broken) → first_given (λ o. o) os ≡ some b → Breaks s b
+  first_rule : (lo : ℕ) (os : List (Option Broken)) → From lo os state → (b : Broken) → first_given (λ o. o) os ≡ Some b → Breaks s b
       → FirstRule s lo (lo + length os) b
   first_rule lo os from b e z =
       let f = first_at os b e in
-      let there : At (some b) state (lo + f.0) = from.place (some b) f.0 f.1 in
+      let there : At (Some b) state (lo + f.0) = from.place (Some b) f.0 f.1 in
       let r : rank b ≡ lo + f.0 = omega (arith, ranked_at 0 all_ranked there) in
       record {
         breaks = z;
@@ -377,26 +377,26 @@ module _ (s : Forest) where
             by_order (rank c) (rank b)
             (λ less. let k = rank c - lo in
             let o = at_earlier k f.1 (omega arith) in
-            let none-there : o.0 ≡ none = f.2 k o.0 (omega arith) o.1 in
+            let none-there : o.0 ≡ None = f.2 k o.0 (omega arith) o.1 in
             let q : lo + k ≡ rank c = omega arith in
             let same : search c ≡ o.0 = at_same (ranked c) (rw q at (from.place o.0 k o.1)) in
             let w = finds c y in
-            absurd (none-ne-some w.0 (sym none-there ∙ sym same ∙ w.1)))
+            absurd (none-some w.0 (sym none-there ∙ sym same ∙ w.1)))
             (λ more. more);
         lowest = λ c y same.
             let w = finds c y in
-            let q : search c ≡ some b = at_same (ranked c) (rw (← r, ← same) at there) in
-            let eq : w.0 ≡ b = some-injective w.0 b (sym w.1 ∙ q) in
+            let q : search c ≡ Some b = at_same (ranked c) (rw (← r, ← same) at there) in
+            let eq : w.0 ≡ b = same_Some w.0 b (sym w.1 ∙ q) in
             rw eq at w.2;
       }
 
   -- number 19's
-  pub shape_first : (b : Broken) → broken_shape s ≡ some b → FirstOfShape s b
+  pub shape_first : (b : Broken) → broken_shape s ≡ Some b → FirstOfShape s b
   shape_first b e = first_rule 2 shape inner b (sym shape_flat ∙ e) (said (Breaks s) (broken_shape s) (shape_says s) b e)
     where
       inner : From 2 shape state
       inner = record { place = λ x j i. let e : 2 + j ≡ suc (suc j) = omega arith in rw e (at_tail (at_tail (at_left others i))) }
 
   -- number 1's
-  pub state_first : (b : Broken) → broken_state s ≡ some b → FirstOfState s b
+  pub state_first : (b : Broken) → broken_state s ≡ Some b → FirstOfState s b
   state_first b e = first_rule 0 state (from_start state) b (sym state_flat ∙ e) (said (Breaks s) (broken_state s) (state_says s) b e)

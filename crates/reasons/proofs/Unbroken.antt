@@ -3,13 +3,12 @@ use mathlib.Core.Bool.{true, false, not}
 use mathlib.Core.List.Memᴰ
 use mathlib.Core.List.{List, [], ◌∷◌, map, Memᴰ}
 use mathlib.Core.Logic.{⊎_elim}
-use mathlib.Core.Option.{none, some}
 use mathlib.Core.Path.{◌≡◌, refl, sym, ap, ◌∙◌}
 use Prim.Native.Nat.{ℕ, suc, ◌≤◌}
 use native.Mathlib.Omega.{arith}
 use lib.ListN.{length}
 use borrow.Author.Tests.{leb-false}
-use Rattle.std.specs.Prelude.{if◌then◌else◌}
+use Rattle.std.specs.Prelude.{if◌then◌else◌, None, Some}
 use Rattle.base.specs.Tests.{is_some, all, keep, has, distinct, same_option}
 use Rattle.base.proofs.Cases.{by_test, by_option}
 use Rattle.base.proofs.Tests.{joined, clash, refuted, not_false, or_false}
@@ -31,7 +30,7 @@ use Rattle.reasons.proofs.Broken.{spot_none, Smallest, smallest_least, ids_absen
 
 -- ## The rules for trees
 
-twice_none : (k : ℕ) (ids : List TreeId) (es : List TreeEntry) → tree_twice_from k ids es ≡ none
+twice_none : (k : ℕ) (ids : List TreeId) (es : List TreeEntry) → tree_twice_from k ids es ≡ None
     → (distinct same_tree (map (λ e. e.id) es) ≡ true) × ((e : TreeEntry) → Memᴰ e es → has same_tree ids e.id ≡ false)
 unfolding tree_twice_from
 twice_none k ids [] q = (refl, λ e i. absurd (Memᴰ.not-nil i))
@@ -46,12 +45,12 @@ twice_none k ids (e ∷ es) q =
           (Memᴰ.cases_cons i),
     )
 
-unrooted_none : (ns : List NodeState) (k : ℕ) (es : List TreeEntry) → unrooted_from ns k es ≡ none → all_grafted ns k es ≡ true
+unrooted_none : (ns : List NodeState) (k : ℕ) (es : List TreeEntry) → unrooted_from ns k es ≡ None → all_grafted ns k es ≡ true
 unfolding unrooted_from all_grafted
 unrooted_none ns k [] q = refl
 unrooted_none ns k (e ∷ es) q = let this = none_unless (grafted ns k e) _ _ q in joined this.0 (unrooted_none ns (suc k) es this.1)
 
-disorder_none : (k : ℕ) (ns : List NodeState) → disorder_from k ns ≡ none → ascending ns ≡ true
+disorder_none : (k : ℕ) (ns : List NodeState) → disorder_from k ns ≡ None → ascending ns ≡ true
 unfolding disorder_from ascending
 disorder_none k [] q = refl
 disorder_none k (n ∷ ns) q = let this = none_unless (all (λ m. before n.id m.id) ns) _ _ q in joined this.0 (disorder_none (suc k) ns this.1)
@@ -59,7 +58,7 @@ disorder_none k (n ∷ ns) q = let this = none_unless (all (λ m. before n.id m.
 -- ## The rules for links
 
 module _ (s : Forest) where
-  wrong_none : (k : ℕ) (ns : List NodeState) → wrong_link_from k s (reached s) ns ≡ none → (n : NodeState) → Memᴰ n ns
+  wrong_none : (k : ℕ) (ns : List NodeState) → wrong_link_from k s (reached s) ns ≡ None → (n : NodeState) → Memᴰ n ns
       → same_option same_link n.parent_and_index (met_link s (reached s) n) ≡ true
   unfolding wrong_link_from disagrees
   wrong_none k [] e n x'' = elim x'' [ ]
@@ -76,7 +75,7 @@ module _ (s : Forest) where
       (Memᴰ.append_cases (keep (λ x. not (present s.nodes x)) (ids_below s n)) i)
 
   -- nothing is absent below a node
-  absence_none : absence s ≡ none → (n : NodeState) (x : FullNodeId) → Memᴰ n s.nodes → Memᴰ x (ids_below s n) → present s.nodes x ≡ true
+  absence_none : absence s ≡ None → (n : NodeState) (x : FullNodeId) → Memᴰ n s.nodes → Memᴰ x (ids_below s n) → present s.nodes x ≡ true
   unfolding absence
   absence_none e n x i j =
       let ids = absent_ids s s.nodes in
@@ -102,7 +101,7 @@ pub record Unbroken (s : Forest) : Type 0 where
   pub held : all_grafted s.nodes 0 s.trees ≡ true
   pub ordered : ascending s.nodes ≡ true
 
-pub unbroken : (s : Forest) → broken_shape s ≡ none → Unbroken s
+pub unbroken : (s : Forest) → broken_shape s ≡ None → Unbroken s
 unfolding broken_shape broken_links broken_trees unmet one_id_each is_met_twice is_never_met
 unbroken s e =
     let parts = none_each (broken_links s (reached s) ∷ broken_trees s ∷ disorder_from 0 s.nodes ∷ []) e in
@@ -115,8 +114,8 @@ unbroken s e =
     ∷ at graft_with_children (spot (λ n. not (graft_is_bare n)) s.nodes)
     ∷ []) parts.0 in
     let trees = none_each
-    (elim (graft_twice_from 0 s.nodes) [ none ↦ none | some g ↦ some (grafted_twice g) ]
-    ∷ (if root_first s.trees then none else some root_not_first)
+    (elim (graft_twice_from 0 s.nodes) [ None ↦ None | Some g ↦ Some (grafted_twice g) ]
+    ∷ (if root_first s.trees then None else Some root_not_first)
     ∷ tree_twice_from 0 [] s.trees
     ∷ unrooted_from s.nodes 0 s.trees
     ∷ []) parts.1.0 in
@@ -131,7 +130,7 @@ unbroken s e =
       agrees = wrong_none s 0 s.nodes links.1.1.1.1.0;
       bare = all_of graft_is_bare s.nodes (λ n i. not_false (spot_none 0 (λ n. not (graft_is_bare n)) s.nodes full n i));
       differ = not_false (sym (grafts_some 0 s.nodes) ∙ ap is_some (none_made grafted_twice (graft_twice_from 0 s.nodes) trees.0));
-      first = (none_unless (root_first s.trees) root_not_first none trees.1.0).0;
+      first = (none_unless (root_first s.trees) root_not_first None trees.1.0).0;
       one_id = (twice_none 0 [] s.trees trees.1.1.0).0;
       held = unrooted_none s.nodes 0 s.trees trees.1.1.1.0;
       ordered = disorder_none 0 s.nodes parts.1.1.0;

@@ -1,7 +1,7 @@
 -- A forest that breaks a rule is not sound. Assumes nothing.
 use mathlib.Core.Bool.{true, false}
 use mathlib.Core.List.{List, [], ◌∷◌, map, Memᴰ}
-use mathlib.Core.Option.{Option, some}
+use Rattle.std.specs.Prelude.{Option, Some}
 use mathlib.Core.Path.{◌≡◌, refl, sym, ap, ◌∙◌, subst}
 use Prim.Native.Nat.{ℕ, suc, ◌+◌, ◌<◌}
 use native.Mathlib.Nat.{add-zero, zero-add}
@@ -140,5 +140,5 @@ breaks_unsound s b z = refuted (λ e. let p = sound_parts s e in within p b (bre
     within p no_focus z = clash z p.focus
 
 -- so where a rule is found broken the state is not sound
-pub state_broken : (s : Forest) (b : Broken) → broken_state s ≡ some b → sound s ≡ false
+pub state_broken : (s : Forest) (b : Broken) → broken_state s ≡ Some b → sound s ≡ false
 state_broken s b e = breaks_unsound s b (said (Breaks s) (broken_state s) (state_says s) b e)

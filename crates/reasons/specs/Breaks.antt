@@ -1,8 +1,7 @@
 -- Numbers 1 and 19: what each rule of a sound state says where it is broken, and which one is the first. What Shape finds is so: proofs/Order.
 -- Two that are so agree: proofs/Only. Assumes nothing.
-use Rattle.std.specs.Prelude.{true, false, ◌≡◌, ℕ, zero, suc, ◌≤◌, ◌<◌, length}
+use Rattle.std.specs.Prelude.{true, false, ◌≡◌, ℕ, zero, suc, ◌≤◌, ◌<◌, length, Option, None, Some}
 use mathlib.Core.List.{List, [], ◌∷◌, Memᴰ}
-use Rattle.std.proofs.Math.Option.{Option, none, some}
 use Rattle.base.specs.Tests.{same_option}
 use Rattle.ids.specs.Ids.{before}
 use Rattle.ids.specs.declared.TreeId.{TreeId}
@@ -39,7 +38,7 @@ TreeAt s k t P = (e : TreeEntry) × At e s.trees k × (e.id ≡ t) × P e
 -- From x up to y in so many steps by the recorded parents; each node that is left, with the link that it records, is so.
 pub data Up (ns : List NodeState) (P : FullNodeId → ParentAndIndex → Type 0) : ℕ → FullNodeId → FullNodeId → Type 0 where
   there : {x : FullNodeId} → Up ns P 0 x x
-  step : {k : ℕ} {x y : FullNodeId} (l : ParentAndIndex) → link_at ns x ≡ some l → P x l → Up ns P k l.parent y → Up ns P (suc k) x y
+  step : {k : ℕ} {x y : FullNodeId} (l : ParentAndIndex) → link_at ns x ≡ Some l → P x l → Up ns P k l.parent y → Up ns P (suc k) x y
 
 -- the node is present and is never met going down from the root
 abbrev pub Unmet : Forest → FullNodeId → Type 0
@@ -54,7 +53,7 @@ pub record Topmost (s : Forest) (x : FullNodeId) (d : Dropped) : Type 0 where
   pub steps : ℕ
   pub above : UnmetUp s steps x d.node
   pub records : parent_at s.nodes d.node ≡ d.by
-  pub last : (p : FullNodeId) → d.by ≡ some p → Unmet s p → ⊥
+  pub last : (p : FullNodeId) → d.by ≡ Some p → Unmet s p → ⊥
 
 -- no node above x is topmost: the way up leads to a node, and from it in one step or more back to it
 pub record Circle (s : Forest) (x : FullNodeId) : Type 0 where
@@ -65,8 +64,8 @@ pub record Circle (s : Forest) (x : FullNodeId) : Type 0 where
   pub back : UnmetUp s (suc more) node node
 
 abbrev pub Climbs : Forest → FullNodeId → Option Dropped → Type 0
-Climbs s x none = Circle s x
-Climbs s x (some d) = Topmost s x d
+Climbs s x None = Circle s x
+Climbs s x (Some d) = Topmost s x d
 
 -- ## The rules
 
@@ -96,7 +95,7 @@ Breaks s (graft_with_children p) = NodeAt s p (λ n. graft_is_bare n ≡ false)
 -- the node grafts the tree, and so does a later one
 Breaks s (grafted_twice g) =
     NodeAt s g.node
-    (λ n. (graft? n.body ≡ some g.tree) × LaterNode s g.node.slot (λ m. (m.id ≡ g.other) × (graft? m.body ≡ some g.tree)))
+    (λ n. (graft? n.body ≡ Some g.tree) × LaterNode s g.node.slot (λ m. (m.id ≡ g.other) × (graft? m.body ≡ Some g.tree)))
 -- ROOT does not exist or does not have number 0
 Breaks s root_not_first = root_first s.trees ≡ false
 -- the tree id of number k has an earlier number

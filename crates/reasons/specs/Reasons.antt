@@ -1,10 +1,9 @@
 -- Why a call answers its number: for each row of document 01's table what makes it hold, as data. Assumes nothing.
-use Rattle.std.specs.Prelude.{List, [], ◌∷◌, ℕ}
-use Rattle.std.proofs.Math.Option.{Option, none, some}
+use Rattle.std.specs.Prelude.{List, [], ◌∷◌, ℕ, Option, None, Some}
 use Rattle.base.specs.Tests.{first_given}
 use Rattle.ids.specs.declared.TreeId.{TreeId}
 use Rattle.ids.specs.declared.FullNodeId.{FullNodeId}
-use Rattle.record_rules.specs.Rules.{Offence}
+use Rattle.record_rules.specs.declared.Offence.{Offence}
 
 -- ## Where
 
@@ -131,5 +130,5 @@ first_reason = first_given (λ o. o)
 
 -- the last of some ids, where a way through the grafts ends
 unfoldable pub last_of : List FullNodeId → Option FullNodeId
-last_of [] = none
-last_of (x ∷ xs) = elim (last_of xs) [ none ↦ some x | some y ↦ some y ]
+last_of [] = None
+last_of (x ∷ xs) = elim (last_of xs) [ None ↦ Some x | Some y ↦ Some y ]

@@ -1,7 +1,6 @@
 -- Numbers 1 and 19: the first rule of a sound state that a forest breaks. The rules for links come in the order of request #101, the others in
 -- document 01's. Assumes nothing.
-use Rattle.std.specs.Prelude.{Bool, not, ◌||◌, List, [], ◌∷◌, ◌++◌, map, ℕ, zero, suc, ltb, leb, length, if◌then◌else◌}
-use Rattle.std.proofs.Math.Option.{Option, none, some}
+use Rattle.std.specs.Prelude.{Bool, not, ◌||◌, List, [], ◌∷◌, ◌++◌, map, ℕ, zero, suc, ltb, leb, length, if◌then◌else◌, Option, None, Some}
 use Rattle.base.specs.Tests.{◌and◌, is_nil, any, all, keep, same_option, has, first_given}
 use Rattle.ids.specs.Ids.{same_tree, same_id, before}
 use Rattle.ids.specs.declared.TreeId.{TreeId}
@@ -18,8 +17,8 @@ use Rattle.reasons.specs.Reasons.{no_focus}
 
 -- the first node that passes a test, from slot k on
 unfoldable pub spot_from : ℕ → (NodeState → Bool) → List NodeState → Option Spot
-spot_from k p [] = none
-spot_from k p (n ∷ ns) = if p n then some (record { slot = k; id = n.id }) else spot_from (suc k) p ns
+spot_from k p [] = None
+spot_from k p (n ∷ ns) = if p n then Some (record { slot = k; id = n.id }) else spot_from (suc k) p ns
 
 -- of all
 abbrev pub spot : (NodeState → Bool) → List NodeState → Option Spot
@@ -27,12 +26,12 @@ spot p ns = spot_from 0 p ns
 
 -- what is said of a spot, if there is one
 abbrev pub at : (Spot → Broken) → Option Spot → Option Broken
-at f o = elim o [ none ↦ none | some x ↦ some (f x) ]
+at f o = elim o [ None ↦ None | Some x ↦ Some (f x) ]
 
 -- the smallest of some ids, by tree number, then node number
 unfoldable pub smallest : List FullNodeId → Option FullNodeId
-smallest [] = none
-smallest (x ∷ xs) = elim (smallest xs) [ none ↦ some x | some y ↦ if before y x then some y else some x ]
+smallest [] = None
+smallest (x ∷ xs) = elim (smallest xs) [ None ↦ Some x | Some y ↦ if before y x then Some y else Some x ]
 
 -- ## Going down once from each node
 
@@ -52,7 +51,7 @@ widened (suc k) s xs = widened k s (wider s xs)
 
 -- the nodes that are reached from ROOT's root: no way down to a node is longer than there are nodes
 unfoldable pub reached : Forest → List FullNodeId
-reached s = elim (root_of s) [ none ↦ [] | some r ↦ widened (length s.nodes) s (r ∷ []) ]
+reached s = elim (root_of s) [ None ↦ [] | Some r ↦ widened (length s.nodes) s (r ∷ []) ]
 
 -- the links under which x is met below one node
 unfoldable pub links_below : Forest → FullNodeId → NodeState → List (Option ParentAndIndex)
@@ -65,7 +64,7 @@ links_from s xs x (n ∷ ns) = (if has same_id xs n.id then links_below s x n el
 
 -- The links under which x is met, going down once from each node reached; the root is met under none. xs are the nodes reached.
 unfoldable pub met_links : Forest → List FullNodeId → FullNodeId → List (Option ParentAndIndex)
-met_links s xs x = (if same_option same_id (root_of s) (some x) then none ∷ [] else []) ++ links_from s xs x s.nodes
+met_links s xs x = (if same_option same_id (root_of s) (Some x) then None ∷ [] else []) ++ links_from s xs x s.nodes
 
 -- ## The rules for links, in the order of request #101
 
@@ -82,8 +81,8 @@ absent_ids s (n ∷ ns) = keep (λ x. not (present s.nodes x)) (ids_below s n) +
 unfoldable pub absence : Forest → Option Broken
 absence s =
     elim (smallest (absent_ids s s.nodes)) [
-      | none ↦ none
-      | some x ↦ at (λ p. absent_below p x) (spot (λ n. has same_id (ids_below s n) x) s.nodes)
+      | None ↦ None
+      | Some x ↦ at (λ p. absent_below p x) (spot (λ n. has same_id (ids_below s n) x) s.nodes)
     ]
 
 -- met more than once; never
@@ -96,13 +95,13 @@ is_never_met s xs n = is_nil (met_links s xs n.id)
 -- Climbing by the recorded parents, at most `room` steps, from a node that is never met: the topmost such node, whose recorded parent is met or
 -- absent. None where they go round in a circle.
 unfoldable pub topmost_within : ℕ → Forest → List FullNodeId → FullNodeId → Option Dropped
-topmost_within zero s xs x = none
+topmost_within zero s xs x = None
 topmost_within (suc room) s xs x =
     elim (parent_at s.nodes x) [
-      | none ↦ some (record { node = x; by = none })
-      | some p ↦
+      | None ↦ Some (record { node = x; by = None })
+      | Some p ↦
           let above = topmost_within room s xs p in
-          if present s.nodes p and is_nil (met_links s xs p) then above else some (record { node = x; by = some p })
+          if present s.nodes p and is_nil (met_links s xs p) then above else Some (record { node = x; by = Some p })
     ]
 
 -- the first node that is never met
@@ -111,7 +110,7 @@ unmet s xs = at (λ x. never_met x (topmost_within (length s.nodes) s xs x.id)) 
 
 -- the first link under which the node is met, none for the root and where it is not met
 unfoldable pub met_link : Forest → List FullNodeId → NodeState → Option ParentAndIndex
-met_link s xs n = elim (met_links s xs n.id) [ [] ↦ none | l ∷ ls ↦ l ]
+met_link s xs n = elim (met_links s xs n.id) [ [] ↦ None | l ∷ ls ↦ l ]
 
 -- a link that disagrees with the way down
 unfoldable pub disagrees : Forest → List FullNodeId → NodeState → Bool
@@ -119,10 +118,10 @@ disagrees s xs n = not (same_option same_link n.parent_and_index (met_link s xs 
 
 -- the first node with such a link
 unfoldable pub wrong_link_from : ℕ → Forest → List FullNodeId → List NodeState → Option Broken
-wrong_link_from k s xs [] = none
+wrong_link_from k s xs [] = None
 wrong_link_from k s xs (n ∷ ns) =
     if disagrees s xs n
-    then some (wrong_link (record { slot = k; id = n.id }) (parent_of n.parent_and_index) (parent_of (met_link s xs n)))
+    then Some (wrong_link (record { slot = k; id = n.id }) (parent_of n.parent_and_index) (parent_of (met_link s xs n)))
     else wrong_link_from (suc k) s xs ns
 
 -- the rules in order; xs are the nodes reached
@@ -141,30 +140,30 @@ broken_links s xs =
 
 -- the first node, from slot k on, whose tree a later one grafts too
 unfoldable pub graft_twice_from : ℕ → List NodeState → Option Regraft
-graft_twice_from k [] = none
+graft_twice_from k [] = None
 graft_twice_from k (n ∷ ns) =
     let rest = graft_twice_from (suc k) ns in
     elim (graft? n.body) [
-      | none ↦ rest
-      | some t ↦ elim (holder ns t) [ none ↦ rest | some y ↦ some (record { tree = t; node = record { slot = k; id = n.id }; other = y }) ]
+      | None ↦ rest
+      | Some t ↦ elim (holder ns t) [ None ↦ rest | Some y ↦ Some (record { tree = t; node = record { slot = k; id = n.id }; other = y }) ]
     ]
 
 -- the first number, from k on, whose tree id has an earlier one; `ids` are the tree ids before
 unfoldable pub tree_twice_from : ℕ → List TreeId → List TreeEntry → Option Broken
-tree_twice_from k ids [] = none
-tree_twice_from k ids (e ∷ es) = if has same_tree ids e.id then some (tree_twice k e.id) else tree_twice_from (suc k) (e.id ∷ ids) es
+tree_twice_from k ids [] = None
+tree_twice_from k ids (e ∷ es) = if has same_tree ids e.id then Some (tree_twice k e.id) else tree_twice_from (suc k) (e.id ∷ ids) es
 
 -- the first tree, from number k on, that exists and has no root or no graft
 unfoldable pub unrooted_from : List NodeState → ℕ → List TreeEntry → Option Broken
-unrooted_from ns k [] = none
-unrooted_from ns k (e ∷ es) = if grafted ns k e then unrooted_from ns (suc k) es else some (tree_unrooted k e.id)
+unrooted_from ns k [] = None
+unrooted_from ns k (e ∷ es) = if grafted ns k e then unrooted_from ns (suc k) es else Some (tree_unrooted k e.id)
 
 -- the rules in order
 unfoldable pub broken_trees : Forest → Option Broken
 broken_trees s =
     first_given (λ o. o)
-    (elim (graft_twice_from 0 s.nodes) [ none ↦ none | some g ↦ some (grafted_twice g) ]
-    ∷ (if root_first s.trees then none else some root_not_first)
+    (elim (graft_twice_from 0 s.nodes) [ None ↦ None | Some g ↦ Some (grafted_twice g) ]
+    ∷ (if root_first s.trees then None else Some root_not_first)
     ∷ tree_twice_from 0 [] s.trees
     ∷ unrooted_from s.nodes 0 s.trees
     ∷ [])
@@ -173,9 +172,9 @@ broken_trees s =
 
 -- the first node after which the ids do not ascend
 unfoldable pub disorder_from : ℕ → List NodeState → Option Broken
-disorder_from k [] = none
+disorder_from k [] = None
 disorder_from k (n ∷ ns) =
-    if all (λ m. before n.id m.id) ns then disorder_from (suc k) ns else some (out_of_order (record { slot = k; id = n.id }))
+    if all (λ m. before n.id m.id) ns then disorder_from (suc k) ns else Some (out_of_order (record { slot = k; id = n.id }))
 
 -- the first rule for links and trees that a forest breaks
 unfoldable pub broken_shape : Forest → Option Broken
@@ -185,9 +184,9 @@ broken_shape s = first_given (λ o. o) (broken_links s (reached s) ∷ broken_tr
 unfoldable pub broken_state : Forest → Option Broken
 broken_state s =
     first_given (λ o. o)
-    ((if leb (length s.nodes) 256 then none else some tooManyNodes)
-    ∷ (if leb (length s.trees) 32 then none else some tooManyTrees)
+    ((if leb (length s.nodes) 256 then None else Some tooManyNodes)
+    ∷ (if leb (length s.trees) 32 then None else Some tooManyTrees)
     ∷ broken_shape s
     ∷ at broken_field (spot (λ n. not (fields_ok n.body)) s.nodes)
-    ∷ (if focus_present s then none else some no_focus)
+    ∷ (if focus_present s then None else Some no_focus)
     ∷ [])

@@ -4,12 +4,12 @@ use mathlib.Core.Bool.{Bool, true, false, not, ◌||◌}
 use mathlib.Core.List.Memᴰ
 use mathlib.Core.List.{List, [], ◌∷◌, Memᴰ}
 use mathlib.Core.Logic.{⊎_elim}
-use mathlib.Core.Option.{Option, none, some, none-ne-some, some-injective}
+use Rattle.std.proofs.lemmas.Option.{none-some, same_Some}
 use mathlib.Core.Path.{◌≡◌, refl, sym, ap, ◌∙◌, subst}
 use Prim.Native.Nat.{ℕ}
 use native.Mathlib.Omega.{arith}
 use borrow.Author.Tests.{eqb-true}
-use Rattle.std.specs.Prelude.{if◌then◌else◌}
+use Rattle.std.specs.Prelude.{if◌then◌else◌, Option, None, Some}
 use Rattle.base.specs.Tests.{◌and◌, is_some, is_nil, any, has, same_option, distinct, given}
 use Rattle.base.specs.Bytes.{bit}
 use Rattle.base.proofs.Cases.{by_test, by_option}
@@ -65,24 +65,24 @@ graft_renewed was new =
     by_test (same_data was new)
     (λ t. let flags : was.flags ≡ new.flags = eqb-true was.flags new.flags (both (both (both t).0).0).1 in
     let graft : was.graft ≡ new.graft = same_tree→≡ was.graft new.graft (both (both t).0).1 in
-    rw t (λ i. if bit 8 (flags i) then some (graft i) else none))
+    rw t (λ i. if bit 8 (flags i) then Some (graft i) else None))
     (λ t. rw t)
 
 module _ (s : Forest) (b : Batch) where
   -- ## The pass
 
   -- what a pass without reason says of a node that is placed: none of those placed before claims its tree
-  pub placing_none : (placed : List Listed) (l : Listed) → placing s b placed l ≡ none → (t : TreeId) → claim s b l ≡ some t
+  pub placing_none : (placed : List Listed) (l : Listed) → placing s b placed l ≡ None → (t : TreeId) → claim s b l ≡ Some t
       → has same_tree (given (claim s b) placed) t ≡ false
   unfolding placing second_claim
   placing_none placed l e t q =
-      let past = none_if (same_option same_tree (claim s b l) (some ROOT)) _ _
+      let past = none_if (same_option same_tree (claim s b l) (Some ROOT)) _ _
       (none_if (is_some (graft? l.body) and not (is_nil l.body.children)) _ _ e).1 in
       sym (claimer_some s b placed t)
       ∙ ap is_some (none_made (λ k. claimed_twice t (here s b k.id) (here s b l.id)) (claimer_among s b placed t) (rw (q, second_claim) at past.1))
 
-  claims_apart : (seen : List NodeId) (placed : List Listed) (es : List Event) → pass_reason s b seen placed es ≡ none
-      → (l : Listed) → Memᴰ (places l) es → (t : TreeId) → claim s b l ≡ some t → has same_tree (given (claim s b) placed) t ≡ false
+  claims_apart : (seen : List NodeId) (placed : List Listed) (es : List Event) → pass_reason s b seen placed es ≡ None
+      → (l : Listed) → Memᴰ (places l) es → (t : TreeId) → claim s b l ≡ Some t → has same_tree (given (claim s b) placed) t ≡ false
   unfolding pass_reason
   claims_apart seen placed [] e l x3 t q = elim x3 [ ]
   claims_apart seen placed (names c ∷ es) e l (Memᴰ.head p) t q = let z : ◌≡◌ {A = ℕ} 0 1 = cc in absurd (omega arith)
@@ -95,8 +95,8 @@ module _ (s : Forest) (b : Batch) where
       by_option (claim s b k) (λ c. rw (c, given) at rest) (λ u c. (or_false (same_tree t u) (rw (c, given) at rest)).1)
 
   -- so no two nodes that are placed claim one tree
-  claims_one : (seen : List NodeId) (placed : List Listed) (es : List Event) → pass_reason s b seen placed es ≡ none → (t : TreeId)
-      → (k l : Listed) → Memᴰ (places k) es → Memᴰ (places l) es → claim s b k ≡ some t → claim s b l ≡ some t → k ≡ l
+  claims_one : (seen : List NodeId) (placed : List Listed) (es : List Event) → pass_reason s b seen placed es ≡ None → (t : TreeId)
+      → (k l : Listed) → Memᴰ (places k) es → Memᴰ (places l) es → claim s b k ≡ Some t → claim s b l ≡ Some t → k ≡ l
   unfolding pass_reason
   claims_one seen placed [] e t k l i j p q = elim i [ ]
   claims_one seen placed (names c ∷ es) e t k l i j p q =
@@ -107,7 +107,7 @@ module _ (s : Forest) (b : Batch) where
       later k (Memᴰ.tail m) = m
   claims_one seen placed (places m ∷ es) e t k l i j p q =
       let rest = (none_or (placing s b placed m) _ e).1 in
-      let first : (n : Listed) → Memᴰ (places n) es → claim s b m ≡ some t → claim s b n ≡ some t → ⊥ = λ n x c d.
+      let first : (n : Listed) → Memᴰ (places n) es → claim s b m ≡ Some t → claim s b n ≡ Some t → ⊥ = λ n x c d.
       clash (claims_apart seen (m ∷ placed) es rest n x t d) (has_given same_tree same_tree_refl (claim s b) (m ∷ placed) m t (Memᴰ.head refl) c) in
       ⊎_elim
       (λ x. let a : k ≡ m = cc in
@@ -120,16 +120,16 @@ module _ (s : Forest) (b : Batch) where
 
   -- a node that grafts t in the outcome held it before, or claims it
   pub data Role (x : FullNodeId) (t : TreeId) : Type 0 where
-    holds : graft_at s.nodes x ≡ some t → claims s b x ≡ false → Role x t
-    claiming : (l : Listed) → Memᴰ l b.nodes → here s b l.id ≡ x → claim s b l ≡ some t → claims s b x ≡ true → Role x t
+    holds : graft_at s.nodes x ≡ Some t → claims s b x ≡ false → Role x t
+    claiming : (l : Listed) → Memᴰ l b.nodes → here s b l.id ≡ x → claim s b l ≡ Some t → claims s b x ≡ true → Role x t
 
   -- a listed node claims a tree where its claim is one
-  claims_listed : (x : FullNodeId) (d : NodeData) → mine s b x ≡ true → listing b.nodes x.node ≡ some d
+  claims_listed : (x : FullNodeId) (d : NodeData) → mine s b x ≡ true → listing b.nodes x.node ≡ Some d
       → claims s b x ≡ is_some (claim s b (record { id = x.node; body = d }))
   unfolding claims listed ◌and◌
   claims_listed x d h l = rw (l, h, ← listing_some b.nodes x.node, l)
 
-  claims_unlisted : (x : FullNodeId) → mine s b x ≡ true → listing b.nodes x.node ≡ none → claims s b x ≡ false
+  claims_unlisted : (x : FullNodeId) → mine s b x ≡ true → listing b.nodes x.node ≡ None → claims s b x ≡ false
   unfolding claims
   claims_unlisted x h l = rw l (and_false (listed s b x))
 
@@ -139,7 +139,7 @@ module _ (s : Forest) (b : Batch) where
   here_is x h = let p = sym (same_index→≡ x.tree (tree_number s b) h) in λ i. record { tree = p i; node = x.node }
 
   -- a listed node that grafts t held it before, or claims it
-  role_listed : (x : FullNodeId) (d : NodeData) (t : TreeId) → mine s b x ≡ true → listing b.nodes x.node ≡ some d → graft? d ≡ some t → Role x t
+  role_listed : (x : FullNodeId) (d : NodeData) (t : TreeId) → mine s b x ≡ true → listing b.nodes x.node ≡ Some d → graft? d ≡ Some t → Role x t
   unfolding claim
   role_listed x d t h l q =
       let l' : Listed = record { id = x.node; body = d } in
@@ -149,37 +149,37 @@ module _ (s : Forest) (b : Batch) where
       (λ c. claiming l' (listing_member s b b.nodes x.node d l) (here_is x h) (rw c q) (claims_listed x d h l ∙ rw (c, q)))
 
   -- by what is found there once all listed nodes are written
-  role_written : (x : FullNodeId) (m : NodeState) (t : TreeId) → found_written s b x ≡ some m → graft? m.body ≡ some t → Role x t
+  role_written : (x : FullNodeId) (m : NodeState) (t : TreeId) → found_written s b x ≡ Some m → graft? m.body ≡ Some t → Role x t
   unfolding found_written graft_at merged
   role_written x m t f q =
       by_test (mine s b x)
       (λ h. by_option (listing b.nodes x.node) (λ l. holds (held (rw (h, l) at f)) (claims_unlisted x h l))
       (λ d l. role_listed x d t h l (sym (same_graft d (find x s.nodes))
-      ∙ ap (λ (n : NodeState). graft? n.body) (some-injective _ m (rw (h, l) at f)) ∙ q)))
+      ∙ ap (λ (n : NodeState). graft? n.body) (same_Some _ m (rw (h, l) at f)) ∙ q)))
       (λ h. holds (held (rw h at f)) (not_mine h))
     where
-      held : find x s.nodes ≡ some m → graft_at s.nodes x ≡ some t
+      held : find x s.nodes ≡ Some m → graft_at s.nodes x ≡ Some t
       held e = rw (e, graft_at) q
 
       same_graft : (d : NodeData) (o : Option NodeState) → graft? (merged x d o).body ≡ graft? d
-      same_graft d none = refl
-      same_graft d (some n) = graft_renewed n.body d
+      same_graft d None = refl
+      same_graft d (Some n) = graft_renewed n.body d
 
       not_mine : mine s b x ≡ false → claims s b x ≡ false
       not_mine h = unfold claims listed ◌and◌ in (rw h)
 
   role_of : ascending s.nodes ≡ true → distinct same_node (listed_ids b.nodes) ≡ true
-      → (n : NodeState) → Memᴰ n (outcome s b).nodes → (t : TreeId) → graft? n.body ≡ some t → Role n.id t
+      → (n : NodeState) → Memᴰ n (outcome s b).nodes → (t : TreeId) → graft? n.body ≡ Some t → Role n.id t
   unfolding found_after relink
   role_of up once n i t q =
-      let found : found_after s b n.id ≡ some n = sym (find_outcome s b up once n.id) ∙ find_self (outcome s b).nodes n (ascending_outcome s b up) i in
-      by_test (gone s b n.id) (λ g. absurd (none-ne-some n (rw g at found)))
-      (λ g. let z = some_from (found_written s b n.id) (λ m. some (relink s b m)) n (rw g at found) in
-      role_written n.id z.0 t z.1 (ap (λ (m : NodeState). graft? m.body) (some-injective (relink s b z.0) n z.2) ∙ q))
+      let found : found_after s b n.id ≡ Some n = sym (find_outcome s b up once n.id) ∙ find_self (outcome s b).nodes n (ascending_outcome s b up) i in
+      by_test (gone s b n.id) (λ g. absurd (none-some n (rw g at found)))
+      (λ g. let z = some_from (found_written s b n.id) (λ m. Some (relink s b m)) n (rw g at found) in
+      role_written n.id z.0 t z.1 (ap (λ (m : NodeState). graft? m.body) (same_Some (relink s b z.0) n z.2) ∙ q))
 
   -- ## The clash
 
-  module _ (differ : grafts_differ s.nodes ≡ true) (once : distinct same_node (listed_ids b.nodes) ≡ true) (passed : pass_fault s b ≡ none)
+  module _ (differ : grafts_differ s.nodes ≡ true) (once : distinct same_node (listed_ids b.nodes) ≡ true) (passed : pass_fault s b ≡ None)
       (placed : any (placeless s b) b.nodes ≡ false) where
     -- a listed node is placed in the pass
     is_placed : (l : Listed) → Memᴰ l b.nodes → Memᴰ (places l) (events s b [] b.nodes)
@@ -194,7 +194,7 @@ module _ (s : Forest) (b : Batch) where
 
     -- one claims the tree, the other holds it
     role_claims : (x y : FullNodeId) (t : TreeId) → same_id x y ≡ false → Role x t → Role y t → claims s b x ≡ true
-        → (graft_at s.nodes y ≡ some t) × Claims s b x t
+        → (graft_at s.nodes y ≡ Some t) × Claims s b x t
     unfolding pass_fault
     role_claims x y t apart (holds p c) role e = absurd (clash c e)
     role_claims x y t apart (claiming k i f p c) (holds q d) e = (q, (k, i, f, (has_place k i, p)))
@@ -204,7 +204,7 @@ module _ (s : Forest) (b : Batch) where
 
     -- one holds it, the other claims it
     role_holds : (x y : FullNodeId) (t : TreeId) → same_id x y ≡ false → Role x t → Role y t → claims s b x ≡ false
-        → (graft_at s.nodes x ≡ some t) × Claims s b y t
+        → (graft_at s.nodes x ≡ Some t) × Claims s b y t
     role_holds x y t apart (claiming k i f p c) role e = absurd (clash e c)
     role_holds x y t apart (holds p c) (claiming l j f q d) e = (p, (l, j, f, (has_place l j, q)))
     role_holds x y t apart (holds p c) (holds q d) e =

@@ -1,6 +1,6 @@
 -- The reason of 18 says what is so: an old node that goes has a node above it, or is one, that goes by itself. Assumes nothing.
 use mathlib.Core.Bool.{true, false≢true}
-use mathlib.Core.Option.{none, some}
+use Rattle.std.specs.Prelude.{None, Some}
 use mathlib.Core.Path.{◌≡◌, refl}
 use Prim.Native.Nat.{ℕ, zero, suc}
 use lib.ListN.{length}
@@ -22,7 +22,7 @@ module _ (s : Forest) (b : Batch) where
   -- some node above x, or x itself, goes by itself: with it what climbing finds
   record Climbed (room : ℕ) (x : FullNodeId) : Type 0 where
     found : Dropped
-    is : dropped_within s b room x ≡ some found
+    is : dropped_within s b room x ≡ Some found
     steps : ℕ
     above : Up s.nodes (λ z l. fate s b z l ≡ asParent) steps x found.node
     why : Goes s b found
@@ -34,7 +34,7 @@ module _ (s : Forest) (b : Batch) where
       by_option (find x s.nodes) (λ q. absurd (false≢true (rw (q, gone_within) at e)))
       (λ n q. by_option n.parent_and_index
       (λ p. record {
-        found = record { node = x; by = none };
+        found = record { node = x; by = None };
         is = rw (q, dropped_within, p);
         steps = 0;
         above = there;
@@ -42,7 +42,7 @@ module _ (s : Forest) (b : Batch) where
       })
       (λ l p. on n q l p (fate s b x l) refl (rw (q, gone_within, p) at e) (climbs room l.parent)))
     where
-      on : (n : NodeState) → find x s.nodes ≡ some n → (l : ParentAndIndex) → n.parent_and_index ≡ some l → (f : Fate) → fate s b x l ≡ f
+      on : (n : NodeState) → find x s.nodes ≡ Some n → (l : ParentAndIndex) → n.parent_and_index ≡ Some l → (f : Fate) → fate s b x l ≡ f
           → fares f (gone_within s b room l.parent) ≡ true → (gone_within s b room l.parent ≡ true → Climbed room l.parent) → Climbed (suc room) x
       on n q l p stays f g h = absurd (false≢true g)
       on n q l p goes f g h = record {
@@ -54,7 +54,7 @@ module _ (s : Forest) (b : Batch) where
       }
       on n q l p asParent f g h =
           let z = h g in
-          let link : link_at s.nodes x ≡ some l = rw (q, link_at) p in
+          let link : link_at s.nodes x ≡ Some l = rw (q, link_at) p in
           record {
             found = z.found;
             is = rw (q, dropped_within, p, f) z.is;

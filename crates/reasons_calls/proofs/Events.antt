@@ -3,12 +3,12 @@
 use mathlib.Core.Bool.{Bool, true, false, ◌||◌, false≢true}
 use mathlib.Core.List.{List, [], ◌∷◌, ◌++◌, append-nil, append_assoc, Memᴰ}
 use mathlib.Core.Logic.{⊎_elim}
-use mathlib.Core.Option.{some, none-ne-some, some-injective}
+use Rattle.std.proofs.lemmas.Option.{none-some, same_Some}
 use mathlib.Core.Path.{◌≡◌, refl, sym, ap, subst, ◌∙◌}
 use Prim.Native.Nat.{ℕ}
 use native.Mathlib.Omega.{arith}
 use lib.Seq.{append_snoc}
-use Rattle.std.specs.Prelude.{if◌then◌else◌}
+use Rattle.std.specs.Prelude.{if◌then◌else◌, Some}
 use Rattle.base.specs.Tests.{◌and◌, is_some, any, has, distinct, first_given}
 use Rattle.base.proofs.Cases.{by_test, by_option}
 use Rattle.base.proofs.Tests.{both, not_true, clash, refuted, or_right, or_false}
@@ -92,13 +92,13 @@ module _ (s : Forest) (b : Batch) where
   -- ## Placing
 
   -- the data with which a node is listed is that of a listed node
-  pub listing_member : (ls : List Listed) (n : NodeId) (d : NodeData) → listing ls n ≡ some d → Memᴰ (record { id = n; body = d }) ls
+  pub listing_member : (ls : List Listed) (n : NodeId) (d : NodeData) → listing ls n ≡ Some d → Memᴰ (record { id = n; body = d }) ls
   unfolding listing
-  listing_member [] n d e = absurd (none-ne-some d e)
+  listing_member [] n d e = absurd (none-some d e)
   listing_member (l ∷ ls) n d e =
       by_test (same_node n l.id)
       (λ t. let p : n ≡ l.id = same_node→≡ n l.id t in
-      let q : d ≡ l.body = sym (some-injective l.body d (rw (t, first_given) at e)) in
+      let q : d ≡ l.body = sym (same_Some l.body d (rw (t, first_given) at e)) in
       mathlib.Core.List.Memᴰ.head (λ i. record { id = p i; body = q i }))
       (λ t. mathlib.Core.List.Memᴰ.tail (listing_member ls n d (rw (t, first_given) at e)))
 

@@ -1,7 +1,7 @@
 -- A reason has the number that the call answers. Assumes nothing.
 use mathlib.Core.Bool.{Bool, not}
 use mathlib.Core.List.{List, [], ◌∷◌, ◌++◌}
-use mathlib.Core.Option.{Option, none, some}
+use Rattle.std.specs.Prelude.{Option, None, Some}
 use mathlib.Core.Path.{◌≡◌, refl, sym, ap, ◌∙◌, subst}
 use Prim.Native.Nat.{ℕ, zero, suc, ◌<◌}
 use native.Mathlib.Omega.{arith}
@@ -30,7 +30,8 @@ use Rattle.update.specs.Outcome.{outcome}
 use Rattle.update.specs.Reports.{changes_of, change_words}
 use Rattle.update.specs.Calls.{Answer, refused, accepted, judged, batch_rows, update_number, update_batch, update, seed, without_tree_data, start_number}
 use Rattle.update.specs.Calls.{started, start_batch, start}
-use Rattle.record_rules.specs.Rules.{Offence, record_fault}
+use Rattle.record_rules.specs.declared.Offence.{Offence}
+use Rattle.record_rules.specs.Rules.{record_fault}
 use Rattle.record_rules.proofs.Rules.{fault_none}
 use Rattle.reasons.specs.Reasons.{Reason, number_of, broken_record, no_tree_data, not_root, notGrafted, notExisting, noNumberLeft, child_nowhere, too_many}
 use Rattle.reasons.specs.Reasons.{unsound_state, slice_too_short, first_reason}
@@ -45,8 +46,8 @@ use Rattle.reasons.proofs.Grafts.{has_tree, grafts_some}
 
 -- a reason tells a number, not 0; none tells 0
 abbrev pub Tells : Option Reason → ℕ → Type 0
-Tells none n = n ≡ 0
-Tells (some r) n = (number_of r ≡ n) × (0 < n)
+Tells None n = n ≡ 0
+Tells (Some r) n = (number_of r ≡ n) × (0 < n)
 
 -- r has number k
 abbrev pub Numbered : ℕ → Reason → Type 0
@@ -62,8 +63,8 @@ told_none = record { tells = first_none }
 -- one row more, told by the reason that is there where its test holds
 pub told_row : (o : Option Reason) {os : List (Option Reason)} (k : ℕ) {t : Bool} {rs : List Row} → 0 < k → is_some o ≡ t → IfSome (Numbered k) o
     → Told os rs → Told (o ∷ os) (row k t ∷ rs)
-told_row none k {t} {rs} up e h rest = record { tells = rw (first_passes k t rs (sym e)) rest.tells }
-told_row (some r) k {t} {rs} up e h rest = record { tells = rw (first_holds k t rs (sym e)) (h, up) }
+told_row None k {t} {rs} up e h rest = record { tells = rw (first_passes k t rs (sym e)) rest.tells }
+told_row (Some r) k {t} {rs} up e h rest = record { tells = rw (first_holds k t rs (sym e)) (h, up) }
 
 -- by its test
 pub told_if : (t : Bool) (r : Reason) {os : List (Option Reason)} (k : ℕ) {rs : List Row} → 0 < k → number_of r ≡ k
@@ -72,8 +73,8 @@ told_if t r k up e rest = told_row (reason_if t r) k up (is_some_if t r) (says_i
 
 -- a number found elsewhere
 pub told_found : (o : Option Reason) {os : List (Option Reason)} (n : ℕ) {rs : List Row} → Tells o n → Told os rs → Told (o ∷ os) (found n ∷ rs)
-told_found none n {rs} e rest = record { tells = rw (found_passes n rs e) rest.tells }
-told_found (some r) n {rs} e rest = record { tells = rw (found_counts n rs (λ z. omega (arith, e.1))) e }
+told_found None n {rs} e rest = record { tells = rw (found_passes n rs e) rest.tells }
+told_found (Some r) n {rs} e rest = record { tells = rw (found_counts n rs (λ z. omega (arith, e.1))) e }
 
 -- ## Where a reason is there
 
@@ -111,11 +112,11 @@ module _ (s : Forest) (b : Batch) where
   -- row 12 in the pass
   pub claimer_some : (placed : List Listed) (t : TreeId) → is_some (claimer_among s b placed t) ≡ has same_tree (given (claim s b) placed) t
   unfolding claimer_among
-  claimer_some placed t = first_given_some (λ l. same_option same_tree (claim s b l) (some t)) (λ l. l) placed ∙ has_tree (claim s b) placed t
+  claimer_some placed t = first_given_some (λ l. same_option same_tree (claim s b l) (Some t)) (λ l. l) placed ∙ has_tree (claim s b) placed t
 
   -- rows 10 to 12 of a node that is placed, and then the rest
   placing_tells : (placed : List Listed) (l : Listed) (o : Option Reason) (n : ℕ) → Tells o n
-      → Tells (elim (placing s b placed l) [ some r ↦ some r | none ↦ o ])
+      → Tells (elim (placing s b placed l) [ Some r ↦ Some r | None ↦ o ])
       (first
       (row 10 (is_some (graft? l.body) and not (is_nil l.body.children))
       ∷ row 11 (has same_tree (given (claim s b) (l ∷ [])) ROOT)
@@ -149,7 +150,7 @@ module _ (s : Forest) (b : Batch) where
       placing_tells placed l (pass_reason s b seen (l ∷ placed) es) (fault s b seen (given (claim s b) (l ∷ []) ++ given (claim s b) placed) es)
       (rw (given_more l placed) (pass_tells seen (l ∷ placed) es))
 
-  pub pass_none : pass_fault s b ≡ none → pass s b ≡ 0
+  pub pass_none : pass_fault s b ≡ None → pass s b ≡ 0
   unfolding pass_fault pass
   pass_none e = subst (λ (o : Option Reason). Tells o (pass s b)) e (pass_tells [] [] (events s b [] b.nodes))
 
@@ -259,16 +260,16 @@ module _ (s : Forest) (b : Batch) where
 
 -- the reason of a record that breaks a rule
 abbrev pub record_reason : Option Offence → Option Reason
-record_reason o = elim o [ none ↦ none | some x ↦ some (broken_record x) ]
+record_reason o = elim o [ None ↦ None | Some x ↦ Some (broken_record x) ]
 
 pub record_number : (o : Option Offence) → IfSome (Numbered 2) (record_reason o)
 unfolding number_of
-record_number none = tt
-record_number (some o) = refl
+record_number None = tt
+record_number (Some o) = refl
 
 pub record_some : (o : Option Offence) → is_some (record_reason o) ≡ is_some o
-record_some none = refl
-record_some (some o) = refl
+record_some None = refl
+record_some (Some o) = refl
 
 -- 2: a rule is broken where the bytes do not parse
 pub fault_parse : (bytes : List ℕ) → ((i : ℕ) → get_or bytes i 0 < 256) → is_some (record_fault bytes) ≡ is_none (parse bytes)
@@ -284,8 +285,8 @@ record_told bytes small parsed e rest =
 -- the number of a reason that tells one
 pub tells_number : (o : Option Reason) (n : ℕ) → Tells o n → number_of (or_accepted o) ≡ n
 unfolding or_accepted number_of
-tells_number none n e = sym e
-tells_number (some r) n e = e.0
+tells_number None n e = sym e
+tells_number (Some r) n e = e.0
 
 judged_number : (n : ℕ) (s : State) (slice : List ℕ) (a : Answer) → a.number ≡ 0 → (judged n s slice a).number ≡ n
 unfolding judged refused
@@ -294,15 +295,15 @@ judged_number (suc n) s slice a e = refl
 
 -- the reasons of a batch, and the rows
 abbrev reasons_on : State → ℕ → Option Batch → List (Option Reason)
-reasons_on s room parsed = elim parsed [ none ↦ [] | some b ↦ batch_reason s.forest b ∷ slice_reason s.forest b room ∷ [] ]
+reasons_on s room parsed = elim parsed [ None ↦ [] | Some b ↦ batch_reason s.forest b ∷ slice_reason s.forest b room ∷ [] ]
 
 abbrev rows_on : State → List ℕ → Option Batch → List Row
-rows_on s slice parsed = elim parsed [ none ↦ [] | some b ↦ batch_rows s b slice ]
+rows_on s slice parsed = elim parsed [ None ↦ [] | Some b ↦ batch_rows s b slice ]
 
 on_told : (s : State) (slice : List ℕ) (parsed : Option Batch) → Told (reasons_on s (length slice) parsed) (rows_on s slice parsed)
 unfolding batch_rows slice_reason number_of
-on_told s slice none = told_none
-on_told s slice (some b) =
+on_told s slice None = told_none
+on_told s slice (Some b) =
     told_found (batch_reason s.forest b) (batch_number s.forest b) (batch_tells s.forest b)
     (told_if _ (slice_too_short (length (change_words (changes_of s.forest b))) (length slice)) 21 (omega arith) refl told_none)
 
@@ -319,15 +320,15 @@ pub update_number_lem : (s : State) (bytes slice : List ℕ) → ((i : ℕ) → 
     → number_of (why_update s bytes (length slice)) ≡ (update s bytes slice).number
 unfolding update update_batch refused accepted
 update_number_lem s bytes slice small =
-    by_option (parse bytes) (λ q. rw (q, update) (update_told s bytes slice small none q))
-    (λ b q. rw (q, update) (update_told s bytes slice small (some b) q ∙ sym (judged_number (update_number s (some b) slice) s slice _ refl)))
+    by_option (parse bytes) (λ q. rw (q, update) (update_told s bytes slice small None q))
+    (λ b q. rw (q, update) (update_told s bytes slice small (Some b) q ∙ sym (judged_number (update_number s (Some b) slice) s slice _ refl)))
 
 -- a start's
 abbrev reasons_of_start : Option Batch → List (Option Reason)
 reasons_of_start parsed =
     elim parsed [
-      | none ↦ []
-      | some b ↦
+      | None ↦ []
+      | Some b ↦
           reason_if (is_none b.root) no_tree_data
           ∷ reason_if (not (same_tree b.tree ROOT)) (not_root b.tree)
           ∷ batch_reason (seed b) (without_tree_data b)
@@ -337,14 +338,14 @@ reasons_of_start parsed =
 abbrev rows_of_start : Option Batch → List Row
 rows_of_start parsed =
     elim parsed [
-      | none ↦ []
-      | some b ↦ row 3 (is_none b.root) ∷ row 4 (not (same_tree b.tree ROOT)) ∷ found (batch_number (seed b) (without_tree_data b)) ∷ []
+      | None ↦ []
+      | Some b ↦ row 3 (is_none b.root) ∷ row 4 (not (same_tree b.tree ROOT)) ∷ found (batch_number (seed b) (without_tree_data b)) ∷ []
     ]
 
 of_start_told : (parsed : Option Batch) → Told (reasons_of_start parsed) (rows_of_start parsed)
 unfolding number_of
-of_start_told none = told_none
-of_start_told (some b) =
+of_start_told None = told_none
+of_start_told (Some b) =
     told_if _ no_tree_data 3 (omega arith) refl
     (told_if _ (not_root b.tree) 4 (omega arith) refl
     (told_found (batch_reason (seed b) (without_tree_data b)) (batch_number (seed b) (without_tree_data b)) (batch_tells (seed b) (without_tree_data b)) told_none))
@@ -359,5 +360,5 @@ start_told bytes small parsed e =
 pub start_number_lem : (bytes : List ℕ) (host : Bool) → ((i : ℕ) → get_or bytes i 0 < 256) → number_of (why_start bytes) ≡ (start bytes host).number
 unfolding start start_batch start_number refused started first
 start_number_lem bytes host small =
-    by_option (parse bytes) (λ q. rw (q, start) (start_told bytes small none q))
-    (λ b q. rw (q, start) (start_told bytes small (some b) q ∙ sym (judged_number (start_number b) blank [] _ refl)))
+    by_option (parse bytes) (λ q. rw (q, start) (start_told bytes small None q))
+    (λ b q. rw (q, start) (start_told bytes small (Some b) q ∙ sym (judged_number (start_number b) blank [] _ refl)))

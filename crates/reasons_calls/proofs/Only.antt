@@ -1,12 +1,12 @@
 -- What a reason says is so of it alone: two that hold of one call have one number, and agree in what the row is about. Assumes nothing.
 use mathlib.Core.Bool.{true, false, true≢false}
 use mathlib.Core.List.{List, ◌∷◌}
-use mathlib.Core.Option.{Option, none, some, none-ne-some, some-injective}
+use Rattle.std.proofs.lemmas.Option.{none-some, same_Some}
 use mathlib.Core.Path.{◌≡◌, refl, sym, ap, ◌∙◌}
 use Prim.Native.Nat.{ℕ}
 use native.Mathlib.Omega.{arith}
 use lib.ListN.{length}
-use Rattle.std.specs.Prelude.{if◌then◌else◌}
+use Rattle.std.specs.Prelude.{if◌then◌else◌, Option, None, Some}
 use Rattle.base.specs.Bytes.{list_of}
 use Rattle.base.proofs.Cases.{by_option, by_order}
 use Rattle.base.proofs.Bytes.{length_list_of}
@@ -14,8 +14,9 @@ use Rattle.ids.specs.declared.TreeId.{TreeId}
 use Rattle.ids.specs.declared.NodeId.{NodeId}
 use Rattle.ids.specs.declared.FullNodeId.{FullNodeId}
 use Rattle.record.specs.Batch.{Listed, Batch}
-use Rattle.record_rules.specs.Rules.{Offence}
-use Rattle.state.specs.State.{ParentAndIndex, Forest, State, find, present, graft_at, link_at, SubtreeState, subtree_of}
+use Rattle.record_rules.specs.declared.Offence.{Offence}
+use Rattle.state.specs.State.{ParentAndIndex, Forest, State, find, present, graft_at, link_at, subtree_of}
+use Rattle.state.specs.declared.SubtreeState.{SubtreeState}
 use Rattle.update.specs.Words.{here, listed}
 use Rattle.update.specs.Pass.{places}
 use Rattle.update.specs.Gone.{goes, asParent, fate}
@@ -33,7 +34,7 @@ offence_one this this = refl
 offence_one (later h) (later k) = offence_one h k
 
 offence_kept : {o : Offence} {os : List (Option Offence)} → FirstOffence o os → Kept os → ⊥
-offence_kept {o} this k = none-ne-some o (sym k)
+offence_kept {o} this k = none-some o (sym k)
 offence_kept (later h) k = offence_kept h k
 
 pub offends_one : (bytes : List ℕ) (o p : Offence) → Offends bytes o → Offends bytes p → o ≡ p
@@ -91,22 +92,22 @@ module _ (s : Forest) (b : Batch) where
 
   -- 18: of a node
   goes_stops : (d : Dropped) → Goes s b d → Stops s.nodes (λ z l. fate s b z l ≡ asParent) d.node
-  goes_stops d (as_root q r t) l p f = absurd (none-ne-some l (sym q ∙ p))
+  goes_stops d (as_root q r t) l p f = absurd (none-some l (sym q ∙ p))
   goes_stops d (from k q g t) l p f =
-      let same : k ≡ l = some-injective k l (sym q ∙ p) in
+      let same : k ≡ l = same_Some k l (sym q ∙ p) in
       let both : goes ≡ asParent = sym g ∙ ap (fate s b d.node) same ∙ f in
       let z : ◌≡◌ {A = ℕ} 0 1 = cc in
       omega arith
 
   goes_by : (d e : Dropped) → d.node ≡ e.node → Goes s b d → Goes s b e → d.by ≡ e.by
   goes_by d e n (as_root q r t) (as_root p o u) = t ∙ sym u
-  goes_by d e n (as_root q r t) (from k p g u) = absurd (none-ne-some k (sym q ∙ ap (link_at s.nodes) n ∙ p))
-  goes_by d e n (from k p g u) (as_root q r t) = absurd (none-ne-some k (sym q ∙ ap (link_at s.nodes) (sym n) ∙ p))
+  goes_by d e n (as_root q r t) (from k p g u) = absurd (none-some k (sym q ∙ ap (link_at s.nodes) n ∙ p))
+  goes_by d e n (from k p g u) (as_root q r t) = absurd (none-some k (sym q ∙ ap (link_at s.nodes) (sym n) ∙ p))
   goes_by d e n (from k p g u) (from l q h v) =
-      let same : k ≡ l = some-injective k l (sym p ∙ ap (link_at s.nodes) n ∙ q) in
-      u ∙ ap {B = Option FullNodeId} (λ (m : ParentAndIndex). if listed s b m.parent then some m.parent else none) same ∙ sym v
+      let same : k ≡ l = same_Some k l (sym p ∙ ap (link_at s.nodes) n ∙ q) in
+      u ∙ ap {B = Option FullNodeId} (λ (m : ParentAndIndex). if listed s b m.parent then Some m.parent else None) same ∙ sym v
 
-  pub dropped_alone : (x : FullNodeId) (d e : Dropped) → OfBatch s b (updated_and_gone x (some d)) → OfBatch s b (updated_and_gone x (some e)) → d ≡ e
+  pub dropped_alone : (x : FullNodeId) (d e : Dropped) → OfBatch s b (updated_and_gone x (Some d)) → OfBatch s b (updated_and_gone x (Some e)) → d ≡ e
   unfolding OfBatch
   dropped_alone x d e g h =
       let p = g.1 in
@@ -119,60 +120,60 @@ module _ (s : Forest) (b : Batch) where
 module _ (s : Forest) where
   -- no graft leads on from x
   abbrev Last : FullNodeId → Type 0
-  Last x = (t : TreeId) (u : SubtreeState) → graft_at s.nodes x ≡ some t → subtree_of s t ≡ some u → ⊥
+  Last x = (t : TreeId) (u : SubtreeState) → graft_at s.nodes x ≡ Some t → subtree_of s t ≡ Some u → ⊥
 
-  way_last : {x : FullNodeId} {xs : List FullNodeId} → Way s x xs → (y : FullNodeId) × (last_of xs ≡ some y)
+  way_last : {x : FullNodeId} {xs : List FullNodeId} → Way s x xs → (y : FullNodeId) × (last_of xs ≡ Some y)
   unfolding last_of
   way_last {x} ends = (x, refl)
   way_last (on q r w) = let z = way_last w in (z.0, rw (z.1, last_of))
 
-  last_on : (x : FullNodeId) (xs : List FullNodeId) (y z : FullNodeId) → last_of xs ≡ some z → last_of (x ∷ xs) ≡ some y → last_of xs ≡ some y
+  last_on : (x : FullNodeId) (xs : List FullNodeId) (y z : FullNodeId) → last_of xs ≡ Some z → last_of (x ∷ xs) ≡ Some y → last_of xs ≡ Some y
   unfolding last_of
   last_on x xs y z e f = e ∙ (rw (e, last_of) at f)
 
-  way_one : {x : FullNodeId} {xs ys : List FullNodeId} (y z : FullNodeId) → Way s x xs → Way s x ys → last_of xs ≡ some y → last_of ys ≡ some z → Last y
+  way_one : {x : FullNodeId} {xs ys : List FullNodeId} (y z : FullNodeId) → Way s x xs → Way s x ys → last_of xs ≡ Some y → last_of ys ≡ Some z → Last y
       → Last z → xs ≡ ys
   unfolding last_of
   way_one y z ends ends e f g h = refl
-  way_one {x} y z ends (on {t} {u} q r w) e f g h = absurd (g t u (ap (graft_at s.nodes) (sym (some-injective x y e)) ∙ q) r)
-  way_one {x} y z (on {t} {u} q r w) ends e f g h = absurd (h t u (ap (graft_at s.nodes) (sym (some-injective x z f)) ∙ q) r)
+  way_one {x} y z ends (on {t} {u} q r w) e f g h = absurd (g t u (ap (graft_at s.nodes) (sym (same_Some x y e)) ∙ q) r)
+  way_one {x} y z (on {t} {u} q r w) ends e f g h = absurd (h t u (ap (graft_at s.nodes) (sym (same_Some x z f)) ∙ q) r)
   way_one {x} y z (on {t} {u} {xs} q r w) (on {t = t'} {u = u'} {xs = ys} q' r' w') e f g h =
-      let tree : t ≡ t' = some-injective t t' (sym q ∙ q') in
-      let sub : u' ≡ u = some-injective u' u (sym r' ∙ ap (subtree_of s) (sym tree) ∙ r) in
+      let tree : t ≡ t' = same_Some t t' (sym q ∙ q') in
+      let sub : u' ≡ u = same_Some u' u (sym r' ∙ ap (subtree_of s) (sym tree) ∙ r) in
       let v : Way s u.focus ys = rw (ap (λ (k : SubtreeState). k.focus) sub) at w' in
       ap {B = List FullNodeId} (λ zs. x ∷ zs) (way_one y z w v (last_on x xs y (way_last w).0 (way_last w).1 e)
       (last_on x ys z (way_last w').0 (way_last w').1 f) g h)
 
 module _ (s : Forest) (b : Batch) where
   -- 15
-  nothing_last : (t : TreeId) (x : FullNodeId) → graft_at (outcome s b).nodes x ≡ some t → subtree_of (outcome s b) t ≡ none → Last (outcome s b) x
-  nothing_last t x q r k u p e = none-ne-some u (sym r ∙ ap (subtree_of (outcome s b)) (some-injective t k (sym q ∙ p)) ∙ e)
+  nothing_last : (t : TreeId) (x : FullNodeId) → graft_at (outcome s b).nodes x ≡ Some t → subtree_of (outcome s b) t ≡ None → Last (outcome s b) x
+  nothing_last t x q r k u p e = none-some u (sym r ∙ ap (subtree_of (outcome s b)) (same_Some t k (sym q ∙ p)) ∙ e)
 
   pub nothing_one : (o p : Option TreeId) (xs ys : List FullNodeId) → OfBatch s b (focus_into_nothing o xs) → OfBatch s b (focus_into_nothing p ys)
       → (o ≡ p) × (xs ≡ ys)
   unfolding OfBatch
-  nothing_one none none xs ys g h = (refl, g.0 ∙ sym h.0)
-  nothing_one none (some t) xs ys g h = absurd (none-ne-some h.0 (sym g.1 ∙ h.1))
-  nothing_one (some t) none xs ys g h = absurd (none-ne-some g.0 (sym h.1 ∙ g.1))
-  nothing_one (some t) (some k) xs ys g h =
+  nothing_one None None xs ys g h = (refl, g.0 ∙ sym h.0)
+  nothing_one None (Some t) xs ys g h = absurd (none-some h.0 (sym g.1 ∙ h.1))
+  nothing_one (Some t) None xs ys g h = absurd (none-some g.0 (sym h.1 ∙ g.1))
+  nothing_one (Some t) (Some k) xs ys g h =
       let o = outcome s b in
-      let sub : h.0 ≡ g.0 = some-injective h.0 g.0 (sym h.1 ∙ g.1) in
+      let sub : h.0 ≡ g.0 = same_Some h.0 g.0 (sym h.1 ∙ g.1) in
       let way : Way o g.0.focus ys = rw (ap (λ (u : SubtreeState). u.focus) sub) at h.2 in
       let same = way_one o g.3 h.3 g.2 way g.4 h.4 (nothing_last t g.3 g.5.0 g.5.1) (nothing_last k h.3 h.5.0 h.5.1) in
-      let last : g.3 ≡ h.3 = some-injective g.3 h.3 (sym g.4 ∙ ap last_of same ∙ h.4) in
+      let last : g.3 ≡ h.3 = same_Some g.3 h.3 (sym g.4 ∙ ap last_of same ∙ h.4) in
       (sym g.5.0 ∙ ap (graft_at o.nodes) last ∙ h.5.0, same)
 
   -- 17
   absent_last : (x : FullNodeId) → present (outcome s b).nodes x ≡ false → Last (outcome s b) x
   unfolding present graft_at
   absent_last x e t u q r =
-      by_option (find x (outcome s b).nodes) (λ f. none-ne-some t (rw (graft_at, f) at q)) (λ n f. true≢false (rw (present, f) at e))
+      by_option (find x (outcome s b).nodes) (λ f. none-some t (rw (graft_at, f) at q)) (λ n f. true≢false (rw (present, f) at e))
 
   pub absent_one : (xs ys : List FullNodeId) → OfBatch s b (focus_absent xs) → OfBatch s b (focus_absent ys) → xs ≡ ys
   unfolding OfBatch
   absent_one xs ys g h =
       let o = outcome s b in
-      let sub : h.0 ≡ g.0 = some-injective h.0 g.0 (sym h.1 ∙ g.1) in
+      let sub : h.0 ≡ g.0 = same_Some h.0 g.0 (sym h.1 ∙ g.1) in
       let way : Way o g.0.focus ys = rw (ap (λ (u : SubtreeState). u.focus) sub) at h.2 in
       way_one o g.3 h.3 g.2 way g.4 h.4 (absent_last g.3 g.5.1) (absent_last h.3 h.5.1)
 

@@ -3,7 +3,7 @@ use mathlib.Core.Bool.{true, false, not, false≢true}
 use mathlib.Core.List.Memᴰ
 use mathlib.Core.List.{List, [], ◌∷◌, ◌++◌, map, Memᴰ}
 use mathlib.Core.Logic.{⊎_elim}
-use mathlib.Core.Option.{none, some}
+use Rattle.std.specs.Prelude.{None, Some}
 use mathlib.Core.Path.{◌≡◌, refl, ap, ◌∙◌}
 use Prim.Native.Nat.{ℕ, zero, suc, ◌+◌, ◌≤◌, ◌<◌}
 use native.Mathlib.Nat.{zero-add}
@@ -126,12 +126,12 @@ module _ (s : Forest) (b : Batch) where
   abbrev Placed : Listed → Type 0
   Placed l = Memᴰ l b.nodes × (placeless s b l ≡ false)
 
-  claimer_among_lem : (placed : List Listed) (t : TreeId) → IfSome (λ k. Memᴰ k placed × (claim s b k ≡ some t)) (claimer_among s b placed t)
+  claimer_among_lem : (placed : List Listed) (t : TreeId) → IfSome (λ k. Memᴰ k placed × (claim s b k ≡ Some t)) (claimer_among s b placed t)
   unfolding claimer_among
   claimer_among_lem placed t =
-      says_first (λ k. Memᴰ k placed × (claim s b k ≡ some t)) _ placed
-      (λ l i. says_if (λ k. Memᴰ k placed × (claim s b k ≡ some t)) (same_option same_tree (claim s b l) (some t)) l
-      (λ q. (i, same_option→≡ same_tree same_tree→≡ (claim s b l) (some t) q)))
+      says_first (λ k. Memᴰ k placed × (claim s b k ≡ Some t)) _ placed
+      (λ l i. says_if (λ k. Memᴰ k placed × (claim s b k ≡ Some t)) (same_option same_tree (claim s b l) (Some t)) l
+      (λ q. (i, same_option→≡ same_tree same_tree→≡ (claim s b l) (Some t) q)))
 
   -- a node that is placed has another id than those placed before
   here_apart : (placed : List Listed) (k : Listed) (n : NodeId) → Memᴰ k placed → has same_node (listed_ids placed) n ≡ false
@@ -150,7 +150,7 @@ module _ (s : Forest) (b : Batch) where
     when : (l : Listed) → Memᴰ l placed → (i : ℕ) × (i < n) × At (places l) moments i
     those : (l : Listed) (i : ℕ) → i < n → At (places l) moments i → Memᴰ l placed
     one : (k l : Listed) (i j : ℕ) (t : TreeId) → i < n → j < n → At (places k) moments i → At (places l) moments j
-        → claim s b k ≡ some t → claim s b l ≡ some t → i ≡ j
+        → claim s b k ≡ Some t → claim s b l ≡ Some t → i ≡ j
 
   until_start : Until 0 []
   until_start = record {
@@ -175,7 +175,7 @@ module _ (s : Forest) (b : Batch) where
           let z : ◌≡◌ {A = ℕ} 0 1 = cc in absurd (omega arith))
 
   -- a node is placed whose tree none placed before claims
-  until_places : (n : ℕ) (placed : List Listed) (l : Listed) → At (places l) moments n → placing s b placed l ≡ none → Until n placed
+  until_places : (n : ℕ) (placed : List Listed) (l : Listed) → At (places l) moments n → placing s b placed l ≡ None → Until n placed
       → Until (suc n) (l ∷ placed)
   until_places n placed l now free h = record {
     when = λ k i. ⊎_elim (λ q. (n, omega arith, rw q now)) (λ j. let z = h.when k j in (z.0, omega (arith, z.1), z.2)) (Memᴰ.cases_cons i);
@@ -193,7 +193,7 @@ module _ (s : Forest) (b : Batch) where
           cc
 
       -- k was placed before
-      other : (k m : Listed) (i j : ℕ) (t : TreeId) → i < n → At (places k) moments i → claim s b k ≡ some t → m ≡ l → claim s b m ≡ some t → ⊥
+      other : (k m : Listed) (i j : ℕ) (t : TreeId) → i < n → At (places k) moments i → claim s b k ≡ Some t → m ≡ l → claim s b m ≡ Some t → ⊥
       other k m i j t less at c same d =
           clash (placing_none s b placed l free t (rw same at d)) (has_given same_tree same_tree_refl (claim s b) placed k t (h.those k i less at) c)
 
@@ -204,11 +204,11 @@ module _ (s : Forest) (b : Batch) where
   placing_says n placed l now until before this new =
       says_else (OfBatch s b) (is_some (graft? l.body) and not (is_nil l.body.children)) _ _
       (λ t. let z = both t in (l, this.0, refl, (this.1, z.0, not_true z.1)))
-      (λ _. says_else (OfBatch s b) (same_option same_tree (claim s b l) (some ROOT)) _ _
-      (λ t. (l, this.0, refl, (this.1, same_option→≡ same_tree same_tree→≡ (claim s b l) (some ROOT) t)))
+      (λ _. says_else (OfBatch s b) (same_option same_tree (claim s b l) (Some ROOT)) _ _
+      (λ t. (l, this.0, refl, (this.1, same_option→≡ same_tree same_tree→≡ (claim s b l) (Some ROOT) t)))
       (λ _. by_option (claim s b l) (λ q. rw (q, second_claim) tt)
       (λ t q. by_option (claimer_among s b placed t) (λ r. rw (q, second_claim, r) tt)
-      (λ k r. let z = said (λ k. Memᴰ k placed × (claim s b k ≡ some t)) (claimer_among s b placed t) (claimer_among_lem placed t) k r in
+      (λ k r. let z = said (λ k. Memᴰ k placed × (claim s b k ≡ Some t)) (claimer_among s b placed t) (claimer_among_lem placed t) k r in
       let w = until.when k z.0 in
       rw (q, second_claim, r) (
         here_apart placed k l.id z.0 new,

@@ -1,7 +1,8 @@
 -- Every reason says what is so. Assumes nothing.
 use mathlib.Core.Bool.{true, false, not}
 use mathlib.Core.List.{List, [], ◌∷◌, ◌++◌}
-use mathlib.Core.Option.{Option, none, some, none-ne-some}
+use Rattle.std.specs.Prelude.{Option, None, Some}
+use Rattle.std.proofs.lemmas.Option.{none-some}
 use mathlib.Core.Path.{◌≡◌, refl, sym, ap, ◌∙◌}
 use Prim.Native.Nat.{ℕ, zero, suc, ◌+◌, ◌<◌}
 use native.Mathlib.Omega.{arith}
@@ -17,7 +18,8 @@ use Rattle.ids.specs.Ids.{ROOT, same_tree, same_node}
 use Rattle.record.specs.Batch.{Batch, listed_ids}
 use Rattle.record.specs.Layout.{node_count}
 use Rattle.record.specs.Parse.{parse}
-use Rattle.record_rules.specs.Rules.{Offence, first_broken, header_rules, record_offence, total_rules, record_fault}
+use Rattle.record_rules.specs.declared.Offence.{Offence}
+use Rattle.record_rules.specs.Rules.{first_broken, header_rules, record_offence, total_rules, record_fault}
 use Rattle.state.specs.State.{Forest, State, holder, subtree_of}
 use Rattle.state.specs.Sound.{ascending, grafts_differ, sound_shape, sound}
 use Rattle.state.proofs.Sound.{shape_parts, sound_parts}
@@ -50,19 +52,19 @@ use Rattle.reasons_calls.proofs.Clash.{clash_true}
 -- the first of some rules that is broken
 first_is : (os : List (Option Offence)) → IfSome (λ o. FirstOffence o os) (first_broken os)
 first_is [] = tt
-first_is (none ∷ os) = says_more (λ o. FirstOffence o os) (λ o. FirstOffence o (none ∷ os)) (λ o h. later h) (first_broken os) (first_is os)
-first_is (some o ∷ os) = this
+first_is (None ∷ os) = says_more (λ o. FirstOffence o os) (λ o. FirstOffence o (None ∷ os)) (λ o h. later h) (first_broken os) (first_is os)
+first_is (Some o ∷ os) = this
 
-first_said : (os : List (Option Offence)) (o : Offence) → first_broken os ≡ some o → FirstOffence o os
+first_said : (os : List (Option Offence)) (o : Offence) → first_broken os ≡ Some o → FirstOffence o os
 first_said os o q = said (λ o. FirstOffence o os) (first_broken os) (first_is os) o q
 
 -- the first of f 0, .., f (n - 1) that gives something
 abbrev Scanned : (ℕ → Option Offence) → ℕ → Option Offence → Type 0
-Scanned f n none = (j : ℕ) → j < n → f j ≡ none
-Scanned f n (some o) = (i : ℕ) × (i < n) × ((j : ℕ) → j < i → f j ≡ none) × (f i ≡ some o)
+Scanned f n None = (j : ℕ) → j < n → f j ≡ None
+Scanned f n (Some o) = (i : ℕ) × (i < n) × ((j : ℕ) → j < i → f j ≡ None) × (f i ≡ Some o)
 
 -- k is the first number looked at, and m how many are left
-scanned : (f : ℕ → Option Offence) (m k n : ℕ) (g : ℕ → ℕ) → ((i : ℕ) → g i ≡ k + i) → k + m ≡ n → ((j : ℕ) → j < k → f j ≡ none)
+scanned : (f : ℕ → Option Offence) (m k n : ℕ) (g : ℕ → ℕ) → ((i : ℕ) → g i ≡ k + i) → k + m ≡ n → ((j : ℕ) → j < k → f j ≡ None)
     → Scanned f n (first_given f (list_of m g))
 unfolding list_of
 scanned f zero k n g is e h = λ j less. h j (omega arith)
@@ -84,11 +86,11 @@ record_says bytes =
   where
     records : Kept (header_rules bytes) → (found : Option Offence) → first_given (record_offence bytes) (list_of (node_count bytes) (λ i. i)) ≡ found
         → Scanned (record_offence bytes) (node_count bytes) found
-        → IfSome (Offends bytes) (elim found [ some o ↦ some o | none ↦ first_broken (total_rules bytes) ])
-    records header none e h =
+        → IfSome (Offends bytes) (elim found [ Some o ↦ Some o | None ↦ first_broken (total_rules bytes) ])
+    records header None e h =
         says_more (λ o. FirstOffence o (total_rules bytes)) (Offends bytes) (λ o z. in_totals (header, h) z) (first_broken (total_rules bytes))
         (first_is (total_rules bytes))
-    records header (some o) e h = in_record h.0 h.1 (header, h.2) (first_said (rules_at bytes h.0) o h.3)
+    records header (Some o) e h = in_record h.0 h.1 (header, h.2) (first_said (rules_at bytes h.0) o h.3)
 
 -- ## A batch
 
@@ -112,9 +114,9 @@ module _ (s : Forest) (b : Batch) (before : Before s) where
   outcome_says = by_test (sound_shape (outcome s b)) (λ t. rw t tt) (λ t. let z = shape_found (outcome s b) t in rw (t, z.1) (t, z.2))
 
   -- where the rows before do not hold: no node listed twice, the pass without reason, every listed node with a place
-  module _ (once : distinct same_node (listed_ids b.nodes) ≡ true) (passed : pass_fault s b ≡ none) where
+  module _ (once : distinct same_node (listed_ids b.nodes) ≡ true) (passed : pass_fault s b ≡ None) where
     -- 15 to 20
-    focus_on : any (placeless s b) b.nodes ≡ false → clash_reason s b (outcome s b) ≡ none
+    focus_on : any (placeless s b) b.nodes ≡ false → clash_reason s b (outcome s b) ≡ None
         → Each (OfBatch s b)
         (focus_reason (outcome s b)
         ∷ removed_reason s b
@@ -133,7 +135,7 @@ module _ (s : Forest) (b : Batch) (before : Before s) where
     after_pass : Each (OfBatch s b) (reasons_after_pass s b (outcome s b))
     unfolding reasons_after_pass
     after_pass =
-        let placed : placeless_from s b 0 b.nodes ≡ none → any (placeless s b) b.nodes ≡ false =
+        let placed : placeless_from s b 0 b.nodes ≡ None → any (placeless s b) b.nodes ≡ false =
         λ e. sym (placeless_some s b 0 b.nodes) ∙ ap is_some e in (
           placeless_true s b,
           λ e. (
@@ -163,11 +165,11 @@ module _ (s : Forest) (b : Batch) (before : Before s) where
 
 module _ (bytes : List ℕ) (small : (i : ℕ) → get_or bytes i 0 < 256) where
   -- bytes that break a rule do not parse
-  fault_refused : (o : Offence) → record_fault bytes ≡ some o → parse bytes ≡ none
+  fault_refused : (o : Offence) → record_fault bytes ≡ Some o → parse bytes ≡ None
   fault_refused o q = none_of (parse bytes) (sym (fault_parse bytes small) ∙ ap is_some q)
 
-  fault_says : (P : Reason → Type 0) → ((o : Offence) → parse bytes ≡ none → Offends bytes o → P (broken_record o))
-      → IfSome P (elim (record_fault bytes) [ none ↦ none | some o ↦ some (broken_record o) ])
+  fault_says : (P : Reason → Type 0) → ((o : Offence) → parse bytes ≡ None → Offends bytes o → P (broken_record o))
+      → IfSome P (elim (record_fault bytes) [ None ↦ None | Some o ↦ Some (broken_record o) ])
   fault_says P h =
       says_map P broken_record (record_fault bytes) (λ o q. h o (fault_refused o q) (said (Offends bytes) (record_fault bytes) (record_says bytes) o q))
 
@@ -178,10 +180,10 @@ module _ (bytes : List ℕ) (small : (i : ℕ) → get_or bytes i 0 < 256) where
       reasons : Option Batch → List (Option Reason)
       reasons parsed =
           reason_if (not (sound s.forest)) (unsound_state (broken_state s.forest))
-          ∷ elim (record_fault bytes) [ none ↦ none | some o ↦ some (broken_record o) ]
-          ∷ elim parsed [ none ↦ [] | some b ↦ batch_reason s.forest b ∷ slice_reason s.forest b room ∷ [] ]
+          ∷ elim (record_fault bytes) [ None ↦ None | Some o ↦ Some (broken_record o) ]
+          ∷ elim parsed [ None ↦ [] | Some b ↦ batch_reason s.forest b ∷ slice_reason s.forest b room ∷ [] ]
 
-      on : (b : Batch) → parse bytes ≡ some b → sound s.forest ≡ true
+      on : (b : Batch) → parse bytes ≡ Some b → sound s.forest ≡ true
           → Each (Says s bytes room) (batch_reason s.forest b ∷ slice_reason s.forest b room ∷ [])
       on b q e =
           let most = length (change_words (changes_of s.forest b)) in (
@@ -195,23 +197,23 @@ module _ (bytes : List ℕ) (small : (i : ℕ) → get_or bytes i 0 < 256) where
       unsound_says e = let z = state_found s.forest e in rw z.1 (row_1 e z.2)
 
       each : (parsed : Option Batch) → parse bytes ≡ parsed → Each (Says s bytes room) (reasons parsed)
-      each none q = (
+      each None q = (
         says_if (Says s bytes room) (not (sound s.forest)) (unsound_state (broken_state s.forest)) (λ t. unsound_says (not_true t)),
         λ _.
             (fault_says (Says s bytes room) (λ o n h. row_2 n h), λ _. tt),
       )
-      each (some b) q = (
+      each (Some b) q = (
         says_if (Says s bytes room) (not (sound s.forest)) (unsound_state (broken_state s.forest)) (λ t. unsound_says (not_true t)),
         λ one. (
           fault_says (Says s bytes room) (λ o n h. row_2 n h),
           λ _.
-              on b q (by_test (sound s.forest) (λ t. t) (λ t. absurd (none-ne-some (unsound_state (broken_state s.forest)) (sym one ∙ rw t)))),
+              on b q (by_test (sound s.forest) (λ t. t) (λ t. absurd (none-some (unsound_state (broken_state s.forest)) (sym one ∙ rw t)))),
         ),
       )
 
       answered : (o : Option Reason) → IfSome (Says s bytes room) o → Says s bytes room (or_accepted o)
-      answered none h = no_row
-      answered (some r) h = h
+      answered None h = no_row
+      answered (Some r) h = h
 
   why_start_says : StartSays bytes (why_start bytes)
   unfolding why_start or_accepted
@@ -219,10 +221,10 @@ module _ (bytes : List ℕ) (small : (i : ℕ) → get_or bytes i 0 < 256) where
     where
       reasons : Option Batch → List (Option Reason)
       reasons parsed =
-          elim (record_fault bytes) [ none ↦ none | some o ↦ some (broken_record o) ]
+          elim (record_fault bytes) [ None ↦ None | Some o ↦ Some (broken_record o) ]
           ∷ elim parsed [
-            | none ↦ []
-            | some b ↦
+            | None ↦ []
+            | Some b ↦
                 reason_if (is_none b.root) no_tree_data
                 ∷ reason_if (not (same_tree b.tree ROOT)) (not_root b.tree)
                 ∷ batch_reason (seed b) (without_tree_data b)
@@ -230,8 +232,8 @@ module _ (bytes : List ℕ) (small : (i : ℕ) → get_or bytes i 0 < 256) where
           ]
 
       each : (parsed : Option Batch) → parse bytes ≡ parsed → Each (StartSays bytes) (reasons parsed)
-      each none q = (fault_says (StartSays bytes) (λ o n h. start_row_2 n h), λ _. tt)
-      each (some b) q = (
+      each None q = (fault_says (StartSays bytes) (λ o n h. start_row_2 n h), λ _. tt)
+      each (Some b) q = (
         fault_says (StartSays bytes) (λ o n h. start_row_2 n h),
         λ _. (
           says_if (StartSays bytes) (is_none b.root) no_tree_data (λ t. row_3 b q (none_of b.root t)),
@@ -247,8 +249,8 @@ module _ (bytes : List ℕ) (small : (i : ℕ) → get_or bytes i 0 < 256) where
       )
 
       answered : (o : Option Reason) → IfSome (StartSays bytes) o → StartSays bytes (or_accepted o)
-      answered none h = no_start_row
-      answered (some r) h = h
+      answered None h = no_start_row
+      answered (Some r) h = h
 
   pub why_true : (s : State) (room : ℕ) → Holds s bytes room (why_update s bytes room)
   why_true s room = record { answers = λ slice e. sym (rw e at (update_number_lem s bytes slice small)); says = why_says s room }

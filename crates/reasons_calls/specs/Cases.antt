@@ -1,7 +1,6 @@
 -- Worked reasons: what is at fault, where it is easy to name the wrong node. S is the start of document 01's case 1, T and U are tree ids.
 -- Assumes nothing.
-use Rattle.std.specs.Prelude.{List, [], ◌∷◌, ℕ}
-use Rattle.std.proofs.Math.Option.{Option, none, some}
+use Rattle.std.specs.Prelude.{List, [], ◌∷◌, ℕ, Option, None, Some}
 use Rattle.ids.specs.Ids.{ROOT}
 use Rattle.ids.specs.declared.FullNodeId.{FullNodeId}
 use Rattle.record.specs.Batch.{Batch}
@@ -23,7 +22,7 @@ pub record Case : Type 0 where
 infix 2 ◌because◌
 -- a batch on a state is refused for a reason
 abbrev pub ◌because◌ : Option Reason → Reason → Case
-got because r = record { got = got; says = some r }
+got because r = record { got = got; says = Some r }
 
 abbrev pub on : State → Batch → Option Reason
 on s b = batch_reason s.forest b
@@ -37,10 +36,10 @@ listed_again = on S (batch 2 (lists 1 (parent (2 ∷ 3 ∷ [])) ∷ lists 3 leaf
 
 -- 6, 7: the batch's tree
 unfoldable pub tree_not_grafted : Case
-tree_not_grafted = on S (batch_for T (some 1) 1 (lists 1 leaf ∷ [])) because notGrafted T
+tree_not_grafted = on S (batch_for T (Some 1) 1 (lists 1 leaf ∷ [])) because notGrafted T
 
 unfoldable pub tree_not_there : Case
-tree_not_there = on with_graft (batch_for T none 1 (lists 1 leaf ∷ [])) because notExisting T
+tree_not_there = on with_graft (batch_for T None 1 (lists 1 leaf ∷ [])) because notExisting T
 
 -- 9: the first namer and the second
 unfoldable pub named_again : Case
@@ -86,11 +85,11 @@ no_child = on S (batch 2 (lists 2 leaf ∷ lists 1 (parent (2 ∷ 3 ∷ 4 ∷ []
 
 -- 15, 17: with the way that leads there
 unfoldable pub focus_on_graft : Case
-focus_on_graft = on S (batch 3 (lists 3 (grafts T) ∷ [])) because focus_into_nothing (some T) (id 0 3 ∷ [])
+focus_on_graft = on S (batch 3 (lists 3 (grafts T) ∷ [])) because focus_into_nothing (Some T) (id 0 3 ∷ [])
 
 -- 16
 unfoldable pub new_root_gone : Case
-new_root_gone = on S (batch_for ROOT (some 2) 3 (lists 1 (parent (3 ∷ [])) ∷ [])) because root_absent (some (id 0 2))
+new_root_gone = on S (batch_for ROOT (Some 2) 3 (lists 1 (parent (3 ∷ [])) ∷ [])) because root_absent (Some (id 0 2))
 
 -- 18: 3 goes with 2, which 1 no longer names
 abbrev pub chain : State
@@ -101,11 +100,11 @@ chain =
 
 unfoldable pub gone_with_parent : Case
 gone_with_parent = on chain (batch 1 (lists 3 (labelled (97 ∷ [])) ∷ lists 1 leaf ∷ []))
-    because updated_and_gone (id 0 3) (some (record { node = id 0 2; by = some (id 0 1) }))
+    because updated_and_gone (id 0 3) (Some (record { node = id 0 2; by = Some (id 0 1) }))
 
 -- 19: a pane's root is named by a node of the pane, without tree data: it is met under its graft and again
 unfoldable pub root_named_in_pane : Case
-root_named_in_pane = on two_in_t (batch_for T none 1 (lists 2 (parent (1 ∷ [])) ∷ [])) because unsound_outcome (some (met_twice (spot 3 (id 1 1))))
+root_named_in_pane = on two_in_t (batch_for T None 1 (lists 2 (parent (1 ∷ [])) ∷ [])) because unsound_outcome (Some (met_twice (spot 3 (id 1 1))))
 
 -- 19: 9 is listed after 1 dropped it, and stays with 4 and 5 below it; 4 is the smallest node that is never met
 abbrev pub nine : State
@@ -121,19 +120,19 @@ nine =
 
 unfoldable pub listed_after_parent : Case
 listed_after_parent = on nine (batch 1 (lists 1 (parent (8 ∷ [])) ∷ lists 9 (parent (4 ∷ 5 ∷ [])) ∷ []))
-    because unsound_outcome (some (never_met (spot 1 (id 0 4)) (some (record { node = id 0 9; by = some (id 0 1) }))))
+    because unsound_outcome (Some (never_met (spot 1 (id 0 4)) (Some (record { node = id 0 9; by = Some (id 0 1) }))))
 
 -- 19: ROOT's root is named as a child
 unfoldable pub root_named : Case
-root_named = on S (batch 2 (lists 2 (parent (1 ∷ [])) ∷ [])) because unsound_outcome (some (met_twice (spot 0 (id 0 1))))
+root_named = on S (batch 2 (lists 2 (parent (1 ∷ [])) ∷ [])) because unsound_outcome (Some (met_twice (spot 0 (id 0 1))))
 
 -- 19: the new root, 2, still records 1, which goes
 unfoldable pub root_under_gone : Case
-root_under_gone = on S (batch_for ROOT (some 2) 2 []) because unsound_outcome (some (wrong_link (spot 0 (id 0 2)) (some (id 0 1)) none))
+root_under_gone = on S (batch_for ROOT (Some 2) 2 []) because unsound_outcome (Some (wrong_link (spot 0 (id 0 2)) (Some (id 0 1)) None))
 
 -- 19: the pane's new root is no node of it
 unfoldable pub pane_root_absent : Case
-pane_root_absent = on with_t (batch_for T (some 5) 5 []) because unsound_outcome (some (absent_below (spot 2 (id 0 3)) (id 1 5)))
+pane_root_absent = on with_t (batch_for T (Some 5) 5 []) because unsound_outcome (Some (absent_below (spot 2 (id 0 3)) (id 1 5)))
 
 abbrev pub cases : List Case
 cases =

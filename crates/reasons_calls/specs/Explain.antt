@@ -1,6 +1,5 @@
 -- What a call to explain answers: the reason of the first row that holds, in the order of document 01's table. Assumes nothing.
-use Rattle.std.specs.Prelude.{Bool, not, List, [], ◌∷◌, ◌++◌, ℕ, ltb, leb, length, if◌then◌else◌}
-use Rattle.std.proofs.Math.Option.{Option, none, some}
+use Rattle.std.specs.Prelude.{Bool, not, List, [], ◌∷◌, ◌++◌, ℕ, ltb, leb, length, if◌then◌else◌, Option, None, Some}
 use Rattle.base.specs.Tests.{◌and◌, is_none}
 use Rattle.ids.specs.Ids.{ROOT, same_tree}
 use Rattle.record.specs.Batch.{Batch, listed_ids}
@@ -20,7 +19,7 @@ use Rattle.reasons_calls.specs.Outcome.{clash_reason, focus_reason, removed_reas
 
 -- a reason where a test holds
 abbrev pub reason_if : Bool → Reason → Option Reason
-reason_if test r = if test then some r else none
+reason_if test r = if test then Some r else None
 
 -- 5 to 8 of a batch
 unfoldable pub reasons_before_pass : Forest → Batch → List (Option Reason)
@@ -55,8 +54,8 @@ slice_reason s b room =
 
 -- the reason, or that there is none
 unfoldable pub or_accepted : Option Reason → Reason
-or_accepted none = accepted
-or_accepted (some r) = r
+or_accepted None = accepted
+or_accepted (Some r) = r
 
 -- a batch on a state, with so many elements lent for the lists
 unfoldable pub why_update : State → List ℕ → ℕ → Reason
@@ -64,18 +63,18 @@ why_update s bytes room =
     or_accepted
     (first_reason
     (reason_if (not (sound s.forest)) (unsound_state (broken_state s.forest))
-    ∷ elim (record_fault bytes) [ none ↦ none | some o ↦ some (broken_record o) ]
-    ∷ elim (parse bytes) [ none ↦ [] | some b ↦ batch_reason s.forest b ∷ slice_reason s.forest b room ∷ [] ]))
+    ∷ elim (record_fault bytes) [ None ↦ None | Some o ↦ Some (broken_record o) ]
+    ∷ elim (parse bytes) [ None ↦ [] | Some b ↦ batch_reason s.forest b ∷ slice_reason s.forest b room ∷ [] ]))
 
 -- a start
 unfoldable pub why_start : List ℕ → Reason
 why_start bytes =
     or_accepted
     (first_reason
-    (elim (record_fault bytes) [ none ↦ none | some o ↦ some (broken_record o) ]
+    (elim (record_fault bytes) [ None ↦ None | Some o ↦ Some (broken_record o) ]
     ∷ elim (parse bytes) [
-      | none ↦ []
-      | some b ↦
+      | None ↦ []
+      | Some b ↦
           reason_if (is_none b.root) no_tree_data
           ∷ reason_if (not (same_tree b.tree ROOT)) (not_root b.tree)
           ∷ batch_reason (seed b) (without_tree_data b)

@@ -1,9 +1,8 @@
 -- What a reason says: for each row of document 01's table the fact that makes it hold; for a broken rule of a state see reasons/Breaks. Every
 -- reason that a call gets holds: proofs/Truth. Two that hold have one number and agree in what they say of one node, child, tree or rule:
 -- proofs/Only. Assumes nothing.
-use Rattle.std.specs.Prelude.{Bool, true, false, not, ◌≡◌, ℕ, zero, suc, ◌≤◌, ◌<◌, leb, length, if◌then◌else◌}
+use Rattle.std.specs.Prelude.{Bool, true, false, not, ◌≡◌, ℕ, zero, suc, ◌≤◌, ◌<◌, leb, length, if◌then◌else◌, Option, None, Some}
 use mathlib.Core.List.{List, [], ◌∷◌, Memᴰ}
-use Rattle.std.proofs.Math.Option.{Option, none, some}
 use Rattle.base.specs.Tests.{◌and◌, is_some, is_none, is_nil, count}
 use Rattle.ids.specs.Ids.{ROOT, same_tree, same_node, same_id}
 use Rattle.ids.specs.declared.TreeId.{TreeId}
@@ -12,8 +11,10 @@ use Rattle.ids.specs.declared.FullNodeId.{FullNodeId}
 use Rattle.record.specs.Batch.{graft?, Listed, Batch, listed_ids}
 use Rattle.record.specs.Layout.{node_count, record_at}
 use Rattle.record.specs.Parse.{data_of, children_before, labels_before, parse}
-use Rattle.record_rules.specs.Rules.{Offence, first_broken, header_rules, record_rules, total_rules}
-use Rattle.state.specs.State.{ParentAndIndex, NodeState, Forest, State, present, graft_at, link_at, holder, SubtreeState, subtree_of}
+use Rattle.record_rules.specs.declared.Offence.{Offence}
+use Rattle.record_rules.specs.Rules.{first_broken, header_rules, record_rules, total_rules}
+use Rattle.state.specs.State.{ParentAndIndex, NodeState, Forest, State, present, graft_at, link_at, holder, subtree_of}
+use Rattle.state.specs.declared.SubtreeState.{SubtreeState}
 use Rattle.state.specs.Down.{root_of}
 use Rattle.state.specs.Focus.{effective_focus}
 use Rattle.state.specs.Sound.{sound_shape, sound}
@@ -48,33 +49,33 @@ namers s b n (l ∷ ls) = times (count (same_node n) l.body.children) (here s b 
 
 -- a listed node that has a place claims the tree
 abbrev pub Claims : Forest → Batch → FullNodeId → TreeId → Type 0
-Claims s b x t = Lists s b x (λ l. (placeless s b l ≡ false) × (claim s b l ≡ some t))
+Claims s b x t = Lists s b x (λ l. (placeless s b l ≡ false) × (claim s b l ≡ Some t))
 
 -- the listed node that is placed at this moment of the pass claims the tree
 abbrev pub ClaimsWhen : Forest → Batch → ℕ → FullNodeId → TreeId → Type 0
-ClaimsWhen s b i x t = (l : Listed) × At (places l) (events s b [] b.nodes) i × (here s b l.id ≡ x) × (claim s b l ≡ some t)
+ClaimsWhen s b i x t = (l : Listed) × At (places l) (events s b [] b.nodes) i × (here s b l.id ≡ x) × (claim s b l ≡ Some t)
 
 -- a node of a forest grafts the tree
 abbrev pub Grafts : Forest → FullNodeId → TreeId → Type 0
-Grafts s x t = (n : NodeState) × Memᴰ n s.nodes × (n.id ≡ x) × (graft? n.body ≡ some t)
+Grafts s x t = (n : NodeState) × Memᴰ n s.nodes × (n.id ≡ x) × (graft? n.body ≡ Some t)
 
 -- The way through the grafts from x on: each next node is the focus of the tree that the one before it grafts.
 pub data Way (s : Forest) : FullNodeId → List FullNodeId → Type 0 where
   ends : {x : FullNodeId} → Way s x (x ∷ [])
   on : {x : FullNodeId} {t : TreeId} {u : SubtreeState} {xs : List FullNodeId}
-      → graft_at s.nodes x ≡ some t → subtree_of s t ≡ some u → Way s u.focus xs → Way s x (x ∷ xs)
+      → graft_at s.nodes x ≡ Some t → subtree_of s t ≡ Some u → Way s u.focus xs → Way s x (x ∷ xs)
 
 -- from ROOT's focus on to a last node that is so
 abbrev pub FocusWay : Forest → List FullNodeId → (FullNodeId → Type 0) → Type 0
 FocusWay s way P =
-    (u : SubtreeState) × (subtree_of s ROOT ≡ some u) × Way s u.focus way × (x : FullNodeId) × (last_of way ≡ some x) × P x
+    (u : SubtreeState) × (subtree_of s ROOT ≡ Some u) × Way s u.focus way × (x : FullNodeId) × (last_of way ≡ Some x) × P x
 
 -- Why an old node goes by itself: it was the root, and is replaced; or it is its fate under the parent that it records, which is named if it is
 -- listed.
 pub data Goes (s : Forest) (b : Batch) (d : Dropped) : Type 0 where
-  as_root : link_at s.nodes d.node ≡ none → replaced s b d.node ≡ true → d.by ≡ none → Goes s b d
-  from : (l : ParentAndIndex) → link_at s.nodes d.node ≡ some l → fate s b d.node l ≡ goes
-      → d.by ≡ (if listed s b l.parent then some l.parent else none) → Goes s b d
+  as_root : link_at s.nodes d.node ≡ None → replaced s b d.node ≡ true → d.by ≡ None → Goes s b d
+  from : (l : ParentAndIndex) → link_at s.nodes d.node ≡ Some l → fate s b d.node l ≡ goes
+      → d.by ≡ (if listed s b l.parent then Some l.parent else None) → Goes s b d
 
 -- climbing from x by the old links reaches the node, which goes by itself; every node below it on the way fares as its parent does
 pub record Drops (s : Forest) (b : Batch) (x : FullNodeId) (d : Dropped) : Type 0 where
@@ -108,27 +109,27 @@ OfBatch s b (claimed_twice t x y) =
 -- 12: the pass meets no row; two nodes of the outcome graft the tree; the one held it before, the other claims it
 OfBatch s b (claimed_from_holder t x y) =
     (pass s b ≡ 0) × (same_id x y ≡ false)
-    × Grafts (outcome s b) x t × Grafts (outcome s b) y t × (graft_at s.nodes x ≡ some t) × Claims s b y t
+    × Grafts (outcome s b) x t × Grafts (outcome s b) y t × (graft_at s.nodes x ≡ Some t) × Claims s b y t
 -- 13: the node listed at this place is left without a place
 OfBatch s b (without_place x i) = (l : Listed) × At l b.nodes i × (here s b l.id ≡ x) × (placeless s b l ≡ true)
 -- 14: the listed node names the child, which is neither present nor listed
 OfBatch s b (child_nowhere x c) =
     Lists s b x (λ l. (n : NodeId) × Memᴰ n l.body.children × (here s b n ≡ c) × (nowhere s b n ≡ true))
 -- 15: ROOT does not exist, and there is no way; or the last node on the way grafts a tree that does not exist
-OfBatch s b (focus_into_nothing none way) = (way ≡ []) × (subtree_of (outcome s b) ROOT ≡ none)
-OfBatch s b (focus_into_nothing (some t) way) =
-    FocusWay (outcome s b) way (λ x. (graft_at (outcome s b).nodes x ≡ some t) × (subtree_of (outcome s b) t ≡ none))
+OfBatch s b (focus_into_nothing None way) = (way ≡ []) × (subtree_of (outcome s b) ROOT ≡ None)
+OfBatch s b (focus_into_nothing (Some t) way) =
+    FocusWay (outcome s b) way (λ x. (graft_at (outcome s b).nodes x ≡ Some t) × (subtree_of (outcome s b) t ≡ None))
 -- 16: ROOT's root is absent
 OfBatch s b (root_absent r) = (root_of (outcome s b) ≡ r) × (absent (outcome s b).nodes r ≡ true)
 -- 17: the effective focus, the last node on the way, is absent
 OfBatch s b (focus_absent way) =
-    FocusWay (outcome s b) way (λ x. (effective_focus (outcome s b) ≡ some x) × (present (outcome s b).nodes x ≡ false))
+    FocusWay (outcome s b) way (λ x. (effective_focus (outcome s b) ≡ Some x) × (present (outcome s b).nodes x ≡ false))
 -- 18: the listed node is updated and removed; the node above it, or itself, goes by itself
-OfBatch s b (updated_and_gone x none) = ⊥
-OfBatch s b (updated_and_gone x (some d)) = Lists s b x (λ l. updated_and_removed s b l ≡ true) × Drops s b x d
+OfBatch s b (updated_and_gone x None) = ⊥
+OfBatch s b (updated_and_gone x (Some d)) = Lists s b x (λ l. updated_and_removed s b l ≡ true) × Drops s b x d
 -- 19: the outcome is not sound: of the rules for links, trees and the order of the nodes this is the first that it breaks
-OfBatch s b (unsound_outcome none) = ⊥
-OfBatch s b (unsound_outcome (some broken)) = (sound_shape (outcome s b) ≡ false) × FirstOfShape (outcome s b) broken
+OfBatch s b (unsound_outcome None) = ⊥
+OfBatch s b (unsound_outcome (Some broken)) = (sound_shape (outcome s b) ≡ false) × FirstOfShape (outcome s b) broken
 -- 20: the outcome has so many nodes, more than 256
 OfBatch s b (too_many n) = (length (outcome s b).nodes ≡ n) × (256 < n)
 -- no other reason is a batch's
@@ -143,8 +144,8 @@ OfBatch s b (slice_too_short n room) = ⊥
 
 -- the first of some rules that is broken
 pub data FirstOffence (o : Offence) : List (Option Offence) → Type 0 where
-  this : {os : List (Option Offence)} → FirstOffence o (some o ∷ os)
-  later : {os : List (Option Offence)} → FirstOffence o os → FirstOffence o (none ∷ os)
+  this : {os : List (Option Offence)} → FirstOffence o (Some o ∷ os)
+  later : {os : List (Option Offence)} → FirstOffence o os → FirstOffence o (None ∷ os)
 
 -- the rules of node record i
 abbrev pub rules_at : List ℕ → ℕ → List (Option Offence)
@@ -152,7 +153,7 @@ rules_at bytes i = record_rules bytes (record_at i) (data_of bytes (record_at i)
 
 -- all of some rules are kept
 abbrev pub Kept : List (Option Offence) → Type 0
-Kept os = first_broken os ≡ none
+Kept os = first_broken os ≡ None
 
 -- those of the header and of the node records before i are kept
 abbrev pub KeptBefore : List ℕ → ℕ → Type 0
@@ -171,13 +172,13 @@ pub data Says (s : State) (bytes : List ℕ) (room : ℕ) : Reason → Type 0 wh
   -- 0: no row holds, which is what the number says
   no_row : Says s bytes room accepted
   -- 1: the state is not sound: this is the first rule that it breaks
-  row_1 : {broken : Broken} → sound s.forest ≡ false → FirstOfState s.forest broken → Says s bytes room (unsound_state (some broken))
+  row_1 : {broken : Broken} → sound s.forest ≡ false → FirstOfState s.forest broken → Says s bytes room (unsound_state (Some broken))
   -- 2: the bytes are no record: this is the first rule that they break
-  row_2 : {o : Offence} → parse bytes ≡ none → Offends bytes o → Says s bytes room (broken_record o)
+  row_2 : {o : Offence} → parse bytes ≡ None → Offends bytes o → Says s bytes room (broken_record o)
   -- 5 to 20
-  of_batch : {r : Reason} (b : Batch) → parse bytes ≡ some b → OfBatch s.forest b r → Says s bytes room r
+  of_batch : {r : Reason} (b : Batch) → parse bytes ≡ Some b → OfBatch s.forest b r → Says s bytes room r
   -- 21: the lists take so many elements, and fewer are lent
-  row_21 : {n : ℕ} (b : Batch) → parse bytes ≡ some b → length (change_words (changes_of s.forest b)) ≡ n → room < n
+  row_21 : {n : ℕ} (b : Batch) → parse bytes ≡ Some b → length (change_words (changes_of s.forest b)) ≡ n → room < n
       → Says s bytes room (slice_too_short n room)
 
 -- The reason holds: the call answers its number, whatever the elements lent, and what it says is so.
@@ -188,12 +189,12 @@ pub record Holds (s : State) (bytes : List ℕ) (room : ℕ) (r : Reason) : Type
 -- of a start
 pub data StartSays (bytes : List ℕ) : Reason → Type 0 where
   no_start_row : StartSays bytes accepted
-  start_row_2 : {o : Offence} → parse bytes ≡ none → Offends bytes o → StartSays bytes (broken_record o)
+  start_row_2 : {o : Offence} → parse bytes ≡ None → Offends bytes o → StartSays bytes (broken_record o)
   -- 3: no tree data. 4: for a tree other than ROOT
-  row_3 : (b : Batch) → parse bytes ≡ some b → b.root ≡ none → StartSays bytes no_tree_data
-  row_4 : (b : Batch) → parse bytes ≡ some b → same_tree b.tree ROOT ≡ false → StartSays bytes (not_root b.tree)
+  row_3 : (b : Batch) → parse bytes ≡ Some b → b.root ≡ None → StartSays bytes no_tree_data
+  row_4 : (b : Batch) → parse bytes ≡ Some b → same_tree b.tree ROOT ≡ false → StartSays bytes (not_root b.tree)
   -- 5 to 20
-  of_start : {r : Reason} (b : Batch) → parse bytes ≡ some b → OfBatch (seed b) (without_tree_data b) r → StartSays bytes r
+  of_start : {r : Reason} (b : Batch) → parse bytes ≡ Some b → OfBatch (seed b) (without_tree_data b) r → StartSays bytes r
 
 -- it holds: the start answers its number, whatever the host's flag
 pub record StartHolds (bytes : List ℕ) (r : Reason) : Type 0 where

@@ -1,6 +1,5 @@
 -- Numbers 12 and 15 to 19 of an outcome: what makes each row hold. Assumes nothing.
-use Rattle.std.specs.Prelude.{Bool, false, List, [], ◌∷◌, ℕ, zero, suc, length, if◌then◌else◌}
-use Rattle.std.proofs.Math.Option.{Option, none, some}
+use Rattle.std.specs.Prelude.{Bool, false, List, [], ◌∷◌, ℕ, zero, suc, length, if◌then◌else◌, Option, None, Some}
 use Rattle.base.specs.Tests.{◌and◌, is_some, is_none, first_given}
 use Rattle.ids.specs.Ids.{ROOT}
 use Rattle.ids.specs.declared.TreeId.{TreeId}
@@ -23,45 +22,45 @@ unfoldable pub way_through : ℕ → Forest → FullNodeId → List FullNodeId
 way_through zero s x = []
 way_through (suc room) s x =
     x ∷ elim (graft_at s.nodes x) [
-      | none ↦ []
-      | some t ↦ elim (subtree_of s t) [ none ↦ [] | some u ↦ way_through room s u.focus ]
+      | None ↦ []
+      | Some t ↦ elim (subtree_of s t) [ None ↦ [] | Some u ↦ way_through room s u.focus ]
     ]
 
 -- from ROOT's focus on
 unfoldable pub focus_way : Forest → List FullNodeId
-focus_way s = elim (subtree_of s ROOT) [ none ↦ [] | some u ↦ way_through (suc (length s.trees)) s u.focus ]
+focus_way s = elim (subtree_of s ROOT) [ None ↦ [] | Some u ↦ way_through (suc (length s.trees)) s u.focus ]
 
 -- the tree that the last node of a way grafts
 unfoldable pub last_graft : Forest → List FullNodeId → Option TreeId
-last_graft s way = elim (last_of way) [ none ↦ none | some x ↦ graft_at s.nodes x ]
+last_graft s way = elim (last_of way) [ None ↦ None | Some x ↦ graft_at s.nodes x ]
 
 -- 15, 16 and 17 of an outcome
 unfoldable pub focus_reason : Forest → Option Reason
 focus_reason o =
-    if is_none (effective_focus o) then some (focus_into_nothing (last_graft o (focus_way o)) (focus_way o))
-    else if absent o.nodes (root_of o) then some (root_absent (root_of o))
-    else if absent o.nodes (effective_focus o) then some (focus_absent (focus_way o))
-    else none
+    if is_none (effective_focus o) then Some (focus_into_nothing (last_graft o (focus_way o)) (focus_way o))
+    else if absent o.nodes (root_of o) then Some (root_absent (root_of o))
+    else if absent o.nodes (effective_focus o) then Some (focus_absent (focus_way o))
+    else None
 
 -- ## Nodes that lost their place
 
 module _ (s : Forest) (b : Batch) where
   -- the listed node p lets a node below it go; any other only goes itself
   unfoldable pub dropper : FullNodeId → Option FullNodeId
-  dropper p = if listed s b p then some p else none
+  dropper p = if listed s b p then Some p else None
 
   -- Climbing from x by the old links, at most `room` steps: the node whose own fate it is to go.
   unfoldable pub dropped_within : ℕ → FullNodeId → Option Dropped
-  dropped_within zero x = none
+  dropped_within zero x = None
   dropped_within (suc room) x =
       elim (find x s.nodes) [
-        | none ↦ none
-        | some n ↦
+        | None ↦ None
+        | Some n ↦
             elim n.parent_and_index [
-              | none ↦ some (record { node = x; by = none })
-              | some l ↦
+              | None ↦ Some (record { node = x; by = None })
+              | Some l ↦
                   let above = dropped_within room l.parent in
-                  elim (fate s b x l) [ stays ↦ none | goes ↦ some (record { node = x; by = dropper l.parent }) | asParent ↦ above ]
+                  elim (fate s b x l) [ stays ↦ None | goes ↦ Some (record { node = x; by = dropper l.parent }) | asParent ↦ above ]
             ]
       ]
 
@@ -70,25 +69,25 @@ module _ (s : Forest) (b : Batch) where
   removed_reason =
       first_given
       (λ l. if updated_and_removed s b l
-      then some (updated_and_gone (here s b l.id) (dropped_within (length s.nodes) (here s b l.id)))
-      else none)
+      then Some (updated_and_gone (here s b l.id) (dropped_within (length s.nodes) (here s b l.id)))
+      else None)
       b.nodes
 
   -- the node is listed and claims a tree
   unfoldable pub claims : FullNodeId → Bool
   claims x =
       listed s b x
-      and elim (listing b.nodes x.node) [ none ↦ false | some d ↦ is_some (claim s b (record { id = x.node; body = d })) ]
+      and elim (listing b.nodes x.node) [ None ↦ false | Some d ↦ is_some (claim s b (record { id = x.node; body = d })) ]
 
   -- 12's second part: two nodes of the outcome graft one tree, the one that claims it and another
   unfoldable pub clash_reason : Forest → Option Reason
   clash_reason o =
       elim (graft_twice_from 0 o.nodes) [
-        | none ↦ none
-        | some g ↦
-            some (if claims g.node.id then claimed_from_holder g.tree g.other g.node.id else claimed_from_holder g.tree g.node.id g.other)
+        | None ↦ None
+        | Some g ↦
+            Some (if claims g.node.id then claimed_from_holder g.tree g.other g.node.id else claimed_from_holder g.tree g.node.id g.other)
       ]
 
 -- 19 of an outcome
 unfoldable pub outcome_reason : Forest → Option Reason
-outcome_reason o = if sound_shape o then none else some (unsound_outcome (broken_shape o))
+outcome_reason o = if sound_shape o then None else Some (unsound_outcome (broken_shape o))

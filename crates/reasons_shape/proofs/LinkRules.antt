@@ -1,7 +1,7 @@
 -- Rules 3 and 5 to 8, by slot: what the links under which a node is met say of it. Assumes nothing.
 use mathlib.Core.Bool.{Bool, true, false, not, true≢false}
 use mathlib.Core.List.{List, [], ◌∷◌}
-use mathlib.Core.Option.{Option, none, some}
+use Rattle.std.specs.Prelude.{Option, None, Some}
 use mathlib.Core.Path.{◌≡◌, refl, sym, ap, ◌∙◌}
 use Prim.Native.Nat.{ℕ, suc, ◌+◌, ◌-◌, ◌≤◌, ◌<◌}
 use native.Mathlib.Omega.{arith}
@@ -19,16 +19,13 @@ use Rattle.reasons.specs.Reasons.{Spot, too_many_children, met_twice, graft_with
 use Rattle.reasons.specs.Shape.{spot_from, at, met_links, crowded, is_met_twice, is_never_met, topmost_within, unmet, met_link, disagrees, wrong_link_from}
 use Rattle.reasons_shape.specs.declared.reached.Links.{Links}
 use Rattle.reasons_shape.specs.Reached.{Few, reached_in, first_link, Tells}
-use Rattle.reasons_why.specs.Why.{why_broken, found, dropped_node, dropped_by}
+use Rattle.reasons_why.specs.Why.{why_broken, dropped_node, dropped_by}
 use Rattle.reasons_why.specs.declared.Why.{Why}
 use Rattle.state.specs.State.{ParentAndIndex, same_link, present, link_at, parent_of, parent_at}
 use Rattle.state.specs.Sound.{graft_is_bare}
 use Rattle.state_array.specs.declared.LinkRow.{LinkRow}
 use Rattle.state_array.specs.declared.ShapeRow.{ShapeRow}
 use Rattle.state_array.specs.View.{id_in, link_in, link_of, shape_in, children_in, body_in, node_in, slots_of, view}
-use Rattle.state_focus.specs.declared.FoundNode.{FoundNode}
-use Rattle.state_focus.specs.declared.FoundNode.TheVariants as node
-use Rattle.state_focus.specs.Focus.{found_of}
 use Rattle.state_lookup.specs.Lookup.{stands_at}
 use Rattle.state_lookup.proofs.Found.{find_there, find_absent, present_slot}
 use Rattle.state_rules.specs.Parts.{bare_in}
@@ -42,16 +39,16 @@ use Rattle.reasons_shape.proofs.Slots.{nodes, nodes_at, nodes_past, nodes_many, 
 -- ## What a rule says of a slot
 
 module _ (k : ℕ) (x : Spot) where
-  pub crowd_says : why_broken k (some (too_many_children x)) ≡ node_why k 3 x.slot (node.At x.id) node.Nothing node.Nothing
-  unfolding why_broken found
+  pub crowd_says : why_broken k (Some (too_many_children x)) ≡ node_why k 3 x.slot (Some x.id) None None
+  unfolding why_broken
   crowd_says = refl
 
-  pub twice_says : why_broken k (some (met_twice x)) ≡ node_why k 5 x.slot (node.At x.id) node.Nothing node.Nothing
-  unfolding why_broken found
+  pub twice_says : why_broken k (Some (met_twice x)) ≡ node_why k 5 x.slot (Some x.id) None None
+  unfolding why_broken
   twice_says = refl
 
-  pub burden_says : why_broken k (some (graft_with_children x)) ≡ node_why k 8 x.slot (node.At x.id) node.Nothing node.Nothing
-  unfolding why_broken found
+  pub burden_says : why_broken k (Some (graft_with_children x)) ≡ node_why k 8 x.slot (Some x.id) None None
+  unfolding why_broken
   burden_says = refl
 
 -- ## Rules 3 and 8
@@ -69,9 +66,9 @@ few_kept s k e h i l =
     ltb-false 256 (shape_in s i).child_count
     (sym (crowded_is s i) ∙ none_passes s crowded (plain (spot_from 0 crowded (view s).forest.nodes) (kept k _ (ap (λ (z : Why). z.rule) (sym e) ∙ h))) i l)
   where
-    plain : (o : Option Spot) → at too_many_children o ≡ none → o ≡ none
-    plain none q = refl
-    plain (some x) q = absurd (true≢false (ap (λ p. is_some p) q))
+    plain : (o : Option Spot) → at too_many_children o ≡ None → o ≡ None
+    plain None q = refl
+    plain (Some x) q = absurd (true≢false (ap (λ p. is_some p) q))
 
 pub bare_is : (s : List ℕ) (i : ℕ) {r b : Bool} → r ≡ bare_in s i → not r ≡ b → not (graft_is_bare (node_in s i)) ≡ b
 bare_is s i test h = ap not (bare_at s i ∙ sym test) ∙ h
@@ -101,20 +98,20 @@ module _ (s : List ℕ) (i : ℕ) {x : FullNodeId} (own : x ≡ id_in s i) where
 
 -- ## Parents
 
-pub parent_none : (l : LinkRow) → l.linked ≡ 0 → found_of node.Nothing ≡ parent_of (link_of l)
-unfolding found_of parent_of link_of
+pub parent_none : (l : LinkRow) → l.linked ≡ 0 → None ≡ parent_of (link_of l)
+unfolding parent_of link_of
 parent_none l e = rw (eq-eqb l.linked 0 e)
 
-pub parent_some : (l : LinkRow) → (l.linked ≡ 0 → ⊥) → found_of (node.At l.parent) ≡ parent_of (link_of l)
-unfolding found_of parent_of link_of
+pub parent_some : (l : LinkRow) → (l.linked ≡ 0 → ⊥) → (Some l.parent) ≡ parent_of (link_of l)
+unfolding parent_of link_of
 parent_some l e = rw (ne_eqb l.linked 0 e)
 
 module _ (s : List ℕ) (x : FullNodeId) {n i : ℕ} (slots : n ≡ slots_of s) (first : First (stands_at s x) (slots_of s) i) where
-  pub parent_absent : n ≤ i → found_of node.Nothing ≡ parent_at (view s).forest.nodes x
-  unfolding found_of parent_at link_at
-  parent_absent h = let away : link_at (view s).forest.nodes x ≡ none = rw (find_absent s x i first (rw slots at h), link_at) in rw (away, parent_at)
+  pub parent_absent : n ≤ i → None ≡ parent_at (view s).forest.nodes x
+  unfolding parent_at link_at
+  parent_absent h = let away : link_at (view s).forest.nodes x ≡ None = rw (find_absent s x i first (rw slots at h), link_at) in rw (away, parent_at)
 
-  pub parent_there : i < n → {l : LinkRow} → l ≡ link_in s i → (r : FoundNode) → found_of r ≡ parent_of (link_of l) → found_of r ≡ parent_at (view s).forest.nodes x
+  pub parent_there : i < n → {l : LinkRow} → l ≡ link_in s i → (r : Option FullNodeId) → r ≡ parent_of (link_of l) → r ≡ parent_at (view s).forest.nodes x
   unfolding parent_at link_at parent_of node_in
   parent_there h {l} is r e =
       let there : link_at (view s).forest.nodes x ≡ link_of l = rw (find_there s x i first (rw slots at h), link_at, is) in
@@ -126,44 +123,44 @@ module _ (s : List ℕ) (x : FullNodeId) {n i : ℕ} (slots : n ≡ slots_of s) 
 
 -- ## Climbing
 
--- what is left of the climb from x, with room for `left` steps
-pub record Climbing (s : List ℕ) (x : FullNodeId) (left : ℕ) (y : FullNodeId) : Type 0 where
-  pub rest : topmost_within left (view s).forest (reached_in s) y ≡ topmost_within (slots_of s) (view s).forest (reached_in s) x
+-- what is left of the climb from x after i of n steps
+pub record Climbing (s : List ℕ) (x : FullNodeId) (n i : ℕ) (y : FullNodeId) : Type 0 where
+  pub rest : topmost_within (n - i) (view s).forest (reached_in s) y ≡ topmost_within (slots_of s) (view s).forest (reached_in s) x
 
-pub climbing_start : {s : List ℕ} {x : FullNodeId} {n : ℕ} → n ≡ slots_of s → Climbing s x n x
-climbing_start slots = record { rest = rw slots }
+pub climbing_start : {s : List ℕ} {x : FullNodeId} {n : ℕ} → n ≡ slots_of s → Climbing s x n 0 x
+climbing_start {n = n} slots = let whole : n - 0 ≡ n = omega arith in record { rest = rw (whole, slots) }
 
-module _ {s : List ℕ} {x y : FullNodeId} {left : ℕ} (g : Climbing s x left y) where
-  -- no room is left
-  pub climbing_end : left ≤ 0 → ClimbSays (topmost_within (slots_of s) (view s).forest (reached_in s) x) (record { node = node.Nothing; by = node.Nothing })
-  unfolding topmost_within found dropped_node dropped_by
-  climbing_end h = let z : left ≡ 0 = omega arith in rw (← rw z at g.rest) (record { node = refl; by = refl })
+module _ {s : List ℕ} {x y : FullNodeId} {n i : ℕ} (g : Climbing s x n i y) where
+  -- no step is left
+  pub climbing_end : n ≤ i → ClimbSays (topmost_within (slots_of s) (view s).forest (reached_in s) x) (record { node = None; by = None })
+  unfolding topmost_within dropped_node dropped_by
+  climbing_end h = let z : n - i ≡ 0 = omega arith in rw (← rw z at g.rest) (record { node = refl; by = refl })
 
-  module _ (some_left : 0 < left) {p : FoundNode} (above : found_of p ≡ parent_at (view s).forest.nodes y) where
+  module _ (some_left : i < n) {p : Option FullNodeId} (above : p ≡ parent_at (view s).forest.nodes y) where
     -- a node without a parent
-    pub climbing_top : p ≡ node.Nothing
-        → ClimbSays (topmost_within (slots_of s) (view s).forest (reached_in s) x) (record { node = node.At y; by = node.Nothing })
-    unfolding topmost_within found dropped_node dropped_by found_of
+    pub climbing_top : p ≡ None
+        → ClimbSays (topmost_within (slots_of s) (view s).forest (reached_in s) x) (record { node = Some y; by = None })
+    unfolding topmost_within dropped_node dropped_by
     climbing_top q =
-        let z : left ≡ suc (left - 1) = omega arith in
-        rw (← rw (z, sym above ∙ ap found_of q, topmost_within) at g.rest) (record { node = refl; by = refl })
+        let z : n - i ≡ suc (n - (i + 1)) = omega arith in
+        rw (← rw (z, sym above ∙ q, topmost_within) at g.rest) (record { node = refl; by = refl })
 
-    module _ {u : FullNodeId} (q : p ≡ node.At u) {r : Bool}
+    module _ {u : FullNodeId} (q : p ≡ Some u) {r : Bool}
         (test : r ≡ present (view s).forest.nodes u and is_nil (met_links (view s).forest (reached_in s) u)) where
       -- one whose parent is met or absent
       pub climbing_held : r ≡ false
-          → ClimbSays (topmost_within (slots_of s) (view s).forest (reached_in s) x) (record { node = node.At y; by = node.At u })
-      unfolding topmost_within found dropped_node dropped_by found_of
+          → ClimbSays (topmost_within (slots_of s) (view s).forest (reached_in s) x) (record { node = Some y; by = Some u })
+      unfolding topmost_within dropped_node dropped_by
       climbing_held h =
-          let z : left ≡ suc (left - 1) = omega arith in
-          rw (← rw (z, sym above ∙ ap found_of q, topmost_within, call_false test h) at g.rest) (record { node = refl; by = refl })
+          let z : n - i ≡ suc (n - (i + 1)) = omega arith in
+          rw (← rw (z, sym above ∙ q, topmost_within, call_false test h) at g.rest) (record { node = refl; by = refl })
 
       -- one whose parent is neither
-      pub climbing_on : r ≡ true → Climbing s x (left - 1) u
-      unfolding topmost_within found_of
+      pub climbing_on : r ≡ true → Climbing s x n (i + 1) u
+      unfolding topmost_within
       climbing_on h =
-          let z : left ≡ suc (left - 1) = omega arith in
-          record { rest = rw (z, sym above ∙ ap found_of q, topmost_within, call_true test h) at g.rest }
+          let z : n - i ≡ suc (n - (i + 1)) = omega arith in
+          record { rest = rw (z, sym above ∙ q, topmost_within, call_true test h) at g.rest }
 
 -- ## Rule 6
 
@@ -174,8 +171,8 @@ module _ {s : List ℕ} {i n k : ℕ} (g : Seeking s (is_never_met (view s).fore
 
   pub unmet_broken : i < n → {x : FullNodeId} → x ≡ id_in s i → {r : Bool} → r ≡ is_nil (met_links (view s).forest (reached_in s) x) → r ≡ true
       → {top : Climb} → ClimbSays (topmost_within (slots_of s) (view s).forest (reached_in s) x) top
-      → w ≡ node_why k 6 i (node.At x) top.by top.node → w ≡ why_broken k (unmet (view s).forest (reached_in s))
-  unfolding why_broken unmet found
+      → w ≡ node_why k 6 i (Some x) top.by top.node → w ≡ why_broken k (unmet (view s).forest (reached_in s))
+  unfolding why_broken unmet
   unmet_broken l own test h climb e =
       e ∙ rw (seeking_here g slots l (never_is s i own test h), nodes_many s, climb.node, climb.by, own)
 
@@ -212,7 +209,7 @@ module _ {s : List ℕ} {i n : ℕ} (g : Agreeing s i) (slots : n ≡ slots_of s
     met_is = rw (← self) (go (met_links (view s).forest (reached_in s) x) told.first)
       where
         go : (ls : List (Option ParentAndIndex)) → link_of met.first ≡ first_link ls
-            → (elim ls as (λ _. Option ParentAndIndex) [ [] ↦ none | a ∷ rest ↦ a ]) ≡ link_of met.first
+            → (elim ls as (λ _. Option ParentAndIndex) [ [] ↦ None | a ∷ rest ↦ a ]) ≡ link_of met.first
         go [] e = sym e
         go (a ∷ rest) e = sym e
 
@@ -224,10 +221,10 @@ module _ {s : List ℕ} {i n : ℕ} (g : Agreeing s i) (slots : n ≡ slots_of s
     unfolding wrong_link_from
     agreeing_more h = record { rest = rest_more g.rest (nodes_at s i (rw slots at l)) (rw (disagrees_is ∙ ap not h)) }
 
-    pub agreeing_fails : {k : ℕ} {w : Why} → r ≡ false → {y by also : FoundNode} → y ≡ node.At (id_in s i) → found_of by ≡ parent_of (link_of own)
-        → found_of also ≡ parent_of (link_of met.first) → w ≡ node_why k 7 i y by also
+    pub agreeing_fails : {k : ℕ} {w : Why} → r ≡ false → {y by also : Option FullNodeId} → y ≡ Some (id_in s i) → by ≡ parent_of (link_of own)
+        → also ≡ parent_of (link_of met.first) → w ≡ node_why k 7 i y by also
         → w ≡ why_broken k (wrong_link_from 0 (view s).forest (reached_in s) (view s).forest.nodes)
-    unfolding why_broken wrong_link_from node_in found
+    unfolding why_broken wrong_link_from node_in
     agreeing_fails {k} h here a b e =
         e ∙ rw (here, found_of_lem a, found_of_lem b, is, ← met_is)
         (ap (why_broken k) (rw (nodes_at s i (rw slots at l), disagrees_is ∙ ap not h) at g.rest.same))

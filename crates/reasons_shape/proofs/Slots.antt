@@ -1,7 +1,6 @@
 -- The nodes of a state one slot after another: what is left of them from slot i on, and the first node that passes a test. Assumes nothing.
 use mathlib.Core.Bool.{Bool, true, false, not, true≢false}
 use mathlib.Core.List.{List, [], ◌∷◌}
-use mathlib.Core.Option.{none, some}
 use mathlib.Core.Path.{◌≡◌, refl, sym, ap, ◌∙◌}
 use Prim.Native.Nat.{ℕ, zero, suc, ◌+◌, ◌≤◌, ◌<◌}
 use native.Mathlib.Nat.{add-zero, zero-add}
@@ -9,7 +8,7 @@ use native.Mathlib.Omega.{arith}
 use lib.Dec.{ltb, leb}
 use lib.ListN.{length, drop}
 use borrow.Author.Tests.{lt-ltb, le-ltb, lt-leb, le-leb}
-use Rattle.std.specs.Prelude.{if◌then◌else◌}
+use Rattle.std.specs.Prelude.{if◌then◌else◌, None, Some, Option}
 use Rattle.base.specs.Tests.{◌and◌, is_some, all}
 use Rattle.base.specs.Bytes.{list_of}
 use Rattle.base.specs.Search.{First}
@@ -23,12 +22,10 @@ use Rattle.ids.specs.declared.FullNodeId.{FullNodeId}
 use Rattle.record.specs.Batch.{fields_ok}
 use Rattle.reasons.specs.Reasons.{Spot, Broken, tooManyNodes, tooManyTrees, broken_field}
 use Rattle.reasons.specs.Shape.{spot_from, at, disorder_from}
-use Rattle.reasons_why.specs.Why.{why_broken, found}
+use Rattle.reasons_why.specs.Why.{why_broken}
 use Rattle.reasons_why.specs.declared.Why.{Why}
 use Rattle.state.specs.State.{NodeState}
 use Rattle.state_array.specs.View.{id_in, body_in, node_in, entry_in, slots_of, trees_of, view}
-use Rattle.state_focus.specs.declared.FoundNode.{FoundNode}
-use Rattle.state_focus.specs.declared.FoundNode.TheVariants as node
 use Rattle.reasons_shape.specs.Rules.{rule_why, node_why}
 
 module _ (s : List ℕ) where
@@ -62,7 +59,7 @@ pub seeking_start : {s : List ℕ} {q : NodeState → Bool} → Seeking s q 0
 seeking_start = record { rest = rest_start }
 
 module _ {s : List ℕ} {q : NodeState → Bool} {i n : ℕ} (g : Seeking s q i) (slots : n ≡ slots_of s) where
-  seeking_end : n ≤ i → spot_from 0 q (nodes s) ≡ none
+  seeking_end : n ≤ i → spot_from 0 q (nodes s) ≡ None
   unfolding spot_from
   seeking_end h = sym g.rest.same ∙ rw (nodes_past s i (rw slots at h))
 
@@ -71,7 +68,7 @@ module _ {s : List ℕ} {q : NodeState → Bool} {i n : ℕ} (g : Seeking s q i)
     unfolding spot_from
     seeking_more e = record { rest = rest_more g.rest (nodes_at s i (rw slots at l)) (rw e) }
 
-    pub seeking_here : q (node_in s i) ≡ true → spot_from 0 q (nodes s) ≡ some (record { slot = i; id = id_in s i })
+    pub seeking_here : q (node_in s i) ≡ true → spot_from 0 q (nodes s) ≡ Some (record { slot = i; id = id_in s i })
     unfolding spot_from node_in
     seeking_here e = sym g.rest.same ∙ rw (nodes_at s i (rw slots at l), e)
 
@@ -81,14 +78,14 @@ module _ {s : List ℕ} {q : NodeState → Bool} {i n : ℕ} (g : Seeking s q i)
     unfolding why_broken
     spot_kept h e = e ∙ rw (seeking_end h)
 
-    pub spot_broken : {rule : ℕ} → ((x : Spot) → why_broken k (some (f x)) ≡ node_why k rule x.slot (node.At x.id) node.Nothing node.Nothing)
-        → i < n → q (node_in s i) ≡ true → {y : FoundNode} → y ≡ node.At (id_in s i)
-        → w ≡ node_why k rule i y node.Nothing node.Nothing → w ≡ why_broken k (at f (spot_from 0 q (view s).forest.nodes))
+    pub spot_broken : {rule : ℕ} → ((x : Spot) → why_broken k (Some (f x)) ≡ node_why k rule x.slot (Some x.id) None None)
+        → i < n → q (node_in s i) ≡ true → {y : Option FullNodeId} → y ≡ Some (id_in s i)
+        → w ≡ node_why k rule i y None None → w ≡ why_broken k (at f (spot_from 0 q (view s).forest.nodes))
     spot_broken says l e is t = t ∙ rw (seeking_here l e, is) (sym (says (record { slot = i; id = id_in s i })))
 
 -- what a search by index finds
 spot_from_lem : (q : NodeState → Bool) (k n : ℕ) (f : ℕ → NodeState) (r : ℕ) → First (λ i. q (f i)) n r
-    → spot_from k q (list_of n f) ≡ (if ltb r n then some (record { slot = k + r; id = (f r).id }) else none)
+    → spot_from k q (list_of n f) ≡ (if ltb r n then Some (record { slot = k + r; id = (f r).id }) else None)
 unfolding spot_from list_of
 spot_from_lem q k zero f r h = rw (le-ltb r zero (omega arith))
 spot_from_lem q k (suc n) f zero h = rw (lt-ltb zero (suc n) (omega arith), h.hit (omega arith), add-zero k)
@@ -97,16 +94,16 @@ spot_from_lem q k (suc n) f (suc r) h =
     rw (ltb_suc r n, h.passed zero (omega arith), ← next) (spot_from_lem q (suc k) n (λ i. f (suc i)) r (first_later (λ i. q (f i)) n r h))
 
 module _ (s : List ℕ) (q : NodeState → Bool) {n r : ℕ} (slots : n ≡ slots_of s) (first : First (λ i. q (node_in s i)) (slots_of s) r) where
-  pub spot_there : r < n → spot_from 0 q (view s).forest.nodes ≡ some (record { slot = r; id = id_in s r })
+  pub spot_there : r < n → spot_from 0 q (view s).forest.nodes ≡ Some (record { slot = r; id = id_in s r })
   unfolding view node_in
   spot_there h = spot_from_lem q 0 (slots_of s) (node_in s) r first ∙ rw (lt-ltb r (slots_of s) (rw slots at h), zero-add r)
 
-  pub spot_nowhere : n ≤ r → spot_from 0 q (view s).forest.nodes ≡ none
+  pub spot_nowhere : n ≤ r → spot_from 0 q (view s).forest.nodes ≡ None
   unfolding view
   spot_nowhere h = spot_from_lem q 0 (slots_of s) (node_in s) r first ∙ rw (le-ltb r (slots_of s) (rw slots at h))
 
 -- where there is none, each node fails
-spot_none : (q : NodeState → Bool) (k n : ℕ) (f : ℕ → NodeState) → spot_from k q (list_of n f) ≡ none → (i : ℕ) → i < n → q (f i) ≡ false
+spot_none : (q : NodeState → Bool) (k n : ℕ) (f : ℕ → NodeState) → spot_from k q (list_of n f) ≡ None → (i : ℕ) → i < n → q (f i) ≡ false
 unfolding spot_from list_of
 spot_none q k zero f e i h = absurd (omega arith)
 spot_none q k (suc n) f e zero h = by_test (q (f 0)) (λ t. absurd (true≢false (ap (λ o. is_some o) (rw t at e)))) (λ t. t)
@@ -114,7 +111,7 @@ spot_none q k (suc n) f e (suc i) h =
     by_test (q (f 0)) (λ t. absurd (true≢false (ap (λ o. is_some o) (rw t at e))))
     (λ t. spot_none q (suc k) n (λ j. f (suc j)) (rw t at e) i (omega arith))
 
-pub none_passes : (s : List ℕ) (q : NodeState → Bool) → spot_from 0 q (view s).forest.nodes ≡ none → (i : ℕ) → i < slots_of s → q (node_in s i) ≡ false
+pub none_passes : (s : List ℕ) (q : NodeState → Bool) → spot_from 0 q (view s).forest.nodes ≡ None → (i : ℕ) → i < slots_of s → q (node_in s i) ≡ false
 unfolding view
 none_passes s q e = spot_none q 0 (slots_of s) (node_in s) e
 
@@ -122,19 +119,19 @@ none_passes s q e = spot_none q 0 (slots_of s) (node_in s) e
 
 -- how many nodes and trees there are
 module _ (s : List ℕ) {k n : ℕ} {w : Why} where
-  pub few_nodes : n ≡ slots_of s → n ≤ 256 → w ≡ rule_why k 0 → w ≡ why_broken k (if leb (length (view s).forest.nodes) 256 then none else some tooManyNodes)
+  pub few_nodes : n ≡ slots_of s → n ≤ 256 → w ≡ rule_why k 0 → w ≡ why_broken k (if leb (length (view s).forest.nodes) 256 then None else Some tooManyNodes)
   unfolding why_broken
   few_nodes slots h e = e ∙ rw (nodes_many s, le-leb (slots_of s) 256 (rw slots at h))
 
-  pub many_nodes : n ≡ slots_of s → 256 < n → w ≡ rule_why k 1 → w ≡ why_broken k (if leb (length (view s).forest.nodes) 256 then none else some tooManyNodes)
+  pub many_nodes : n ≡ slots_of s → 256 < n → w ≡ rule_why k 1 → w ≡ why_broken k (if leb (length (view s).forest.nodes) 256 then None else Some tooManyNodes)
   unfolding why_broken
   many_nodes slots h e = e ∙ rw (nodes_many s, lt-leb (slots_of s) 256 (rw slots at h))
 
-  pub few_trees : n ≡ trees_of s → n ≤ 32 → w ≡ rule_why k 0 → w ≡ why_broken k (if leb (length (view s).forest.trees) 32 then none else some tooManyTrees)
+  pub few_trees : n ≡ trees_of s → n ≤ 32 → w ≡ rule_why k 0 → w ≡ why_broken k (if leb (length (view s).forest.trees) 32 then None else Some tooManyTrees)
   unfolding why_broken
   few_trees trees h e = e ∙ rw (trees_many s, le-leb (trees_of s) 32 (rw trees at h))
 
-  pub many_trees : n ≡ trees_of s → 32 < n → w ≡ rule_why k 2 → w ≡ why_broken k (if leb (length (view s).forest.trees) 32 then none else some tooManyTrees)
+  pub many_trees : n ≡ trees_of s → 32 < n → w ≡ rule_why k 2 → w ≡ why_broken k (if leb (length (view s).forest.trees) 32 then None else Some tooManyTrees)
   unfolding why_broken
   many_trees trees h e = e ∙ rw (trees_many s, lt-leb (trees_of s) 32 (rw trees at h))
 
@@ -143,8 +140,8 @@ pub fields_at : (s : List ℕ) (i : ℕ) {r b : Bool} → r ≡ fields_ok (body_
 unfolding node_in
 fields_at s i test h = ap not (sym test) ∙ h
 
-pub field_says : (k : ℕ) (x : Spot) → why_broken k (some (broken_field x)) ≡ node_why k 14 x.slot (node.At x.id) node.Nothing node.Nothing
-unfolding why_broken found
+pub field_says : (k : ℕ) (x : Spot) → why_broken k (Some (broken_field x)) ≡ node_why k 14 x.slot (Some x.id) None None
+unfolding why_broken
 field_says k x = refl
 
 -- ## Rule 13
@@ -186,7 +183,7 @@ module _ {s : List ℕ} {i n : ℕ} (g : Ascending s i) (slots : n ≡ slots_of 
     unfolding disorder_from node_in
     ascending_more h = record { rest = rest_more g.rest (nodes_at s i (rw slots at l)) (rw (call_true test h)) }
 
-    pub ascending_fails : {k : ℕ} {w : Why} → r ≡ false → {y : FoundNode} → y ≡ node.At (id_in s i) → w ≡ node_why k 13 i y node.Nothing node.Nothing
+    pub ascending_fails : {k : ℕ} {w : Why} → r ≡ false → {y : Option FullNodeId} → y ≡ Some (id_in s i) → w ≡ node_why k 13 i y None None
         → w ≡ why_broken k (disorder_from 0 (view s).forest.nodes)
-    unfolding why_broken disorder_from node_in found
+    unfolding why_broken disorder_from node_in
     ascending_fails {k} h is e = e ∙ rw is (ap (why_broken k) (rw (nodes_at s i (rw slots at l), call_false test h) at g.rest.same))

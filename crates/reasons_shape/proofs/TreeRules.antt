@@ -1,12 +1,11 @@
 -- Rules 9 to 12, by slot and by tree number. Assumes nothing.
 use mathlib.Core.Bool.{Bool, true, false, ◌||◌}
 use mathlib.Core.List.{List, [], ◌∷◌}
-use mathlib.Core.Option.{Option, none, some}
 use mathlib.Core.Path.{◌≡◌, refl, sym, ap, ◌∙◌}
 use Prim.Native.Nat.{ℕ, zero, suc, ◌+◌, ◌≤◌, ◌<◌}
 use native.Mathlib.Numerals.{add-one}
 use lib.ListN.{drop}
-use Rattle.std.specs.Prelude.{if◌then◌else◌}
+use Rattle.std.specs.Prelude.{if◌then◌else◌, Option, None, Some}
 use Rattle.base.specs.Tests.{any, has}
 use Rattle.base.specs.Bytes.{bit, list_of}
 use Rattle.base.specs.Search.{First}
@@ -19,15 +18,12 @@ use Rattle.ids.specs.declared.FullNodeId.{FullNodeId}
 use Rattle.record.specs.Batch.{graft?}
 use Rattle.reasons.specs.Reasons.{Regraft, Broken, grafted_twice}
 use Rattle.reasons.specs.Shape.{graft_twice_from, tree_twice_from, unrooted_from}
-use Rattle.reasons_why.specs.Why.{why_broken, found}
+use Rattle.reasons_why.specs.Why.{why_broken}
 use Rattle.reasons_why.specs.declared.Why.{Why}
 use Rattle.state.specs.State.{NodeState, TreeEntry, holder}
 use Rattle.state_array.specs.declared.ShapeRow.{ShapeRow}
 use Rattle.state_array.specs.declared.TreeRow.{TreeRow}
 use Rattle.state_array.specs.View.{graft_in, id_in, shape_in, body_in, node_in, tree_in, entry_in, slots_of, trees_of, view}
-use Rattle.state_focus.specs.declared.FoundNode.{FoundNode}
-use Rattle.state_focus.specs.declared.FoundNode.TheVariants as node
-use Rattle.state_focus.specs.Focus.{found_of}
 use Rattle.state_rules.specs.Parts.{grafts_tree, rooted_in}
 use Rattle.state_rules.proofs.Grafts.{graft_none, graft_some, grafts_at}
 use Rattle.state_rules.proofs.Trees.{old_id, old_found, new_found, rooted_row}
@@ -40,13 +36,13 @@ use Rattle.reasons_shape.proofs.Slots.{nodes, nodes_at, nodes_past}
 -- the holder of a tree among the node in slot j and others
 module _ (s : List ℕ) (t : TreeId) (j : ℕ) (ns : List NodeState) where
   abbrev first_or : Bool → Option FullNodeId
-  first_or b = elim (if b then some (node_in s j).id else none) as (λ _. Option FullNodeId) [ none ↦ holder ns t | some y ↦ some y ]
+  first_or b = elim (if b then Some (node_in s j).id else None) as (λ _. Option FullNodeId) [ None ↦ holder ns t | Some y ↦ Some y ]
 
   holder_cons : holder (node_in s j ∷ ns) t ≡ first_or (grafts_tree s t j)
   unfolding holder
   holder_cons = ap first_or (grafts_at s t j)
 
-  holder_here : grafts_tree s t j ≡ true → holder (node_in s j ∷ ns) t ≡ some (id_in s j)
+  holder_here : grafts_tree s t j ≡ true → holder (node_in s j ∷ ns) t ≡ Some (id_in s j)
   unfolding node_in
   holder_here e = holder_cons ∙ rw e
 
@@ -61,14 +57,13 @@ pub holding_start : {s : List ℕ} {t : TreeId} {i : ℕ} → Holding s t i i
 holding_start = record { same = refl }
 
 module _ {s : List ℕ} {t : TreeId} {i j n : ℕ} (g : Holding s t i j) (slots : n ≡ slots_of s) where
-  pub holding_end : n ≤ j → found_of node.Nothing ≡ holder (drop i (view s).forest.nodes) t
-  unfolding found_of holder
+  pub holding_end : n ≤ j → None ≡ holder (drop i (view s).forest.nodes) t
+  unfolding holder
   holding_end h = rw (nodes_past s j (rw slots at h)) at g.same
 
   module _ (l : j < n) {r : Bool} (test : r ≡ grafts_tree s t j) where
-    pub holding_here : r ≡ true → {y : FoundNode} → y ≡ node.At (id_in s j) → found_of y ≡ holder (drop i (view s).forest.nodes) t
-    unfolding found_of
-    holding_here h is = ap found_of is ∙ sym (holder_here s t j (drop (j + 1) (nodes s)) (sym test ∙ h)) ∙ rw (nodes_at s j (rw slots at l)) at g.same
+    pub holding_here : r ≡ true → {y : Option FullNodeId} → y ≡ Some (id_in s j) → y ≡ holder (drop i (view s).forest.nodes) t
+    holding_here h is = is ∙ sym (holder_here s t j (drop (j + 1) (nodes s)) (sym test ∙ h)) ∙ rw (nodes_at s j (rw slots at l)) at g.same
 
     pub holding_more : r ≡ false → Holding s t i (j + 1)
     holding_more h = record { same = sym (holder_later s t j (drop (j + 1) (nodes s)) (sym test ∙ h)) ∙ rw (nodes_at s j (rw slots at l)) at g.same }
@@ -80,7 +75,7 @@ graft_at_lem s i = refl
 
 -- the rule's answer
 abbrev pub regraft : Option Regraft → Option Broken
-regraft o = elim o [ none ↦ none | some z ↦ some (grafted_twice z) ]
+regraft o = elim o [ None ↦ None | Some z ↦ Some (grafted_twice z) ]
 
 -- no slot before i has a graft whose tree a later one grafts too
 pub record Regrafting (s : List ℕ) (i : ℕ) : Type 0 where
@@ -99,27 +94,27 @@ module _ {s : List ℕ} {i n : ℕ} (g : Regrafting s i) (slots : n ≡ slots_of
     pub regrafting_plain : b ≡ false → Regrafting s (i + 1)
     unfolding graft_twice_from
     regrafting_plain h =
-        let plain : graft? (node_in s i).body ≡ none = graft_at_lem s i ∙ graft_none s i (rw is at (call_false flag h)) in
+        let plain : graft? (node_in s i).body ≡ None = graft_at_lem s i ∙ graft_none s i (rw is at (call_false flag h)) in
         record { rest = rest_more g.rest (nodes_at s i (rw slots at l)) (rw (plain, graft_twice_from)) }
 
-    grafts : b ≡ true → graft? (node_in s i).body ≡ some d.graft
+    grafts : b ≡ true → graft? (node_in s i).body ≡ Some d.graft
     grafts h = graft_at_lem s i ∙ graft_some s i (rw is at (call_true flag h)) ∙ rw is
 
-    module _ (h : b ≡ true) (o : FoundNode) (later : found_of o ≡ holder (drop (i + 1) (view s).forest.nodes) d.graft) where
+    module _ (h : b ≡ true) (o : Option FullNodeId) (later : o ≡ holder (drop (i + 1) (view s).forest.nodes) d.graft) where
       -- a graft alone
-      pub regrafting_alone : o ≡ node.Nothing → Regrafting s (i + 1)
-      unfolding graft_twice_from found_of
+      pub regrafting_alone : o ≡ None → Regrafting s (i + 1)
+      unfolding graft_twice_from
       regrafting_alone q =
-          record { rest = rest_more g.rest (nodes_at s i (rw slots at l)) (rw (grafts h, graft_twice_from, sym later ∙ ap found_of q)) }
+          record { rest = rest_more g.rest (nodes_at s i (rw slots at l)) (rw (grafts h, graft_twice_from, sym later ∙ q)) }
 
       -- one of two
-      pub regrafting_fails : {k : ℕ} {w : Why} {y : FullNodeId} → o ≡ node.At y → {x : FoundNode} → x ≡ node.At (id_in s i) → {t : TreeId} → t ≡ d.graft
-          → w ≡ record { number = k; rule = 9; place = i; other = 0; tree = t; node = x; by = node.Nothing; also = node.At y }
+      pub regrafting_fails : {k : ℕ} {w : Why} {y : FullNodeId} → o ≡ Some y → {x : Option FullNodeId} → x ≡ Some (id_in s i) → {t : TreeId} → t ≡ d.graft
+          → w ≡ record { number = k; rule = 9; place = i; other = 0; tree = t; node = x; by = None; also = Some y }
           → w ≡ why_broken k (regraft (graft_twice_from 0 (view s).forest.nodes))
-      unfolding why_broken graft_twice_from found_of found node_in
+      unfolding why_broken graft_twice_from node_in
       regrafting_fails {k} q here tree e =
           e ∙ rw (here, tree)
-          (ap (λ z. why_broken k (regraft z)) (rw (nodes_at s i (rw slots at l), grafts h, graft_twice_from, sym later ∙ ap found_of q) at g.rest.same))
+          (ap (λ z. why_broken k (regraft z)) (rw (nodes_at s i (rw slots at l), grafts h, graft_twice_from, sym later ∙ q) at g.rest.same))
 
 -- ## Rules 11 and 12
 
@@ -156,8 +151,8 @@ module _ (s : List ℕ) where
 
 -- a rule and a tree, by the tree's row
 pub tree_says : (s : List ℕ) (number rule k : ℕ) {t : TreeRow} → t ≡ tree_in s k
-    → record { number = number; rule = rule; place = k; other = 0; tree = t.id; node = node.Nothing; by = node.Nothing; also = node.Nothing } ≡ tree_why s number rule k
-unfolding tree_why found
+    → record { number = number; rule = rule; place = k; other = 0; tree = t.id; node = None; by = None; also = None } ≡ tree_why s number rule k
+unfolding tree_why
 tree_says s number rule k is = rw is
 
 -- the numbers before k have ids of their own

@@ -1,6 +1,5 @@
 -- What the marks of slots and the links of a node say of the nodes reached. Assumes nothing.
-use Rattle.std.specs.Prelude.{Bool, not, List, [], ◌∷◌, ◌≡◌, ℕ, min, ◌≤◌, ◌<◌, eqb, length, get_or, if◌then◌else◌}
-use Rattle.std.proofs.Math.Option.{Option, none}
+use Rattle.std.specs.Prelude.{Bool, not, List, [], ◌∷◌, ◌≡◌, ℕ, min, ◌≤◌, ◌<◌, eqb, length, get_or, if◌then◌else◌, Option, None}
 use Rattle.base.specs.Tests.{◌and◌, has}
 use Rattle.base.specs.Bytes.{all_below}
 use Rattle.ids.specs.Ids.{same_id}
@@ -54,7 +53,7 @@ root_mark s root i = if same_id (id_in s i) root then 2 else 0
 
 -- the first of some links, none where there is none
 unfoldable pub first_link : List (Option ParentAndIndex) → Option ParentAndIndex
-first_link [] = none
+first_link [] = None
 first_link (l ∷ ls) = l
 
 -- how many links there are, up to 2, and the first

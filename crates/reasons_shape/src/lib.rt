@@ -6,7 +6,6 @@ mod reached;
 mod trees;
 
 ghost use Rattle.std.specs.Prelude.{not, ◌≡◌, ◌+◌, ◌<◌, leb, length, drop, if◌then◌else◌};
-ghost use Rattle.std.proofs.Math.Option.{none, some};
 ghost use Rattle.base.specs.Tests.{all};
 ghost use Rattle.ids.specs.Ids.{before};
 ghost use Rattle.record.specs.Batch.{fields_ok};
@@ -15,13 +14,11 @@ ghost use Rattle.reasons.specs.Shape.{spot, at, disorder_from, broken_shape, bro
 ghost use Rattle.reasons_why.specs.Why.{why_broken};
 ghost use Rattle.state.specs.Sound.{focus_present};
 ghost use Rattle.state_array.specs.View.{view, id_in, slots_of};
-ghost use Rattle.state_focus.specs.declared.FoundNode.TheVariants as node;
 ghost use Rattle.reasons_shape.specs.Rules.{rule_why, node_why};
 
-use ids::TreeId;
+use ids::{FullNodeId, TreeId};
 use reasons_why::Why;
 use state_array::State;
-use state_focus::FoundNode;
 
 // The first rule of a sound state that is broken: number 1.
 pub fn broken_state(state: &State) -> Why
@@ -70,7 +67,7 @@ fn shape(state: &State, number: u8) -> Why
 
 // Rule 1: at most 256 nodes.
 fn node_count(state: &State) -> Why
-    ensures { result ≡ why_broken 1 (if leb (length (view state.now).forest.nodes) 256 then none else some tooManyNodes) }
+    ensures { result ≡ why_broken 1 (if leb (length (view state.now).forest.nodes) 256 then None else Some tooManyNodes) }
 {
     if 256 < state_array::slots(state) {
         return of_rule(1, 1);
@@ -80,7 +77,7 @@ fn node_count(state: &State) -> Why
 
 // Rule 2: at most 32 tree numbers.
 fn tree_count(state: &State) -> Why
-    ensures { result ≡ why_broken 1 (if leb (length (view state.now).forest.trees) 32 then none else some tooManyTrees) }
+    ensures { result ≡ why_broken 1 (if leb (length (view state.now).forest.trees) 32 then None else Some tooManyTrees) }
 {
     if 32 < state_array::trees(state) {
         return of_rule(1, 2);
@@ -93,19 +90,10 @@ fn disorder(state: &State, number: u8) -> Why
     ensures { result ≡ why_broken number (disorder_from 0 (view state.now).forest.nodes) }
 {
     let n = state_array::slots(state);
-    let mut i = 0usize;
-    while i < n {
+    for i in 0..n {
         if !is_first_after(state, i) {
-            return of_node(
-                number,
-                13,
-                i,
-                id_found(state, i),
-                FoundNode::Nothing,
-                FoundNode::Nothing,
-            );
+            return of_node(number, 13, i, id_found(state, i), None, None);
         }
-        i += 1;
     }
     of_rule(number, 0)
 }
@@ -117,12 +105,10 @@ fn is_first_after(state: &State, i: usize) -> bool
 {
     let n = state_array::slots(state);
     let x = state_array::id_at(state, i);
-    let mut j = i + 1;
-    while j < n {
+    for j in i + 1..n {
         if !ids::is_before(x, state_array::id_at(state, j)) {
             return false;
         }
-        j += 1;
     }
     true
 }
@@ -132,26 +118,17 @@ fn fields(state: &State) -> Why
     ensures { result ≡ why_broken 1 (at broken_field (spot (λ n. not (fields_ok n.body)) (view state.now).forest.nodes)) }
 {
     let n = state_array::slots(state);
-    let mut i = 0usize;
-    while i < n {
+    for i in 0..n {
         if !state_fields::fields_ok_at(state, i) {
-            return of_node(
-                1,
-                14,
-                i,
-                id_found(state, i),
-                FoundNode::Nothing,
-                FoundNode::Nothing,
-            );
+            return of_node(1, 14, i, id_found(state, i), None, None);
         }
-        i += 1;
     }
     of_rule(1, 0)
 }
 
 // Rule 15: the effective focus is present.
 fn focus(state: &State) -> Why
-    ensures { result ≡ why_broken 1 (if focus_present (view state.now).forest then none else some no_focus) }
+    ensures { result ≡ why_broken 1 (if focus_present (view state.now).forest then None else Some no_focus) }
 {
     if state_rules::focus_is_present(state) {
         return of_rule(1, 0);
@@ -163,14 +140,7 @@ fn focus(state: &State) -> Why
 pub(crate) fn of_rule(number: u8, rule: u8) -> Why
     ensures { result ≡ rule_why number rule }
 {
-    of_node(
-        number,
-        rule,
-        0,
-        FoundNode::Nothing,
-        FoundNode::Nothing,
-        FoundNode::Nothing,
-    )
+    of_node(number, rule, 0, None, None, None)
 }
 
 // A rule, the slot of the node that breaks it, and what else there is to say.
@@ -178,9 +148,9 @@ pub(crate) fn of_node(
     number: u8,
     rule: u8,
     place: usize,
-    node: FoundNode,
-    by: FoundNode,
-    also: FoundNode,
+    node: Option<FullNodeId>,
+    by: Option<FullNodeId>,
+    also: Option<FullNodeId>,
 ) -> Why
     ensures { result ≡ node_why number rule place node by also }
 {
@@ -197,8 +167,8 @@ pub(crate) fn of_node(
 }
 
 // The id in a slot.
-pub(crate) fn id_found(state: &State, i: usize) -> FoundNode
-    ensures { result ≡ node.At (id_in state.now i) }
+pub(crate) fn id_found(state: &State, i: usize) -> Option<FullNodeId>
+    ensures { result ≡ Some (id_in state.now i) }
 {
-    FoundNode::At(state_array::id_at(state, i))
+    Some(state_array::id_at(state, i))
 }

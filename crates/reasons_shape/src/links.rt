@@ -1,16 +1,15 @@
 // The rules for links, in the order in which they are asked.
-ghost use Rattle.std.specs.Prelude.{not, List, [], ◌∷◌, ◌++◌, ◌≡◌, ◌<◌};
+ghost use Rattle.std.specs.Prelude.{not, [], ◌∷◌, ◌≡◌, ◌<◌};
 ghost use Rattle.base.specs.Search.{First};
-ghost use Rattle.base.specs.Tests.{◌and◌, is_nil, keep, same_option};
+ghost use Rattle.base.specs.Tests.{◌and◌, is_nil, same_option};
 ghost use Rattle.ids.specs.declared.FullNodeId.{FullNodeId};
 ghost use Rattle.reasons.specs.Reasons.{too_many_children, met_twice, graft_with_children};
-ghost use Rattle.reasons.specs.Shape.{spot, at, smallest, ids_below, met_links, crowded, absent_ids, absence, is_met_twice, topmost_within, unmet, wrong_link_from, broken_links};
+ghost use Rattle.reasons.specs.Shape.{spot, at, smallest, met_links, crowded, absent_ids, absence, is_met_twice, topmost_within, unmet, wrong_link_from, broken_links};
 ghost use Rattle.reasons_shape.specs.Reached.{Few, reached_in, Marked, below_at};
 ghost use Rattle.reasons_why.specs.Why.{why_broken};
 ghost use Rattle.state.specs.State.{present, same_link, parent_of, parent_at};
 ghost use Rattle.state.specs.Sound.{graft_is_bare};
 ghost use Rattle.state_array.specs.View.{view, slots_of, node_in, link_of};
-ghost use Rattle.state_focus.specs.Focus.{found_of};
 ghost use Rattle.reasons_shape.specs.Rules.{LeastWith, absent_under, broken_ways, ClimbSays};
 
 use crate::reached::{Slots, is_below, met_links};
@@ -18,14 +17,13 @@ use crate::{id_found, of_node, of_rule, reached};
 use ids::FullNodeId;
 use reasons_why::Why;
 use state_array::{LinkRow, State};
-use state_focus::FoundNode;
-use state_rules::{Kid, kid_at};
+use state_rules::kid_at;
 
 // The topmost node above one that is never met, and the parent that it records; nothing where they go round in a circle.
 #[derive(Clone, Copy)]
 struct Climb {
-    node: FoundNode,
-    by: FoundNode,
+    node: Option<FullNodeId>,
+    by: Option<FullNodeId>,
 }
 
 // The first rule for links that is broken.
@@ -69,19 +67,10 @@ fn crowd(state: &State, number: u8) -> Why
     ensures { result ≡ why_broken number (at too_many_children (spot crowded (view state.now).forest.nodes)) }
 {
     let n = state_array::slots(state);
-    let mut i = 0usize;
-    while i < n {
+    for i in 0..n {
         if is_crowded(state, i) {
-            return of_node(
-                number,
-                3,
-                i,
-                id_found(state, i),
-                FoundNode::Nothing,
-                FoundNode::Nothing,
-            );
+            return of_node(number, 3, i, id_found(state, i), None, None);
         }
-        i += 1;
     }
     of_rule(number, 0)
 }
@@ -100,46 +89,41 @@ fn absence(state: &State, number: u8) -> Why
     ensures { result ≡ why_broken number (absence (view state.now).forest) }
 {
     let least = least_absent(state);
-    let FoundNode::At(x) = least else {
+    let Some(x) = least else {
         return of_rule(number, 0);
     };
     let p = first_above(state, x);
     if state_array::slots(state) <= p {
         return of_rule(number, 0);
     }
-    of_node(number, 4, p, least, id_found(state, p), FoundNode::Nothing)
+    of_node(number, 4, p, least, id_found(state, p), None)
 }
 
 // The smallest id below a node that is absent.
-fn least_absent(state: &State) -> FoundNode
+fn least_absent(state: &State) -> Option<FullNodeId>
     requires { Few state.now }
-    ensures { found_of result ≡ smallest (absent_ids (view state.now).forest (view state.now).forest.nodes) }
+    ensures { result ≡ smallest (absent_ids (view state.now).forest (view state.now).forest.nodes) }
 {
     let n = state_array::slots(state);
-    let mut least = FoundNode::Nothing;
-    let mut p = 0usize;
-    while p < n {
+    let mut least = None;
+    for p in 0..n {
         least = least_below(state, p, least);
-        p += 1;
     }
     least
 }
 
 // The smaller of an id and the smallest absent one below the node in slot p.
-fn least_below(state: &State, p: usize, least: FoundNode) -> FoundNode
+fn least_below(state: &State, p: usize, least: Option<FullNodeId>) -> Option<FullNodeId>
     requires few { Few state.now }
     requires p_bound { p < slots_of state.now }
     ensures { LeastWith least (absent_under state.now p) result }
 {
     let n = state_array::slots(state);
     let mut all = least;
-    let mut j = 0usize;
-    while j < 256 {
-        let place = j;
-        let Kid::At(y) = kid_at(state, p, place) else {
+    for place in 0..256 {
+        let Some(y) = kid_at(state, p, place) else {
             return all;
         };
-        j += 1;
         if state_lookup::find_in(state, y) < n {
             continue;
         }
@@ -149,16 +133,16 @@ fn least_below(state: &State, p: usize, least: FoundNode) -> FoundNode
 }
 
 // The smaller of an id, if there is one, and another.
-fn lesser(least: FoundNode, y: FullNodeId) -> FoundNode
+fn lesser(least: Option<FullNodeId>, y: FullNodeId) -> Option<FullNodeId>
     ensures { LeastWith least (y ∷ []) result }
 {
-    let FoundNode::At(x) = least else {
-        return FoundNode::At(y);
+    let Some(x) = least else {
+        return Some(y);
     };
     if ids::is_before(y, x) {
-        return FoundNode::At(y);
+        return Some(y);
     }
-    FoundNode::At(x)
+    Some(x)
 }
 
 // The first slot of a node above x, their number where there is none.
@@ -167,12 +151,10 @@ fn first_above(state: &State, x: FullNodeId) -> usize
     ensures { First (below_at state.now x) (slots_of state.now) result }
 {
     let n = state_array::slots(state);
-    let mut p = 0usize;
-    while p < n {
+    for p in 0..n {
         if is_below(state, p, x) {
             return p;
         }
-        p += 1;
     }
     n
 }
@@ -184,19 +166,10 @@ fn met_twice<'a>(state: &'a State, marks: &'a Slots, number: u8) -> Why
     ensures { result ≡ why_broken number (at met_twice (spot (is_met_twice (view state.now).forest (reached_in state.now)) (view state.now).forest.nodes)) }
 {
     let n = state_array::slots(state);
-    let mut i = 0usize;
-    while i < n {
+    for i in 0..n {
         if is_met_twice(state, marks, i) {
-            return of_node(
-                number,
-                5,
-                i,
-                id_found(state, i),
-                FoundNode::Nothing,
-                FoundNode::Nothing,
-            );
+            return of_node(number, 5, i, id_found(state, i), None, None);
         }
-        i += 1;
     }
     of_rule(number, 0)
 }
@@ -218,16 +191,14 @@ fn never_met<'a>(state: &'a State, marks: &'a Slots, number: u8) -> Why
     ensures { result ≡ why_broken number (unmet (view state.now).forest (reached_in state.now)) }
 {
     let n = state_array::slots(state);
-    let mut i = 0usize;
-    while i < n {
+    for i in 0..n {
         let x = state_array::id_at(state, i);
         if is_unmet(state, marks, x) {
             let top = topmost(state, marks, x);
             let by = top.by;
             let node = top.node;
-            return of_node(number, 6, i, FoundNode::At(x), by, node);
+            return of_node(number, 6, i, Some(x), by, node);
         }
-        i += 1;
     }
     of_rule(number, 0)
 }
@@ -248,50 +219,49 @@ fn topmost<'a>(state: &'a State, marks: &'a Slots, x: FullNodeId) -> Climb
     requires marked { Marked state.now (reached_in state.now) marks.now }
     ensures { ClimbSays (topmost_within (slots_of state.now) (view state.now).forest (reached_in state.now) x) result }
 {
-    let mut left = state_array::slots(state);
+    let n = state_array::slots(state);
     let mut at = x;
-    while 0 < left {
-        let FoundNode::At(p) = parent_at(state, at) else {
+    for _ in 0..n {
+        let Some(p) = parent_at(state, at) else {
             return Climb {
-                node: FoundNode::At(at),
-                by: FoundNode::Nothing,
+                node: Some(at),
+                by: None,
             };
         };
         if !is_lost(state, marks, p) {
             return Climb {
-                node: FoundNode::At(at),
-                by: FoundNode::At(p),
+                node: Some(at),
+                by: Some(p),
             };
         }
         at = p;
-        left -= 1;
     }
     Climb {
-        node: FoundNode::Nothing,
-        by: FoundNode::Nothing,
+        node: None,
+        by: None,
     }
 }
 
 // The parent that a node records.
-fn parent_at(state: &State, x: FullNodeId) -> FoundNode
-    ensures { found_of result ≡ parent_at (view state.now).forest.nodes x }
+fn parent_at(state: &State, x: FullNodeId) -> Option<FullNodeId>
+    ensures { result ≡ parent_at (view state.now).forest.nodes x }
 {
     let i = state_lookup::find_in(state, x);
     if state_array::slots(state) <= i {
-        return FoundNode::Nothing;
+        return None;
     }
     parent_of(state_array::link_at(state, i))
 }
 
 // The parent of a link.
-fn parent_of(l: LinkRow) -> FoundNode
-    ensures { found_of result ≡ parent_of (link_of l) }
+fn parent_of(l: LinkRow) -> Option<FullNodeId>
+    ensures { result ≡ parent_of (link_of l) }
 {
     if l.linked == 0 {
-        return FoundNode::Nothing;
+        return None;
     }
     let parent = l.parent;
-    FoundNode::At(parent)
+    Some(parent)
 }
 
 // Whether p is present and never met.
@@ -310,8 +280,7 @@ fn wrong_link<'a>(state: &'a State, marks: &'a Slots, number: u8) -> Why
     ensures { result ≡ why_broken number (wrong_link_from 0 (view state.now).forest (reached_in state.now) (view state.now).forest.nodes) }
 {
     let n = state_array::slots(state);
-    let mut i = 0usize;
-    while i < n {
+    for i in 0..n {
         let l = state_array::link_at(state, i);
         let met = met_links(state, marks, state_array::id_at(state, i));
         let first = met.first;
@@ -325,7 +294,6 @@ fn wrong_link<'a>(state: &'a State, marks: &'a Slots, number: u8) -> Why
                 parent_of(first),
             );
         }
-        i += 1;
     }
     of_rule(number, 0)
 }
@@ -337,7 +305,7 @@ fn same_link(k: LinkRow, l: LinkRow) -> bool
     if k.linked == 0 {
         return l.linked == 0;
     }
-    (l.linked != 0) & (ids::same_id(k.parent, l.parent) & (k.index == l.index))
+    (l.linked != 0) & ((k.parent == l.parent) & (k.index == l.index))
 }
 
 // Rule 8: no graft has children.
@@ -345,19 +313,10 @@ fn burdened(state: &State, number: u8) -> Why
     ensures { result ≡ why_broken number (at graft_with_children (spot (λ n. not (graft_is_bare n)) (view state.now).forest.nodes)) }
 {
     let n = state_array::slots(state);
-    let mut i = 0usize;
-    while i < n {
+    for i in 0..n {
         if !state_rules::is_bare(state, i) {
-            return of_node(
-                number,
-                8,
-                i,
-                id_found(state, i),
-                FoundNode::Nothing,
-                FoundNode::Nothing,
-            );
+            return of_node(number, 8, i, id_found(state, i), None, None);
         }
-        i += 1;
     }
     of_rule(number, 0)
 }

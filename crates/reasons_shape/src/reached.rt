@@ -1,7 +1,6 @@
 // Which nodes are reached from ROOT's root of a state, and the links under which a node is met, going down once from each node reached: for any
 // words in which no node has more than 256 children.
-ghost use Rattle.std.specs.Prelude.{List, [], ◌∷◌, ◌++◌, ◌≡◌, ◌<◌, if◌then◌else◌};
-ghost use Rattle.std.proofs.Math.Option.{Option, none, some};
+ghost use Rattle.std.specs.Prelude.{List, [], ◌∷◌, ◌++◌, ◌≡◌, ◌<◌, if◌then◌else◌, Option};
 ghost use Rattle.base.specs.Tests.{same_option};
 ghost use Rattle.ids.specs.Ids.{same_id};
 ghost use Rattle.reasons.specs.Shape.{links_below, met_links};
@@ -12,8 +11,7 @@ ghost use Rattle.reasons_shape.specs.Reached.{Few, reached_in, below_at, leads_t
 
 use ids::{FullNodeId, NodeId, TreeId, TreeIndex};
 use state_array::{LinkRow, State};
-use state_lookup::FoundTree;
-use state_rules::{Kid, kid_at};
+use state_rules::kid_at;
 
 // Links under which a node is met: 0, 1, or 2 for more than one; and the first.
 #[derive(Clone, Copy)]
@@ -30,16 +28,14 @@ pub(crate) fn reached(state: &State) -> Slots
     requires { Few state.now }
     ensures { Marked state.now (reached_in state.now) result }
 {
-    let FoundTree::At(e) = state_lookup::tree_of(state, TreeId { high: 0, low: 0 }) else {
+    let Some(e) = state_lookup::tree_of(state, TreeId { high: 0, low: 0 }) else {
         return [0u8; state_array::SLOTS];
     };
     let root = e.root;
     let n = state_array::slots(state);
     let mut marks = root_marks(state, root);
-    let mut k = 0usize;
-    while k < n {
+    for _ in 0..n {
         marks = widened(state, &marks);
-        k += 1;
     }
     marks
 }
@@ -51,10 +47,8 @@ fn widened<'a>(state: &'a State, marks: &'a Slots) -> Slots
 {
     let n = state_array::slots(state);
     let mut next = [0u8; state_array::SLOTS];
-    let mut i = 0usize;
-    while i < n {
+    for i in 0..n {
         next[i] = next_mark(state, marks, i);
-        i += 1;
     }
     next
 }
@@ -80,12 +74,10 @@ fn none_leads<'a>(state: &'a State, marks: &'a Slots, x: FullNodeId) -> bool
     ensures { result ≡ none_leads state.now marks.now x }
 {
     let n = state_array::slots(state);
-    let mut p = 0usize;
-    while p < n {
+    for p in 0..n {
         if leads_to(state, marks, x, p) {
             return false;
         }
-        p += 1;
     }
     true
 }
@@ -108,15 +100,13 @@ pub(crate) fn is_below(state: &State, p: usize, x: FullNodeId) -> bool
     requires p_bound { p < slots_of state.now }
     ensures { result ≡ below_at state.now x p }
 {
-    let mut j = 0usize;
-    while j < 256 {
-        let Kid::At(y) = kid_at(state, p, j) else {
+    for j in 0..256 {
+        let Some(y) = kid_at(state, p, j) else {
             return false;
         };
-        if ids::same_id(x, y) {
+        if x == y {
             return true;
         }
-        j += 1;
     }
     false
 }
@@ -127,10 +117,8 @@ fn root_marks(state: &State, root: FullNodeId) -> Slots
 {
     let n = state_array::slots(state);
     let mut marks = [0u8; state_array::SLOTS];
-    let mut i = 0usize;
-    while i < n {
+    for i in 0..n {
         marks[i] = root_mark(state, root, i);
-        i += 1;
     }
     marks
 }
@@ -139,7 +127,7 @@ fn root_marks(state: &State, root: FullNodeId) -> Slots
 fn root_mark(state: &State, root: FullNodeId, i: usize) -> u8
     ensures { result ≡ root_mark state.now root i }
 {
-    if ids::same_id(state_array::id_at(state, i), root) {
+    if state_array::id_at(state, i) == root {
         return 2;
     }
     0
@@ -153,10 +141,7 @@ pub(crate) fn met_links<'a>(state: &'a State, marks: &'a Slots, x: FullNodeId) -
 {
     let n = state_array::slots(state);
     let mut links = root_links(state, x);
-    let mut i = 0usize;
-    while i < n {
-        let p = i;
-        i += 1;
+    for p in 0..n {
         if marks[p] == 0 {
             continue;
         }
@@ -167,13 +152,13 @@ pub(crate) fn met_links<'a>(state: &'a State, marks: &'a Slots, x: FullNodeId) -
 
 // The links under which x is met as the root.
 fn root_links(state: &State, x: FullNodeId) -> Links
-    ensures { Tells (if same_option same_id (root_of (view state.now).forest) (some x) then none ∷ [] else []) result }
+    ensures { Tells (if same_option same_id (root_of (view state.now).forest) (Some x) then None ∷ [] else []) result }
 {
-    let FoundTree::At(e) = state_lookup::tree_of(state, TreeId { high: 0, low: 0 }) else {
+    let Some(e) = state_lookup::tree_of(state, TreeId { high: 0, low: 0 }) else {
         return no_link(0);
     };
     let root = e.root;
-    if ids::same_id(root, x) {
+    if root == x {
         return no_link(1);
     }
     no_link(0)
@@ -181,7 +166,7 @@ fn root_links(state: &State, x: FullNodeId) -> Links
 
 // No link, or the root's.
 fn no_link(count: u64) -> Links
-    ensures { (result.count ≡ count) × (link_of result.first ≡ none) }
+    ensures { (result.count ≡ count) × (link_of result.first ≡ None) }
 {
     Links {
         count,
@@ -204,14 +189,11 @@ fn add_below(state: &State, p: usize, x: FullNodeId, links: Links) -> Links
 {
     let parent = state_array::id_at(state, p);
     let mut all = links;
-    let mut j = 0usize;
-    while j < 256 {
-        let place = j;
-        let Kid::At(y) = kid_at(state, p, place) else {
+    for place in 0..256 {
+        let Some(y) = kid_at(state, p, place) else {
             return all;
         };
-        j += 1;
-        if !ids::same_id(x, y) {
+        if x != y {
             continue;
         }
         let index = place as u64;

@@ -1,13 +1,11 @@
 // The rules for trees, in document 01's order.
 ghost use Rattle.std.specs.Prelude.{[], ◌≡◌, ◌+◌, ◌<◌, drop, if◌then◌else◌};
-ghost use Rattle.std.proofs.Math.Option.{none, some};
 ghost use Rattle.reasons.specs.Reasons.{grafted_twice, root_not_first};
 ghost use Rattle.reasons.specs.Shape.{graft_twice_from, tree_twice_from, unrooted_from, broken_trees};
 ghost use Rattle.reasons_why.specs.Why.{why_broken};
 ghost use Rattle.state.specs.State.{holder};
 ghost use Rattle.state.specs.Sound.{root_first};
 ghost use Rattle.state_array.specs.View.{view, slots_of, trees_of};
-ghost use Rattle.state_focus.specs.Focus.{found_of};
 ghost use Rattle.state_rules.specs.Parts.{rooted_in};
 ghost use Rattle.reasons_shape.specs.Rules.{tree_why};
 
@@ -15,7 +13,6 @@ use crate::{id_found, of_rule};
 use ids::{FullNodeId, TreeId, TreeIndex};
 use reasons_why::Why;
 use state_array::State;
-use state_focus::FoundNode;
 
 // The first rule for trees that is broken.
 pub(crate) fn broken_trees(state: &State, number: u8) -> Why
@@ -38,54 +35,49 @@ pub(crate) fn broken_trees(state: &State, number: u8) -> Why
 
 // Rule 9: no tree is grafted by two nodes.
 fn graft_twice(state: &State, number: u8) -> Why
-    ensures { result ≡ why_broken number (elim (graft_twice_from 0 (view state.now).forest.nodes) [ none ↦ none | some g ↦ some (grafted_twice g) ]) }
+    ensures { result ≡ why_broken number (elim (graft_twice_from 0 (view state.now).forest.nodes) [ None ↦ None | Some g ↦ Some (grafted_twice g) ]) }
 {
     let n = state_array::slots(state);
-    let mut i = 0usize;
-    while i < n {
-        let at = i;
-        i += 1;
-        let d = state_array::shape_at(state, at);
+    for i in 0..n {
+        let d = state_array::shape_at(state, i);
         if !state_array::is_graft(d.flags) {
             continue;
         }
         let tree = d.graft;
-        let FoundNode::At(other) = later_graft(state, at, tree) else {
+        let Some(other) = later_graft(state, i, tree) else {
             continue;
         };
         return Why {
             number,
             rule: 9,
-            place: at,
+            place: i,
             other: 0,
             tree,
-            node: id_found(state, at),
-            by: FoundNode::Nothing,
-            also: FoundNode::At(other),
+            node: id_found(state, i),
+            by: None,
+            also: Some(other),
         };
     }
     of_rule(number, 0)
 }
 
 // The first node after slot i that grafts a tree.
-fn later_graft(state: &State, i: usize, t: TreeId) -> FoundNode
+fn later_graft(state: &State, i: usize, t: TreeId) -> Option<FullNodeId>
     requires { i < slots_of state.now }
-    ensures { found_of result ≡ holder (drop (i + 1) (view state.now).forest.nodes) t }
+    ensures { result ≡ holder (drop (i + 1) (view state.now).forest.nodes) t }
 {
     let n = state_array::slots(state);
-    let mut j = i + 1;
-    while j < n {
+    for j in i + 1..n {
         if state_rules::is_graft_of(state, j, t) {
             return id_found(state, j);
         }
-        j += 1;
     }
-    FoundNode::Nothing
+    None
 }
 
 // Rule 10: ROOT exists and has number 0.
 fn root_first(state: &State, number: u8) -> Why
-    ensures { result ≡ why_broken number (if root_first (view state.now).forest.trees then none else some root_not_first) }
+    ensures { result ≡ why_broken number (if root_first (view state.now).forest.trees then None else Some root_not_first) }
 {
     if state_rules::root_is_first(state) {
         return of_rule(number, 0);
@@ -98,13 +90,11 @@ fn tree_twice(state: &State, number: u8) -> Why
     ensures { result ≡ why_broken number (tree_twice_from 0 [] (view state.now).forest.trees) }
 {
     let m = state_array::trees(state);
-    let mut k = 0usize;
-    while k < m {
+    for k in 0..m {
         let t = state_array::tree_at(state, k);
         if state_lookup::find_tree(state, t.id) < k {
             return of_tree(state, number, 11, k);
         }
-        k += 1;
     }
     of_rule(number, 0)
 }
@@ -114,12 +104,10 @@ fn unrooted(state: &State, number: u8) -> Why
     ensures { result ≡ why_broken number (unrooted_from (view state.now).forest.nodes 0 (view state.now).forest.trees) }
 {
     let m = state_array::trees(state);
-    let mut k = 0usize;
-    while k < m {
+    for k in 0..m {
         if !is_rooted(state, k) {
             return of_tree(state, number, 12, k);
         }
-        k += 1;
     }
     of_rule(number, 0)
 }
@@ -155,8 +143,8 @@ fn of_tree(state: &State, number: u8, rule: u8, k: usize) -> Why
         place: k,
         other: 0,
         tree,
-        node: FoundNode::Nothing,
-        by: FoundNode::Nothing,
-        also: FoundNode::Nothing,
+        node: None,
+        by: None,
+        also: None,
     }
 }

@@ -1,6 +1,6 @@
 -- A reason's number is in its plain form, and so are the first reason of some. Assumes nothing.
 use mathlib.Core.List.{List, ◌∷◌}
-use mathlib.Core.Option.{Option, none, some}
+use Rattle.std.specs.Prelude.{Option, None, Some}
 use mathlib.Core.Path.{◌≡◌, refl, sym, ap, ◌∙◌}
 use Prim.Native.Nat.{ℕ, ◌<◌}
 use native.Mathlib.Omega.{arith}
@@ -17,22 +17,22 @@ use Rattle.reasons_why.specs.Why.{why_broken, why_of, why_for}
 
 broken_number : (k : ℕ) (o : Option Broken) → (why_broken k o).number ≡ k
 unfolding why_broken
-broken_number k none = refl
-broken_number k (some tooManyNodes) = refl
-broken_number k (some tooManyTrees) = refl
-broken_number k (some (too_many_children x)) = refl
-broken_number k (some (absent_below p x)) = refl
-broken_number k (some (met_twice x)) = refl
-broken_number k (some (never_met x d)) = refl
-broken_number k (some (wrong_link x was met)) = refl
-broken_number k (some (graft_with_children x)) = refl
-broken_number k (some (grafted_twice g)) = refl
-broken_number k (some root_not_first) = refl
-broken_number k (some (tree_twice n t)) = refl
-broken_number k (some (tree_unrooted n t)) = refl
-broken_number k (some (out_of_order x)) = refl
-broken_number k (some (broken_field x)) = refl
-broken_number k (some no_focus) = refl
+broken_number k None = refl
+broken_number k (Some tooManyNodes) = refl
+broken_number k (Some tooManyTrees) = refl
+broken_number k (Some (too_many_children x)) = refl
+broken_number k (Some (absent_below p x)) = refl
+broken_number k (Some (met_twice x)) = refl
+broken_number k (Some (never_met x d)) = refl
+broken_number k (Some (wrong_link x was met)) = refl
+broken_number k (Some (graft_with_children x)) = refl
+broken_number k (Some (grafted_twice g)) = refl
+broken_number k (Some root_not_first) = refl
+broken_number k (Some (tree_twice n t)) = refl
+broken_number k (Some (tree_unrooted n t)) = refl
+broken_number k (Some (out_of_order x)) = refl
+broken_number k (Some (broken_field x)) = refl
+broken_number k (Some no_focus) = refl
 
 pub why_number : (r : Reason) → (why_of r).number ≡ number_of r
 unfolding why_of number_of
@@ -68,14 +68,14 @@ Proper o = IfSome (λ r. 0 < number_of r) o
 
 -- of a number that is not 0
 pub proper : (o : Option Reason) (k : ℕ) → 0 < k → IfSome (λ r. number_of r ≡ k) o → Proper o
-proper none k up h = tt
-proper (some r) k up h = omega (arith, up, h)
+proper None k up h = tt
+proper (Some r) k up h = omega (arith, up, h)
 
 -- without a number there is no reason
-pub why_none : (o : Option Reason) {w : Why} → Proper o → w ≡ why_for o → w.number ≡ 0 → o ≡ none
+pub why_none : (o : Option Reason) {w : Why} → Proper o → w ≡ why_for o → w.number ≡ 0 → o ≡ None
 unfolding why_for
-why_none none h e z = refl
-why_none (some r) h e z = absurd (omega (arith, h, why_number r, sym (ap (λ (v : Why). v.number) e) ∙ z))
+why_none None h e z = refl
+why_none (Some r) h e z = absurd (omega (arith, h, why_number r, sym (ap (λ (v : Why). v.number) e) ∙ z))
 
 module _ (o : Option Reason) (os : List (Option Reason)) {w : Why} where
   -- the first reason is found
@@ -84,8 +84,8 @@ module _ (o : Option Reason) (os : List (Option Reason)) {w : Why} where
   first_found e some? = go o e
     where
       go : (p : Option Reason) → w ≡ why_for p → w ≡ why_for (first_reason (p ∷ os))
-      go none f = absurd (some? (ap (λ (v : Why). v.number) f))
-      go (some r) f = f
+      go None f = absurd (some? (ap (λ (v : Why). v.number) f))
+      go (Some r) f = f
 
   -- there is none, and the rest goes on
   pub first_passed : {v : Why} → Proper o → v ≡ why_for o → v.number ≡ 0 → w ≡ why_for (first_reason os) → w ≡ why_for (first_reason (o ∷ os))

@@ -5,8 +5,7 @@ ghost use Rattle.std.specs.Prelude.{◌≡◌};
 ghost use Rattle.reasons.specs.Reasons.{accepted};
 ghost use Rattle.reasons_why.specs.Why.{why_of};
 
-use ids::TreeId;
-use state_focus::FoundNode;
+use ids::{FullNodeId, TreeId};
 
 // Why a number is answered; a field that its number does not use is 0 or nothing.
 #[derive(Clone, Copy)]
@@ -21,9 +20,9 @@ pub struct Why {
     pub other: usize,
     pub tree: TreeId,
     // The node at fault, the node because of which it is, and a third.
-    pub node: FoundNode,
-    pub by: FoundNode,
-    pub also: FoundNode,
+    pub node: Option<FullNodeId>,
+    pub by: Option<FullNodeId>,
+    pub also: Option<FullNodeId>,
 }
 
 // No reason.
@@ -36,8 +35,8 @@ pub fn no_reason() -> Why
         place: 0,
         other: 0,
         tree: TreeId { high: 0, low: 0 },
-        node: FoundNode::Nothing,
-        by: FoundNode::Nothing,
-        also: FoundNode::Nothing,
+        node: None,
+        by: None,
+        also: None,
     }
 }

@@ -6,51 +6,60 @@ ghost use Rattle.base.specs.Floats.{f64_at, is_finite, zero_bytes};
 ghost use Rattle.geometry.specs.Geometry.{zero_rect, finite_rect, zero_affine, finite_affine};
 ghost use Rattle.record.specs.Layout.{node_flags};
 ghost use Rattle.record.specs.Parse.{bounds_of, transform_of, data_of, well_formed};
-ghost use Rattle.record_rules.specs.Rules.{first_broken, header_rules, record_rules, record_fault};
-ghost use Rattle.record_layout.specs.Noted.{plain_offence};
+ghost use Rattle.record_rules.specs.Rules.{rule, first_broken, header_rules, record_rules, record_fault};
 
-mod found;
-
-pub use found::Offence;
+pub use record_rules::Offence;
 use record_wire::{finite_bits, u8_at, u16_at, u32_at, u64_at};
 
 // Whether the bytes, of any length, are a batch record. Row 2 of document 01 holds of all others.
 pub fn layout(batch: &[u8]) -> bool
     ensures { result ≡ well_formed batch.now }
 {
-    offence(batch).rule == 0
+    offence(batch).is_none()
 }
 
 // The first rule that the bytes break: the header's, then each node record's, then the totals'.
-pub fn offence(batch: &[u8]) -> Offence
-    ensures { result ≡ plain_offence (record_fault batch.now) }
+pub fn offence(batch: &[u8]) -> Option<Offence>
+    ensures { result ≡ record_fault batch.now }
 {
     let header = header_offence(batch);
-    if header.rule != 0 {
+    if header.is_some() {
         return header;
     }
     let nodes = u16_at(batch, 0) as usize;
     let mut children: usize = 0;
     let mut labels: usize = 0;
-    let mut i: usize = 0;
-    while i < nodes {
+    for i in 0..nodes {
         let at = 64 + 128 * i;
         let record = record_offence(batch, at, children, labels);
-        if record.rule != 0 {
+        if record.is_some() {
             return record;
         }
         children += u16_at(batch, at + 34) as usize;
         labels += u16_at(batch, at + 38) as usize;
-        i += 1;
     }
-    Offence::none()
-        .then(25, 2, children == u16_at(batch, 2) as usize)
-        .then(26, 4, labels == u16_at(batch, 4) as usize)
+    let of_children = broken(25, 2, children == u16_at(batch, 2) as usize);
+    let of_labels = broken(26, 4, labels == u16_at(batch, 4) as usize);
+    of_children.or(of_labels)
+}
+
+// This rule, unless it is kept.
+fn broken(number: u8, offset: usize, kept: bool) -> Option<Offence>
+    ensures { result ≡ rule number offset kept }
+{
+    if kept {
+        None
+    } else {
+        Some(Offence {
+            rule: number,
+            offset,
+        })
+    }
 }
 
 // The header's. Every test is made, so the body is one expression with the definition's rows.
-fn header_offence(batch: &[u8]) -> Offence
-    ensures { result ≡ plain_offence (first_broken (header_rules batch.now)) }
+fn header_offence(batch: &[u8]) -> Option<Offence>
+    ensures { result ≡ first_broken (header_rules batch.now) }
 {
     let nodes = u16_at(batch, 0) as usize;
     let entries = u16_at(batch, 2) as usize;
@@ -60,56 +69,55 @@ fn header_offence(batch: &[u8]) -> Offence
     let entries_at = 64 + 128 * nodes;
     let labels_at = entries_at + 8 * entries;
     let end = labels_at + labels;
-    Offence::none()
-        .then(1, batch.len(), 64 <= batch.len())
-        .then(2, 0, nodes <= 64)
-        .then(3, 2, entries <= 256)
-        .then(4, 4, labels <= 2048)
-        .then(5, 6, flags < 2)
-        .then(6, 8, u32_at(batch, 8) == 64)
-        .then(7, 12, u32_at(batch, 12) as usize == entries_at)
-        .then(8, 16, u32_at(batch, 16) as usize == labels_at)
-        .then(9, 20, total == end)
-        .then(10, 20, batch.len() == total)
-        .then(11, 20, batch.len() <= 12352)
-        .then(12, 40, (flags % 2 == 1) | (u64_at(batch, 40) == 0))
-        .then(13, 56, u64_at(batch, 56) == 0)
+    broken(1, batch.len(), 64 <= batch.len())
+        .or(broken(2, 0, nodes <= 64))
+        .or(broken(3, 2, entries <= 256))
+        .or(broken(4, 4, labels <= 2048))
+        .or(broken(5, 6, flags < 2))
+        .or(broken(6, 8, u32_at(batch, 8) == 64))
+        .or(broken(7, 12, u32_at(batch, 12) as usize == entries_at))
+        .or(broken(8, 16, u32_at(batch, 16) as usize == labels_at))
+        .or(broken(9, 20, total == end))
+        .or(broken(10, 20, batch.len() == total))
+        .or(broken(11, 20, batch.len() <= 12352))
+        .or(broken(12, 40, (flags % 2 == 1) | (u64_at(batch, 40) == 0)))
+        .or(broken(13, 56, u64_at(batch, 56) == 0))
 }
 
 // Those of the node record at `at`, where the nodes before it have so many children and label bytes.
-fn record_offence(batch: &[u8], at: usize, children: usize, labels: usize) -> Offence
+fn record_offence(batch: &[u8], at: usize, children: usize, labels: usize) -> Option<Offence>
     requires { at < 2 ^ 32 }
-    ensures { result ≡ plain_offence (first_broken (record_rules batch.now at (data_of batch.now at) children labels)) }
+    ensures { result ≡ first_broken (record_rules batch.now at (data_of batch.now at) children labels) }
 {
     let flags = u8_at(batch, at + 41);
     let label_at = at + 36;
     fields_offence(batch, at, flags)
-        .then(19, at + 48, (flags / 16 % 2 == 1) | no_bounds(batch, at))
-        .then(20, at + 80, (flags / 32 % 2 == 1) | no_transform(batch, at))
-        .then(21, at + 48, bounds_finite(batch, at))
-        .then(22, at + 80, transform_finite(batch, at))
-        .then(23, at + 32, u16_at(batch, at + 32) as usize == children)
-        .then(24, label_at, u16_at(batch, label_at) as usize == labels)
+        .or(broken(19, at + 48, (flags / 16 % 2 == 1) | no_bounds(batch, at)))
+        .or(broken(20, at + 80, (flags / 32 % 2 == 1) | no_transform(batch, at)))
+        .or(broken(21, at + 48, bounds_finite(batch, at)))
+        .or(broken(22, at + 80, transform_finite(batch, at)))
+        .or(broken(23, at + 32, u16_at(batch, at + 32) as usize == children))
+        .or(broken(24, label_at, u16_at(batch, label_at) as usize == labels))
 }
 
 // The first five of them, where these are the record's flags.
-fn fields_offence(batch: &[u8], at: usize, flags: u8) -> Offence
+fn fields_offence(batch: &[u8], at: usize, flags: u8) -> Option<Offence>
     requires { (at < 2 ^ 32) × (flags ≡ node_flags batch.now at) }
-    ensures { result ≡ plain_offence (first_broken (take 5 (record_rules batch.now at (data_of batch.now at) 0 0))) }
+    ensures { result ≡ first_broken (take 5 (record_rules batch.now at (data_of batch.now at) 0 0)) }
 {
     let graft_at = at + 16;
     let no_graft = (u64_at(batch, graft_at) == 0) & (u64_at(batch, at + 24) == 0);
     let no_active_descendant = u64_at(batch, at + 8) == 0;
     let six_zeros = (u16_at(batch, at + 42) == 0) & (u32_at(batch, at + 44) == 0);
-    Offence::none()
-        .then(14, at + 42, six_zeros)
-        .then(15, at + 38, u16_at(batch, at + 38) <= 32)
-        .then(16, at + 41, flags < 64)
-        .then(17, at + 8, (flags / 4 % 2 == 1) | no_active_descendant)
-        .then(18, graft_at, (flags / 8 % 2 == 1) | no_graft)
+    broken(14, at + 42, six_zeros)
+        .or(broken(15, at + 38, u16_at(batch, at + 38) <= 32))
+        .or(broken(16, at + 41, flags < 64))
+        .or(broken(17, at + 8, (flags / 4 % 2 == 1) | no_active_descendant))
+        .or(broken(18, graft_at, (flags / 8 % 2 == 1) | no_graft))
 }
 
-// The bounds of the node record at `at`, and its transform: all zero bytes.
+// The bounds of the node record at `at`, and its transform: all zero bytes. The tests of both kinds are written out: a function that takes the
+// test as a closure would say what the closure answers of each number, and that is longer than they are.
 fn no_bounds(batch: &[u8], at: usize) -> bool
     requires { at < 2 ^ 32 }
     ensures { result ≡ zero_rect (bounds_of batch.now at) }

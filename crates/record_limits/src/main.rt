@@ -17,14 +17,13 @@ fn main(rt: HostRuntime) {
     let mut chunk = [0u8; 65536];
     let mut text = [0u8; 8192];
     let mut input = lines::of();
-    let mut turns = u64::MAX;
-    while 0 < turns {
+    // Nothing says that standard input ends, so the turns have a bound that no run reaches.
+    for _ in 0..u64::MAX {
         input = lines::next(input, &mut file, &mut chunk, &mut text);
         if input.ended {
             return;
         }
         judge(rt.stdout(), lines::line(&text, input));
-        turns -= 1;
     }
 }
 
@@ -60,13 +59,11 @@ fn number(line: &[u8], c: Cursor) -> Cursor {
 // Replaces the bytes that a line names from a place on.
 fn change(bytes: &mut [u8; 12800], line: &[u8], from: Cursor) {
     let mut c = from;
-    let mut turns = line.len();
-    while 0 < turns {
+    for _ in 0..line.len() {
         if cursor::is_done(c) {
             return;
         }
         c = with_byte(bytes, line, c);
-        turns -= 1;
     }
 }
 
@@ -89,23 +86,13 @@ fn say(stdout: Stdout, good: bool) {
 
 // A record for ROOT with tree data, tree root 1 and focus 2. Node i has the number i + 1 and role 4.
 fn make(bytes: &mut [u8; 12800], nodes: usize, entries: usize, label: usize) {
-    if 65 < nodes {
+    if (65 < nodes) | (257 < entries) | (33 < label) {
         return;
     }
-    if 257 < entries {
-        return;
+    for i in 0..nodes {
+        node(bytes, i, entries, i * label, label);
     }
-    if 33 < label {
-        return;
-    }
-    let mut labels: usize = 0;
-    let mut i: usize = 0;
-    while i < nodes {
-        node(bytes, i, entries, labels, label);
-        labels += label;
-        i += 1;
-    }
-    header(bytes, nodes, entries, labels);
+    header(bytes, nodes, entries, nodes * label);
 }
 
 fn header(bytes: &mut [u8; 12800], nodes: usize, entries: usize, labels: usize)

@@ -1,7 +1,6 @@
 -- What the accessors answer, for any bytes and any index: the fields of the batch that the bytes say, and zeros past its nodes and child entries.
 -- Assumes nothing.
-use Rattle.std.specs.Prelude.{ℕ, ◌+◌, List, [], ltb, Float, length, get_or, if◌then◌else◌}
-use Rattle.std.proofs.Math.Option.{Option, none, some}
+use Rattle.std.specs.Prelude.{ℕ, ◌+◌, List, [], ltb, Float, length, get_or, if◌then◌else◌, Option, None, Some}
 use Rattle.std.specs.Float.Ieee.{of_bits}
 use Rattle.std.specs.Float.{binary64}
 use Rattle.base.specs.Tests.{is_some}
@@ -57,8 +56,8 @@ entries_of s = list_of (entry_count s) (λ j. record { 0 = le 8 s (entry_at s j)
 
 -- the tree root, 0 without tree data
 abbrev pub root_or_zero : Option NodeId → NodeId
-root_or_zero none = no_node
-root_or_zero (some r) = r
+root_or_zero None = no_node
+root_or_zero (Some r) = r
 
 abbrev pub header_of : Batch → BatchHeader
 header_of b =

@@ -2,7 +2,8 @@
 // the parsed one. Past the last node, child entry or byte there are zeros.
 #![tactic(auto)]
 
-ghost use Rattle.std.specs.Prelude.{◌≡◌, ◌<◌, length, get_or};
+ghost use Rattle.std.specs.Prelude.{◌≡◌, ◌<◌, ℕ, length, get_or};
+ghost use Rattle.base.specs.Bytes.{le};
 ghost use Rattle.base.specs.Tests.{is_some};
 ghost use Rattle.record.specs.Parse.{batch_of};
 ghost use Rattle.record_reader.specs.Reader.{no_node, listed_at, field_at, entries_of, root_or_zero, header_of, node_record_of};
@@ -188,8 +189,8 @@ pub fn label(batch: &[u8], i: usize) -> &[u8]
     }
     let at = 64 + 128 * i;
     let labels_at = 64 + 128 * nodes + 8 * (u16_at(batch, 2) as usize);
-    let start = record_wire::least(labels_at + u16_at(batch, at + 36) as usize, batch.len());
-    let end = record_wire::least(start + u16_at(batch, at + 38) as usize, batch.len());
+    let start = (labels_at + u16_at(batch, at + 36) as usize).min(batch.len());
+    let end = (start + u16_at(batch, at + 38) as usize).min(batch.len());
     &batch[start..end]
 }
 
@@ -215,28 +216,30 @@ fn word(batch: &[u8], i: usize, offset: usize) -> u64
     requires { offset < 128 }
     ensures { result ≡ field_at 8 batch.now i offset }
 {
-    if u16_at(batch, 0) as usize <= i {
-        return 0;
-    }
-    u64_at(batch, 64 + 128 * i + offset)
+    u64_at(batch, place(batch, i, offset))
 }
 
 fn half(batch: &[u8], i: usize, offset: usize) -> u16
     requires { offset < 128 }
     ensures { result ≡ field_at 2 batch.now i offset }
 {
-    if u16_at(batch, 0) as usize <= i {
-        return 0;
-    }
-    u16_at(batch, 64 + 128 * i + offset)
+    u16_at(batch, place(batch, i, offset))
 }
 
 fn byte(batch: &[u8], i: usize, offset: usize) -> u8
     requires { offset < 128 }
     ensures { result ≡ field_at 1 batch.now i offset }
 {
+    u8_at(batch, place(batch, i, offset))
+}
+
+// Where an offset within node record i stands, the batch's end past the last node: there all reads answer 0.
+fn place(batch: &[u8], i: usize, offset: usize) -> usize
+    requires { offset < 128 }
+    ensures { (w : ℕ) → le w batch.now result ≡ field_at w batch.now i offset }
+{
     if u16_at(batch, 0) as usize <= i {
-        return 0;
+        return batch.len();
     }
-    u8_at(batch, 64 + 128 * i + offset)
+    64 + 128 * i + offset
 }

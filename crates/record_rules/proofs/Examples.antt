@@ -1,7 +1,7 @@
 -- Worked examples of the record's rules, which antt computes: for each rule a record that breaks it, and records that break two.
 -- Assumes nothing.
 use mathlib.Core.List.{List, [], ◌∷◌, ◌++◌, map}
-use mathlib.Core.Option.{Option, none, some}
+use Rattle.std.specs.Prelude.{Option, None, Some}
 use mathlib.Core.Path.{◌≡◌, refl}
 use Prim.Native.Nat.{ℕ, ◌+◌}
 use lib.ListN.{replicate, set}
@@ -15,7 +15,8 @@ use Rattle.record.specs.Batch.{NodeData, active_descendant?, graft?, bounds?, tr
 use Rattle.record.specs.Parse.{children_before, labels_before}
 use Rattle.record.specs.Encode.{record_bytes, records_bytes, entry_bytes, labels, header_bytes, encode}
 use Rattle.record.specs.ExampleNodes.{leaf, boxed, lists, batch}
-use Rattle.record_rules.specs.Rules.{Offence, rule, header_rules, record_rules, record_offence, total_rules, record_fault}
+use Rattle.record_rules.specs.declared.Offence.{Offence}
+use Rattle.record_rules.specs.Rules.{rule, header_rules, record_rules, record_offence, total_rules, record_fault}
 
 -- `unfolding computed` unfolds every definition
 computed : Unit {0}
@@ -23,7 +24,7 @@ unfolding ◌and◌ little_endian le bytes_of all_below zeros list_of sum_of zer
 computed = tt
 
 abbrev breaks : ℕ → ℕ → Option Offence
-breaks k at = some (record { rule = k; offset = at })
+breaks k at = Some (record { rule = k; offset = at })
 
 abbrev faults : List (List ℕ) → List (Option Offence)
 faults = map record_fault
@@ -54,7 +55,7 @@ header_faults :
     ∷ header 40 1
     ∷ header 63 1
     ∷ [])
-    ≡ none
+    ≡ None
     ∷ breaks 1 63
     ∷ breaks 2 0
     ∷ breaks 3 2
@@ -95,7 +96,7 @@ record_faults :
     ∷ single leaf 34 1
     ∷ single leaf 38 1
     ∷ [])
-    ≡ none
+    ≡ None
     ∷ breaks 14 106
     ∷ breaks 15 102
     ∷ breaks 16 105

@@ -1,6 +1,5 @@
 -- Number 2: the first rule of the batch record that bytes break, in the order of document 01, "The batch record". Assumes nothing.
-use Rattle.std.specs.Prelude.{Bool, ◌||◌, List, [], ◌∷◌, ℕ, ◌+◌, eqb, ltb, leb, length, if◌then◌else◌}
-use Rattle.std.proofs.Math.Option.{Option, none, some}
+use Rattle.std.specs.Prelude.{Bool, ◌||◌, List, [], ◌∷◌, ℕ, ◌+◌, eqb, ltb, leb, length, if◌then◌else◌, Option, None, Some}
 use Rattle.base.specs.Tests.{first_given}
 use Rattle.base.specs.Bytes.{zeros, list_of}
 use Rattle.ids.specs.Ids.{ROOT, same_tree}
@@ -8,15 +7,11 @@ use Rattle.geometry.specs.Geometry.{finite_rect, finite_affine, zero_rect, zero_
 use Rattle.record.specs.Batch.{NodeData, has_active_descendant, has_graft, has_bounds, has_transform}
 use Rattle.record.specs.Layout.{node_count, entry_count, label_bytes, header_flags, has_tree_data, nodes_offset, entries_offset, labels_offset, total_length, tree_root, record_at, entries_at, labels_at, end_at, first_child, label_start, label_length}
 use Rattle.record.specs.Parse.{data_of, children_before, labels_before}
-
--- a rule by its number, and the offset of the bytes that break it
-pub record Offence : Type 0 where
-  pub rule : ℕ
-  pub offset : ℕ
+use Rattle.record_rules.specs.declared.Offence.{Offence}
 
 -- a rule by its number, the offset of the bytes that it is about, and whether they keep it
 unfoldable pub rule : ℕ → ℕ → Bool → Option Offence
-rule k at kept = if kept then none else some (record { rule = k; offset = at })
+rule k at kept = if kept then None else Some (record { rule = k; offset = at })
 
 -- the first of some rules that is broken
 abbrev pub first_broken : List (Option Offence) → Option Offence
@@ -80,9 +75,9 @@ total_rules s =
 unfoldable pub record_fault : List ℕ → Option Offence
 record_fault s =
     elim (first_broken (header_rules s)) [
-      | some o ↦ some o
-      | none ↦ elim (first_given (record_offence s) (list_of (node_count s) (λ i. i))) [
-        | some o ↦ some o
-        | none ↦ first_broken (total_rules s)
+      | Some o ↦ Some o
+      | None ↦ elim (first_given (record_offence s) (list_of (node_count s) (λ i. i))) [
+        | Some o ↦ Some o
+        | None ↦ first_broken (total_rules s)
       ]
     ]

@@ -50,16 +50,14 @@ fn run<R: Read>(stdout: Stdout, list: &mut R, total: u64) -> Tally {
         counts: [0u64; 512],
     };
     let mut state = [0u64; state_array::WORDS];
-    let mut i: u64 = 0;
-    while i < total {
+    for i in 0..total {
         let mut space = [0u8; 98304];
-        let n = replay_frame::read(list, &mut space);
-        if !replay_frame::is_whole(&space, n) {
+        let length = replay_frame::read(list, &mut space);
+        if !length.is_some_and(|n| replay_frame::is_whole(&space, n)) {
             tell_end(stdout, i);
             return t;
         }
-        i += 1;
-        t = with_frame(stdout, t, i, &space, &mut state);
+        t = with_frame(stdout, t, i + 1, &space, &mut state);
     }
     t
 }
@@ -98,10 +96,8 @@ fn with_question(stdout: Stdout, t: Tally, i: u64, f: &[u8], state: &State) -> T
 // With one more at a place of the counts, and one that differs where some part does.
 fn counted(t: Tally, place: u64, parts: u64) -> Tally {
     let mut u = t;
-    let mut counts = t.counts;
     let k = (place % 512) as usize;
-    counts[k] = std::num::wrapping_add_u64(counts[k], 1);
-    u.counts = counts;
+    u.counts[k] = std::num::wrapping_add_u64(u.counts[k], 1);
     u.differ = std::num::wrapping_add_u64(t.differ, part_if(parts != 0, 1));
     u
 }
@@ -120,11 +116,9 @@ fn tell_parts(stdout: Stdout, text: &[u8], i: u64, parts: u64) {
     }
     of_number(stdout, text, i);
     let mut left = parts;
-    let mut k: u64 = 0;
-    while k < PARTS {
+    for k in 0..PARTS {
         tell_part(stdout, left % 2, k);
         left /= 2;
-        k += 1;
     }
     put(stdout, b"\n");
 }
@@ -150,10 +144,8 @@ fn tell_tally(stdout: Stdout, t: Tally) {
 
 // The counts that are not 0.
 fn tell_counts(stdout: Stdout, counts: &[u64]) {
-    let mut k: usize = 0;
-    while k < counts.len() {
-        tell_count(stdout, k as u64, counts[k]);
-        k += 1;
+    for (k, &n) in counts.iter().enumerate() {
+        tell_count(stdout, k as u64, n);
     }
 }
 

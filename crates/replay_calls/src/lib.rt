@@ -49,10 +49,8 @@ fn answer(f: &[u8], state: &mut State, lent: &mut [u64]) -> Reply {
 
 // A batch with the first `room` elements for the lists.
 fn update(state: &mut State, batch: &[u8], lent: &mut [u64], room: usize) -> Reply {
-    if room <= lent.len() {
-        return calls::update(state, batch, &mut lent[0..room]);
-    }
-    calls::update(state, batch, lent)
+    let length = room.min(lent.len());
+    calls::update(state, batch, &mut lent[..length])
 }
 
 // The parts of a reply that are not as the frame says.
@@ -61,37 +59,34 @@ fn differing(r: Reply, f: &[u8]) -> u64 {
     part_if(
         r.number as usize != replay_frame::field(f, 6),
         parts::NUMBER,
-    ) | part_if(!are_lengths(r.lengths, f), parts::LENGTHS)
+    ) | part_if(r.lengths != lengths(f), parts::LENGTHS)
         | part_if(
-            !are_nodes(x.focus_before, x.focus_after, f, 28),
+            (x.focus_before != node(f, 28)) | (x.focus_after != node(f, 42)),
             parts::FOCUS,
         )
         | part_if(
-            !are_nodes(x.extra_before, x.extra_after, f, 56),
+            (x.extra_before != node(f, 56)) | (x.extra_after != node(f, 70)),
             parts::EXTRA,
         )
 }
 
-// Whether the lists' lengths are those of the frame.
-fn are_lengths(n: Lengths, f: &[u8]) -> bool {
-    (n.added == replay_frame::field(f, 12))
-        & (n.updated == replay_frame::field(f, 14))
-        & (n.removed == replay_frame::field(f, 16))
-        & (n.relinked == replay_frame::field(f, 18))
+// The lists' lengths in the frame.
+fn lengths(f: &[u8]) -> Lengths {
+    Lengths {
+        added: replay_frame::field(f, 12),
+        updated: replay_frame::field(f, 14),
+        removed: replay_frame::field(f, 16),
+        relinked: replay_frame::field(f, 18),
+    }
 }
 
-// Whether two nodes, or none, are the ones at a place of the frame and behind it.
-fn are_nodes(x: OptionalId, y: OptionalId, f: &[u8], at: usize) -> bool
-    requires { at ≤ 56 }
-{
-    is_node(x, f, at) & is_node(y, f, at + 14)
-}
-
-// Whether a node, or none, is the one at a place of the frame.
-fn is_node(x: OptionalId, f: &[u8], at: usize) -> bool
+// The node, or none, at a place of the frame.
+fn node(f: &[u8], at: usize) -> OptionalId
     requires { at ≤ 70 }
 {
-    (x.present == record_wire::u16_at(f, at) as u32)
-        & (x.tree == record_wire::u32_at(f, at + 2))
-        & (x.node == record_wire::u64_at(f, at + 6))
+    OptionalId {
+        node: record_wire::u64_at(f, at + 6),
+        tree: record_wire::u32_at(f, at + 2),
+        present: u32::from(record_wire::u16_at(f, at)),
+    }
 }

@@ -3,7 +3,9 @@ use state_array::State;
 
 // The digest of a state.
 pub fn of(state: &State) -> u64 {
-    of_words(14695981039346656037, state)
+    state
+        .iter()
+        .fold(14695981039346656037, |digest, &word| with(digest, word))
 }
 
 // The digest of the state that a call is handed; a start, which does not look at it, hands back the blank one where it is refused.
@@ -13,17 +15,6 @@ pub fn before(f: &[u8], state: &State) -> u64 {
         return of(&blank);
     }
     of(state)
-}
-
-// A digest with the words of a column.
-fn of_words(digest: u64, column: &[u64]) -> u64 {
-    let mut d = digest;
-    let mut i: usize = 0;
-    while i < column.len() {
-        d = with(d, column[i]);
-        i += 1;
-    }
-    d
 }
 
 // A digest with one number more: as in FNV-1a, the number by exclusive or and then a product; and the upper half of the product is brought

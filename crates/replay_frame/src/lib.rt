@@ -29,7 +29,7 @@ pub mod parts;
 ghost use Rattle.std.specs.Prelude.{◌<◌, ◌≤◌};
 
 use ids::{FullNodeId, NodeId, TreeIndex};
-use program_text::lines::read_full;
+use program_text::lines::{between, read_full};
 use state_array::State;
 use std::io::Read;
 
@@ -39,36 +39,32 @@ const HEAD: usize = 84;
 // What a question's frame begins with.
 const QUESTION: usize = 3;
 
-// Reads the next frame of the list over zeros; how many bytes it has, 0 where the list ends before it does.
-pub fn read<R: Read>(list: &mut R, frame: &mut [u8; 98304]) -> usize {
+// Reads the next frame of the list over zeros; how many bytes it has, unless the list ends before it does.
+pub fn read<R: Read>(list: &mut R, frame: &mut [u8; 98304]) -> Option<usize> {
     let mut length = [0u8; 2];
     if read_full(list, &mut length) < 2 {
-        return 0;
+        return None;
     }
-    let n = record_wire::u16_at(&length, 0) as usize;
-    let mut coded = [0u8; 65536];
-    if read_full(list, &mut coded[0..n]) < n {
-        return 0;
+    let n = u16::from_le_bytes(length) as usize;
+    let mut space = [0u8; 65536];
+    let coded = &mut space[..n];
+    if read_full(list, coded) < n {
+        return None;
     }
-    decode(&coded, n, frame)
+    decode(coded, frame)
 }
 
-// Writes over zeros what the first n bytes stand for; how many bytes that is, 0 where there is no room for them.
-fn decode(coded: &[u8; 65536], n: usize, frame: &mut [u8; 98304]) -> usize {
+// Writes over zeros what coded bytes stand for; how many bytes that is, if there is room for them.
+fn decode(coded: &[u8], frame: &mut [u8; 98304]) -> Option<usize> {
     let mut i: usize = 0;
     let mut at: usize = 0;
-    while i < n {
-        if 65536 <= i {
-            return 0;
-        }
-        if 98304 <= at {
-            return 0;
-        }
-        frame[at] = coded[i];
+    // Not a `for`: a zero is read with the byte behind it.
+    while i < coded.len() {
+        *frame.get_mut(at)? = coded[i];
         at += bytes_for(coded[i], record_wire::u8_at(coded, i + 1));
         i += width(coded[i]);
     }
-    at
+    Some(at)
 }
 
 // How many bytes a coded byte stands for, with the one that follows it.
@@ -151,15 +147,7 @@ pub(crate) fn lists_length(frame: &[u8]) -> usize
 
 // Its record.
 pub fn record(frame: &[u8]) -> &[u8] {
-    let from = record_at(frame);
-    let to = lists_at(frame);
-    if frame.len() < to {
-        return &frame[0..0];
-    }
-    if to < from {
-        return &frame[0..0];
-    }
-    &frame[from..to]
+    between(frame, record_at(frame), lists_at(frame))
 }
 
 // The host flag of a start or a host focus change.
@@ -179,17 +167,8 @@ pub fn digest_after(frame: &[u8], before: u64) -> u64 {
 // The state that a call is handed, where the frame has one, in the place of the one that the call before left.
 pub fn put_state(frame: &[u8], state: &mut State) {
     if field(frame, 4) == 1 {
-        fill_words(state, frame, HEAD);
-    }
-}
-
-// Fills a column with the numbers that start at a place.
-fn fill_words(column: &mut [u64], frame: &[u8], from: usize) {
-    let mut i: usize = 0;
-    let mut at = from;
-    while i < column.len() {
-        column[i] = record_wire::u64_at(frame, at);
-        at = std::num::wrapping_add_usize(at, 8);
-        i += 1;
+        for (i, word) in state.iter_mut().enumerate() {
+            *word = record_wire::u64_at(frame, HEAD + 8 * i);
+        }
     }
 }

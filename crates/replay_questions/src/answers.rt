@@ -1,13 +1,11 @@
 // The questions by their numbers, and what the library answers as words.
+use geometry::Affine;
 use geometry_box::BoundingBox;
 use ids::FullNodeId;
-use node_answers::{
-    BoxAnswer, FilterAnswer, HiddenAnswer, ListAnswer, NodeAnswer, TransformAnswer,
-};
+use node_answers::Refusal;
 use question_calls::{iterators, node, walk};
 use questions::{Filter, FilterResult, Side, Walk};
 use state_array::State;
-use state_focus::FoundNode;
 
 // What is answered.
 #[derive(Clone, Copy)]
@@ -24,11 +22,7 @@ const LISTS: u64 = 6;
 
 const WALK: u64 = 10;
 
-// The bits of an infinity, of the negative one, and of any NaN.
-const INFINITY: u64 = 0x7ff0_0000_0000_0000;
-
-const NEGATIVE_INFINITY: u64 = 0xfff0_0000_0000_0000;
-
+// The bits of any NaN.
 const NAN: u64 = 0x7ff8_0000_0000_0000;
 
 // Asks a question about a node; the words of the answer stand in the lent slice.
@@ -72,7 +66,12 @@ fn side_of(which: u64) -> Side {
 // ## Asking
 
 // The questions that answer a node.
-fn found(state: &State, kind: u64, id: FullNodeId, filter: Filter) -> NodeAnswer {
+fn found(
+    state: &State,
+    kind: u64,
+    id: FullNodeId,
+    filter: Filter,
+) -> Result<Option<FullNodeId>, Refusal> {
     match kind {
         0 => node::parent(state, id),
         1 => iterators::filtered_parent(state, id, filter),
@@ -84,7 +83,12 @@ fn found(state: &State, kind: u64, id: FullNodeId, filter: Filter) -> NodeAnswer
 }
 
 // The questions that answer a list.
-fn list<'a, 'b>(state: &'a State, which: u64, id: FullNodeId, out: &'b mut [u64]) -> ListAnswer {
+fn list<'a, 'b>(
+    state: &'a State,
+    which: u64,
+    id: FullNodeId,
+    out: &'b mut [u64],
+) -> Result<usize, Refusal> {
     let filter = filter_of(which);
     let side = side_of(which);
     match which / 12 {
@@ -99,22 +103,18 @@ fn list<'a, 'b>(state: &'a State, which: u64, id: FullNodeId, out: &'b mut [u64]
 fn walk<'a, 'b>(state: &'a State, which: u64, id: FullNodeId, out: &'b mut [u64]) -> Answer {
     let first = begun(which, id);
     let mut w = first;
-    let mut at: usize = 0;
-    let mut left = out.len() / 2;
-    while 0 < left {
+    for i in 0..out.len() / 2 {
         let s = walk::step(state, w);
         let answer = s.answer;
-        if answer.number != 0 {
+        let Ok(found) = answer else {
             return of_node(answer, out);
-        }
-        put_found(answer, at, out);
+        };
+        put_found(found, 2 * i, out);
         w = s.walk;
-        at = std::num::wrapping_add_usize(at, 2);
-        left -= 1;
     }
     Answer {
         number: 0,
-        value: one_if(!is_of(w, first)),
+        value: u64::from(!is_of(w, first)),
         length: w.count as usize,
     }
 }
@@ -129,9 +129,9 @@ fn begun(which: u64, id: FullNodeId) -> Walk {
     }
 }
 
-// Whether a walk has the node, the side and the filter of another.
+// Whether a walk has the node, the side and the filter of another. Not `==`: the count has moved on.
 fn is_of(walk: Walk, other: Walk) -> bool {
-    ids::same_id(walk.node, other.node) & (walk.side == other.side) & (walk.filter == other.filter)
+    (walk.node == other.node) & (walk.side == other.side) & (walk.filter == other.filter)
 }
 
 // The other questions.
@@ -146,63 +146,74 @@ fn other<'a, 'b>(state: &'a State, which: u64, id: FullNodeId, out: &'b mut [u64
 
 // ## Answers as words
 
-fn of_node(a: NodeAnswer, out: &mut [u64]) -> Answer {
-    Answer {
-        number: a.number,
-        value: 0,
-        length: put_found(a, 0, out),
+// The number of an answer: 0, or why it is refused.
+fn number_of<T: Copy>(a: Result<T, Refusal>) -> u8 {
+    match a {
+        Ok(_) => 0,
+        Err(refusal) => refusal.number(),
     }
 }
 
-fn of_list(a: ListAnswer) -> Answer {
+fn of_node(a: Result<Option<FullNodeId>, Refusal>, out: &mut [u64]) -> Answer {
     Answer {
-        number: a.number,
+        number: number_of(a),
         value: 0,
-        length: a.length,
+        length: put_found(a.unwrap_or(None), 0, out),
     }
 }
 
-fn of_hidden(a: HiddenAnswer) -> Answer {
+fn of_list(a: Result<usize, Refusal>) -> Answer {
     Answer {
-        number: a.number,
-        value: one_if(a.hidden),
+        number: number_of(a),
+        value: 0,
+        length: a.unwrap_or(0),
+    }
+}
+
+fn of_hidden(a: Result<bool, Refusal>) -> Answer {
+    Answer {
+        number: number_of(a),
+        value: u64::from(a.unwrap_or(false)),
         length: 0,
     }
 }
 
-fn of_filter(a: FilterAnswer) -> Answer {
-    match a {
-        FilterAnswer::Refused(number) => Answer {
-            number,
-            value: 0,
-            length: 0,
+fn of_filter(a: Result<FilterResult, Refusal>) -> Answer {
+    Answer {
+        number: number_of(a),
+        value: match a {
+            Ok(result) => number_of_result(result),
+            Err(_) => 0,
         },
-        FilterAnswer::Result(result) => Answer {
-            number: 0,
-            value: number_of(result),
-            length: 0,
-        },
+        length: 0,
     }
 }
 
-fn of_transform(a: TransformAnswer, out: &mut [u64]) -> Answer {
-    let t = a.transform;
+// A refused one has three pairs of zeros.
+fn of_transform(a: Result<Affine, Refusal>, out: &mut [u64]) -> Answer {
+    let t = a.unwrap_or(Affine {
+        a: 0.0,
+        b: 0.0,
+        c: 0.0,
+        d: 0.0,
+        e: 0.0,
+        f: 0.0,
+    });
     put_pair(out, 0, bits_of(t.a), bits_of(t.b));
     put_pair(out, 2, bits_of(t.c), bits_of(t.d));
     put_pair(out, 4, bits_of(t.e), bits_of(t.f));
     Answer {
-        number: a.number,
+        number: number_of(a),
         value: 0,
         length: 3,
     }
 }
 
-fn of_box(a: BoxAnswer, out: &mut [u64]) -> Answer {
-    let corners = a.bounding_box;
+fn of_box(a: Result<BoundingBox, Refusal>, out: &mut [u64]) -> Answer {
     Answer {
-        number: a.number,
+        number: number_of(a),
         value: 0,
-        length: put_box(corners, out),
+        length: put_box(a.unwrap_or(BoundingBox::None), out),
     }
 }
 
@@ -217,9 +228,8 @@ fn put_box(b: BoundingBox, out: &mut [u64]) -> usize {
 }
 
 // Writes the node of an answer at a place; how many there are.
-fn put_found(a: NodeAnswer, at: usize, out: &mut [u64]) -> usize {
-    let node = a.node;
-    let FoundNode::At(x) = node else {
+fn put_found(found: Option<FullNodeId>, at: usize, out: &mut [u64]) -> usize {
+    let Some(x) = found else {
         return 0;
     };
     put_pair(out, at, x.tree.0 as u64, x.node.0);
@@ -240,7 +250,7 @@ fn put(out: &mut [u64], at: usize, word: u64) {
 }
 
 // A filter's result by its number.
-fn number_of(res: FilterResult) -> u64 {
+fn number_of_result(res: FilterResult) -> u64 {
     match res {
         FilterResult::Include => 0,
         FilterResult::ExcludeNode => 1,
@@ -248,26 +258,7 @@ fn number_of(res: FilterResult) -> u64 {
     }
 }
 
-// 1 where it holds.
-fn one_if(holds: bool) -> u64 {
-    if holds { 1 } else { 0 }
-}
-
 // The bits of a number, every NaN alike.
 fn bits_of(x: f64) -> u64 {
-    if !geometry::is_finite(x) {
-        return bits_of_infinite(x);
-    }
-    f64::to_bits(x)
-}
-
-// The same of a number that is not finite.
-fn bits_of_infinite(x: f64) -> u64 {
-    if 0.0 < x {
-        return INFINITY;
-    }
-    if x < 0.0 {
-        return NEGATIVE_INFINITY;
-    }
-    NAN
+    if x.is_nan() { NAN } else { x.to_bits() }
 }

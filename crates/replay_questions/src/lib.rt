@@ -23,10 +23,8 @@ pub fn compared(f: &[u8], state: &State) -> u64 {
 fn answer(f: &[u8], state: &State, lent: &mut [u64], room: usize) -> Answer {
     let which = replay_frame::which(f);
     let id = replay_frame::asked(f);
-    if room <= lent.len() {
-        return answers::ask(state, which, id, &mut lent[0..room]);
-    }
-    answers::ask(state, which, id, lent)
+    let length = room.min(lent.len());
+    answers::ask(state, which, id, &mut lent[..length])
 }
 
 // The parts of an answer but its words that are not as the frame says.

@@ -1,6 +1,5 @@
 -- What the functions answer: lengths, and the reply of a refused call. Assumes nothing.
-use Rattle.std.proofs.Math.Option.{none}
-use Rattle.std.specs.Prelude.{ℕ}
+use Rattle.std.specs.Prelude.{ℕ, None}
 use Rattle.replies.specs.declared.Lengths.{Lengths}
 use Rattle.replies.specs.declared.Reply.{Reply}
 use Rattle.replies.specs.Replies.{plain_id}
@@ -13,6 +12,6 @@ lengths_are added updated removed relinked = record { added = added; updated = u
 unfoldable pub refused_reply : ℕ → Reply
 refused_reply k = record {
   lengths = lengths_are 0 0 0 0;
-  report = record { focus_before = plain_id none; focus_after = plain_id none; extra_before = plain_id none; extra_after = plain_id none };
+  report = record { focus_before = plain_id None; focus_after = plain_id None; extra_before = plain_id None; extra_after = plain_id None };
   number = k;
 }

@@ -1,6 +1,5 @@
 -- What the library's functions promise: each part of a reply, every word of the state and every element of the lent slice. Assumes nothing.
-use Rattle.std.specs.Prelude.{Bool, not, List, [], ◌≡◌, ℕ, eqb, if◌then◌else◌}
-use Rattle.std.proofs.Math.Option.{Option, none, some}
+use Rattle.std.specs.Prelude.{Bool, not, List, [], ◌≡◌, ℕ, eqb, if◌then◌else◌, Option, None, Some}
 use Rattle.ids.specs.declared.FullNodeId.{FullNodeId}
 use Rattle.state_array.specs.Put.{host_put}
 use Rattle.state_array.specs.Stored.{stored}
@@ -14,8 +13,8 @@ use Rattle.replies.specs.declared.Reply.{Reply}
 
 -- an id, or none, as three numbers
 unfoldable pub plain_id : Option FullNodeId → OptionalId
-plain_id none = record { node = 0; tree = 0; present = 0 }
-plain_id (some x) = record { node = x.node.0; tree = x.tree.0; present = 1 }
+plain_id None = record { node = 0; tree = 0; present = 0 }
+plain_id (Some x) = record { node = x.node.0; tree = x.tree.0; present = 1 }
 
 -- what the definition answers, as a reply
 unfoldable pub reply_to : definition.Answer → Reply

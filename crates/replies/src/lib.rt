@@ -1,17 +1,15 @@
 // What the three calls answer, as plain numbers and structs, and the host flag as they take it.
 #![tactic(auto)]
 
-ghost use Rattle.std.proofs.Math.Option.{none};
 ghost use Rattle.std.specs.Prelude.{◌≡◌, if◌then◌else◌};
-ghost use Rattle.state_focus.specs.Focus.{found_of};
 ghost use Rattle.replies.specs.Replies.{plain_id, is_set};
 ghost use Rattle.replies.specs.Plain.{lengths_are, refused_reply};
 
-use state_focus::FoundNode;
+use ids::FullNodeId;
 
 // A node's id, or none: then each part is 0.
 #[repr(C)]
-#[derive(Clone, Copy)]
+#[derive(Clone, Copy, PartialEq, Eq)]
 pub struct OptionalId {
     pub node: u64,
     pub tree: u32,
@@ -20,7 +18,7 @@ pub struct OptionalId {
 
 // How many ids each of the four lists has.
 #[repr(C)]
-#[derive(Clone, Copy)]
+#[derive(Clone, Copy, PartialEq, Eq)]
 pub struct Lengths {
     pub added: usize,
     pub updated: usize,
@@ -65,7 +63,7 @@ pub fn refused(number: u8) -> Reply
 
 // No node.
 fn no_id() -> OptionalId
-    ensures { result ≡ plain_id none }
+    ensures { result ≡ plain_id None }
 {
     OptionalId {
         node: 0,
@@ -86,11 +84,11 @@ pub fn no_lengths() -> Lengths
     }
 }
 
-// An enum as a plain id.
-pub fn plain_id(found: FoundNode) -> OptionalId
-    ensures { result ≡ plain_id (found_of found) }
+// A node, if there is one, as a plain id.
+pub fn plain_id(found: Option<FullNodeId>) -> OptionalId
+    ensures { result ≡ plain_id found }
 {
-    let FoundNode::At(x) = found else {
+    let Some(x) = found else {
         return no_id();
     };
     OptionalId {

@@ -4,7 +4,7 @@ use mathlib.Core.Bool.{true, false≢true}
 use mathlib.Core.List.Memᴰ
 use mathlib.Core.List.{List, [], ◌∷◌, ◌++◌, Memᴰ}
 use mathlib.Core.Logic.{⊎_elim}
-use mathlib.Core.Option.{none, some}
+use Rattle.std.specs.Prelude.{None, Some}
 use mathlib.Core.Path.{◌≡◌, refl, sym, ap, ◌∙◌, subst}
 use Prim.Native.Nat.{ℕ, zero, suc, ◌+◌, ◌≤◌, ◌<◌}
 use native.Mathlib.Omega.{arith}
@@ -19,7 +19,8 @@ use Rattle.ids.proofs.Ids.{same_id→≡}
 use Rattle.ids.specs.declared.NodeId.{NodeId}
 use Rattle.ids.specs.declared.FullNodeId.{FullNodeId}
 use Rattle.record.specs.Batch.{graft?}
-use Rattle.state.specs.State.{same_link, NodeState, Forest, find, present, link_at, SubtreeState, subtree_of}
+use Rattle.state.specs.State.{same_link, NodeState, Forest, find, present, link_at, subtree_of}
+use Rattle.state.specs.declared.SubtreeState.{SubtreeState}
 use Rattle.state.specs.Down.{Met, met_under, children_met, below, below_id, down, root_of, way_down, climb}
 use Rattle.state.specs.Sound.{met_once, recorded}
 use Rattle.state.proofs.State.{same_link→≡, find_id, all_find}
@@ -27,7 +28,7 @@ use Rattle.state.proofs.Sound.{Shape, Root}
 
 -- ## The way down begins at the root, and more room meets no more
 
-pub way_down_from : (s : Forest) (r : FullNodeId) → root_of s ≡ some r → way_down s ≡ down (suc (length s.nodes)) s (record { id = r; link = none } ∷ [])
+pub way_down_from : (s : Forest) (r : FullNodeId) → root_of s ≡ Some r → way_down s ≡ down (suc (length s.nodes)) s (record { id = r; link = None } ∷ [])
 unfolding way_down
 way_down_from s r e = rw (e, way_down) refl
 
@@ -57,13 +58,13 @@ below_by P s n children empty root =
     (λ t q. by_option (subtree_of s t) (λ r. rw (q, below, r) empty) (λ u r. rw (q, below, r) (root u)))
 
 -- and of nothing and of what is below a node, of what is below its id
-pub below_id_by : (P : List Met → Type 0) (s : Forest) (x : FullNodeId) → P [] → ((n : NodeState) → find x s.nodes ≡ some n → P (below s n)) → P (below_id s x)
+pub below_id_by : (P : List Met → Type 0) (s : Forest) (x : FullNodeId) → P [] → ((n : NodeState) → find x s.nodes ≡ Some n → P (below s n)) → P (below_id s x)
 unfolding below_id
 below_id_by P s x empty node = by_option (find x s.nodes) (λ q. rw (q, below_id) empty) (λ n q. rw (q, below_id) (node n q))
 
 -- m is met under p
 abbrev pub Under : FullNodeId → Met → Type 0
-Under p m = (i : ℕ) × (m.link ≡ some (record { parent = p; index = i }))
+Under p m = (i : ℕ) × (m.link ≡ Some (record { parent = p; index = i }))
 
 children_under : (p : FullNodeId) (i : ℕ) (cs : List NodeId) (m : Met) → Memᴰ m (children_met p i cs) → Under p m
 unfolding children_met met_under
@@ -141,9 +142,9 @@ pub record Descent (s : Forest) (root : FullNodeId) : Type 0 where
   -- and nothing else
   pub only : (m : Met) → Memᴰ m (way_down s) → present s.nodes m.id ≡ true
   -- more room would meet no more
-  pub whole : (more : ℕ) → down (suc (length s.nodes) + more) s (record { id = root; link = none } ∷ []) ≡ way_down s
+  pub whole : (more : ℕ) → down (suc (length s.nodes) + more) s (record { id = root; link = None } ∷ []) ≡ way_down s
   -- the root records no parent, every other node the link under which it was met
-  pub parentless : link_at s.nodes root ≡ none
+  pub parentless : link_at s.nodes root ≡ None
   pub parented : (m : Met) → Memᴰ m (way_down s) → link_at s.nodes m.id ≡ m.link
   -- climbing reaches the root in fewer steps than there are nodes
   pub climbs : (x : FullNodeId) → present s.nodes x ≡ true → (k : ℕ) × (k < length s.nodes) × (climb k s.nodes x ≡ root)
@@ -162,7 +163,7 @@ descent s h r = record {
 }
   where
     start : Met
-    start = record { id = r.root; link = none }
+    start = record { id = r.root; link = None }
 
     way : way_down s ≡ down (suc (length s.nodes)) s (start ∷ [])
     way = way_down_from s r.root r.is_the_root
@@ -222,10 +223,10 @@ down_each P s f (suc room) (k ∷ ms) h m (Memᴰ.tail i) =
     (λ j q. ⊎_elim (f k j (h k (Memᴰ.head refl))) (λ b. h j (Memᴰ.tail b)) (Memᴰ.append_cases (below_id s k.id) q)) m i
 
 -- so of the whole way down, if it holds of the root
-pub way_each : (P : Met → Type 0) (s : Forest) (r : Root s) → P (record { id = r.root; link = none })
+pub way_each : (P : Met → Type 0) (s : Forest) (r : Root s) → P (record { id = r.root; link = None })
     → ((k m : Met) → P k → Memᴰ m (below_id s k.id) → P m) → (m : Met) → Memᴰ m (way_down s) → P m
 way_each P s r p f m i =
-    let start : Met = record { id = r.root; link = none } in
+    let start : Met = record { id = r.root; link = None } in
     down_each P s f (suc (length s.nodes)) (start ∷ []) (λ j q. subst P (sym (Memᴰ.eq_of_singleton q)) p) m
     (rw (way_down_from s r.root r.is_the_root) at i)
 
@@ -233,7 +234,7 @@ way_each P s r p f m i =
 pub below_met : (s : Forest) (h : Shape s) (r : Root s) (k m : Met) → Memᴰ k (way_down s) → Memᴰ m (below_id s k.id) → Memᴰ m (way_down s)
 below_met s h r k m i j =
     let way = way_down_from s r.root r.is_the_root in
-    let start : List Met = record { id = r.root; link = none } ∷ [] in
+    let start : List Met = record { id = r.root; link = None } ∷ [] in
     let short : length (down (suc (length s.nodes)) s start) < suc (length s.nodes) =
     rw (← way) (omega (arith, leb-true (length (way_down s)) (length s.nodes) h.ends)) in
     rw way (down_below s (suc (length s.nodes)) start short k m (rw way at i) j)

@@ -2,7 +2,8 @@
 -- other rules. Assumes nothing.
 use mathlib.Core.Bool.{true, not, false≢true}
 use mathlib.Core.List.{List, [], ◌∷◌}
-use mathlib.Core.Option.{none, none-ne-some}
+use Rattle.std.specs.Prelude.{None}
+use Rattle.std.proofs.lemmas.Option.{none-some}
 use mathlib.Core.Path.{◌≡◌, refl, sym, ap, ◌∙◌}
 use Prim.Native.Nat.{ℕ, suc, ◌+◌}
 use native.Mathlib.Omega.{arith}
@@ -52,11 +53,11 @@ total_more (n ∷ ns) m ms =
     let h = total_more ns m ms in by_test (same_id n.id m.id) (λ t. rw t (omega arith)) (λ t. rw t (omega arith))
 
 -- an absent id is met by none, and in order a present one by one
-hits_none : (m : Met) (ns : List NodeState) → find m.id ns ≡ none → hits m ns ≡ 0
+hits_none : (m : Met) (ns : List NodeState) → find m.id ns ≡ None → hits m ns ≡ 0
 unfolding find hits
 hits_none m [] e = refl
 hits_none m (n ∷ ns) e =
-    by_test (same_id m.id n.id) (λ t. absurd (none-ne-some n (sym (rw t at e))))
+    by_test (same_id m.id n.id) (λ t. absurd (none-some n (sym (rw t at e))))
     (λ t. rw (same_id_sym n.id m.id, t) (hits_none m ns (rw t at e)))
 
 hits_one : (m : Met) (ns : List NodeState) → ascending ns ≡ true → present ns m.id ≡ true → hits m ns ≡ 1

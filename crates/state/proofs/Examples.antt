@@ -2,7 +2,7 @@
 -- Assumes nothing.
 use mathlib.Core.Bool.{true, false}
 use mathlib.Core.List.{List, [], ◌∷◌, map}
-use mathlib.Core.Option.{none, some}
+use Rattle.std.specs.Prelude.{None, Some}
 use mathlib.Core.Path.{◌≡◌, refl}
 use Prim.Native.Nat.{ℕ}
 use lib.ListN.{replicate}
@@ -55,9 +55,9 @@ ways :
     (map (λ m. m.id) (way_down whole) ≡ id 0 1 ∷ id 0 2 ∷ id 0 3 ∷ id 1 1 ∷ [])
     × (climb 2 whole.nodes (id 1 1) ≡ id 0 1)
     × (climb 1 whole.nodes (id 1 1) ≡ id 0 3)
-    × (holder whole.nodes T ≡ some (id 0 3))
-    × (holder whole.nodes U ≡ none)
-    × (parent_at whole.nodes (id 0 2) ≡ some (id 0 1))
+    × (holder whole.nodes T ≡ Some (id 0 3))
+    × (holder whole.nodes U ≡ None)
+    × (parent_at whole.nodes (id 0 2) ≡ Some (id 0 1))
 unfolding computed
 ways = (refl, refl, refl, refl, refl, refl)
 
@@ -137,12 +137,12 @@ abbrev focusing : NodeData → ℕ → State
 focusing d f = state (one ∷ two ∷ three ∷ under (id 0 3) 0 (id 1 1) d ∷ []) (tree ROOT 1 f ∷ tree T 1 1 ∷ [])
 
 focuses :
-    (state_focus (focusing leaf 2) ≡ some (id 0 2))
-    × (state_focus (focusing leaf 3) ≡ some (id 1 1))
-    × (effective_focus (focusing (active 1) 3).forest ≡ some (id 1 1))
-    × (state_focus (state (root 0 1 (parent (2 ∷ [])) ∷ under (id 0 1) 0 (id 0 2) (active 1) ∷ []) (tree ROOT 1 2 ∷ [])) ≡ some (id 0 1))
-    × (state_focus (focusing (active 2) 3) ≡ some (id 1 1))
-    × (state_focus (record { forest = whole; host_focused = false }) ≡ none)
-    × (effective_focus (forest (one ∷ two ∷ three ∷ []) (tree ROOT 1 3 ∷ [])) ≡ none)
+    (state_focus (focusing leaf 2) ≡ Some (id 0 2))
+    × (state_focus (focusing leaf 3) ≡ Some (id 1 1))
+    × (effective_focus (focusing (active 1) 3).forest ≡ Some (id 1 1))
+    × (state_focus (state (root 0 1 (parent (2 ∷ [])) ∷ under (id 0 1) 0 (id 0 2) (active 1) ∷ []) (tree ROOT 1 2 ∷ [])) ≡ Some (id 0 1))
+    × (state_focus (focusing (active 2) 3) ≡ Some (id 1 1))
+    × (state_focus (record { forest = whole; host_focused = false }) ≡ None)
+    × (effective_focus (forest (one ∷ two ∷ three ∷ []) (tree ROOT 1 3 ∷ [])) ≡ None)
 unfolding computed
 focuses = (refl, refl, refl, refl, refl, refl, refl)

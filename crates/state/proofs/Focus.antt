@@ -2,7 +2,8 @@
 -- Assumes nothing.
 use mathlib.Core.Bool.{true, false, not, true≢false}
 use mathlib.Core.List.{List, [], ◌∷◌, map}
-use mathlib.Core.Option.{none, some, none-ne-some, some-injective}
+use Rattle.std.specs.Prelude.{None, Some}
+use Rattle.std.proofs.lemmas.Option.{none-some, same_Some}
 use mathlib.Core.Logic.{◌⊎◌, inl, inr, ⊎_elim}
 use mathlib.Core.Path.{◌≡◌, refl, sym, ap, ◌∙◌, subst}
 use Prim.Native.Nat.{ℕ, zero, suc, ◌+◌, ◌<◌}
@@ -21,7 +22,8 @@ use Rattle.ids.specs.Ids.{ROOT, same_tree}
 use Rattle.ids.proofs.Ids.{same_tree→≡}
 use Rattle.ids.specs.declared.TreeId.{TreeId}
 use Rattle.ids.specs.declared.FullNodeId.{FullNodeId}
-use Rattle.state.specs.State.{TreeEntry, Forest, graft_at, holder, SubtreeState, subtree_state, subtree_from, subtree_of}
+use Rattle.state.specs.State.{TreeEntry, Forest, graft_at, holder, subtree_state, subtree_from, subtree_of}
+use Rattle.state.specs.declared.SubtreeState.{SubtreeState}
 use Rattle.state.specs.Focus.{through_grafts, effective_focus}
 use Rattle.state.specs.Sound.{grafts_differ}
 use Rattle.state.proofs.Grafts.{holder_spared, graft_spared, graft_one}
@@ -37,19 +39,19 @@ abbrev StandsAt : List TreeEntry → TreeId → ℕ → Type 0
 StandsAt es t i = (i < length es) × (get_or (tree_ids es) i ROOT ≡ t)
 
 -- a tree that exists stands at the place that its number says
-subtree_place : (k : ℕ) (es : List TreeEntry) (t : TreeId) (u : SubtreeState) → subtree_from k es t ≡ some u
+subtree_place : (k : ℕ) (es : List TreeEntry) (t : TreeId) (u : SubtreeState) → subtree_from k es t ≡ Some u
     → (i : ℕ) × (u.focus.tree.0 ≡ k + i) × StandsAt es t i
 unfolding subtree_from subtree_state
-subtree_place k [] t u e = absurd (none-ne-some u e)
+subtree_place k [] t u e = absurd (none-some u e)
 subtree_place k (r ∷ es) t u e =
     by_test (same_tree t r.id)
-    (λ q. let z = some_from r.subtree (λ v. some (subtree_state k v)) u (rw q at e) in
-    let p : k ≡ u.focus.tree.0 = ap (λ (v : SubtreeState). v.focus.tree.0) (some-injective (subtree_state k z.0) u z.2) in
+    (λ q. let z = some_from r.subtree (λ v. Some (subtree_state k v)) u (rw q at e) in
+    let p : k ≡ u.focus.tree.0 = ap (λ (v : SubtreeState). v.focus.tree.0) (same_Some (subtree_state k z.0) u z.2) in
     (0, omega arith, (omega arith, sym (same_tree→≡ t r.id q))))
     (λ q. let z = subtree_place (suc k) es t u (rw q at e) in (suc z.0, omega (arith, z.1), (omega (arith, z.2.0), z.2.1)))
 
 -- trees of one number are one
-subtree_one : (s : Forest) (t w : TreeId) (u v : SubtreeState) → subtree_of s t ≡ some u → subtree_of s w ≡ some v
+subtree_one : (s : Forest) (t w : TreeId) (u v : SubtreeState) → subtree_of s t ≡ Some u → subtree_of s w ≡ Some v
     → u.focus.tree.0 ≡ v.focus.tree.0 → t ≡ w
 unfolding subtree_of
 subtree_one s t w u v p q e =
@@ -59,7 +61,7 @@ subtree_one s t w u v p q e =
     sym y.2.1 ∙ ap (λ (k : ℕ). get_or (tree_ids s.trees) k ROOT) i ∙ z.2.1
 
 -- the number of a tree that exists is a place in the table
-subtree_below : (s : Forest) (t : TreeId) (u : SubtreeState) → subtree_of s t ≡ some u → u.focus.tree.0 < length s.trees
+subtree_below : (s : Forest) (t : TreeId) (u : SubtreeState) → subtree_of s t ≡ Some u → u.focus.tree.0 < length s.trees
 unfolding subtree_of
 subtree_below s t u p = let z = subtree_place 0 s.trees t u p in omega (arith, z.1, z.2.0)
 
@@ -91,7 +93,7 @@ without_cases q left k e =
 
 -- two rooms answer the same where they do so in the tree that is entered next
 through_next : (s : Forest) (m n : ℕ) (x : FullNodeId)
-    → ((t : TreeId) (u : SubtreeState) → graft_at s.nodes x ≡ some t → subtree_of s t ≡ some u → through_grafts m s u.focus ≡ through_grafts n s u.focus)
+    → ((t : TreeId) (u : SubtreeState) → graft_at s.nodes x ≡ Some t → subtree_of s t ≡ Some u → through_grafts m s u.focus ≡ through_grafts n s u.focus)
     → through_grafts (suc m) s x ≡ through_grafts (suc n) s x
 unfolding through_grafts
 through_next s m n x h =
@@ -101,9 +103,9 @@ through_next s m n x h =
 -- y grafts the tree of number k, which exists
 record Enters (s : Forest) (y : FullNodeId) (k : ℕ) : Type 0 where
   tree : TreeId
-  grafts : graft_at s.nodes y ≡ some tree
+  grafts : graft_at s.nodes y ≡ Some tree
   subtree : SubtreeState
-  exists : subtree_of s tree ≡ some subtree
+  exists : subtree_of s tree ≡ Some subtree
   numbered : subtree.focus.tree.0 ≡ k
 
 -- `left` are the numbers of the trees not entered, x is the last focus: a node that grafts an entered tree stands in a tree entered before that of x.
@@ -115,7 +117,7 @@ module _ (s : Forest) (differ : grafts_differ s.nodes ≡ true) where
   enters_one : (y z : FullNodeId) (k : ℕ) → Enters s y k → Enters s z k → y ≡ z
   enters_one y z k d e =
       let one : d.tree ≡ e.tree = subtree_one s d.tree e.tree d.subtree e.subtree d.exists e.exists (d.numbered ∙ sym e.numbered) in
-      graft_one s.nodes differ y z e.tree (d.grafts ∙ ap some one) e.grafts
+      graft_one s.nodes differ y z e.tree (d.grafts ∙ ap Some one) e.grafts
 
   -- the tree of z, entered from x, is left no longer
   follows : (left : List ℕ) (x z : FullNodeId) → has eqb left x.tree.0 ≡ false → Follows s left x → Enters s x z.tree.0 → has eqb left z.tree.0 ≡ true
@@ -128,7 +130,7 @@ module _ (s : Forest) (differ : grafts_differ s.nodes ≡ true) where
   -- What holds of a room and a node where it holds of the room less one and the focus of the tree that the node grafts, if there is one.
   module _ (P : ℕ → FullNodeId → Type 0)
       (step : (room : ℕ) (x : FullNodeId)
-      → ((t : TreeId) (u : SubtreeState) → graft_at s.nodes x ≡ some t → subtree_of s t ≡ some u → P room u.focus) → P (suc room) x) where
+      → ((t : TreeId) (u : SubtreeState) → graft_at s.nodes x ≡ Some t → subtree_of s t ≡ Some u → P room u.focus) → P (suc room) x) where
     -- holds where there is more room than numbers left
     enough : (room : ℕ) (left : List ℕ) (x : FullNodeId) → length left < room → has eqb left x.tree.0 ≡ false → Follows s left x → P room x
     enough zero left x short out inv = absurd (omega arith)
@@ -141,7 +143,7 @@ module _ (s : Forest) (differ : grafts_differ s.nodes ≡ true) where
         (λ l. absurd ((inv x q d l).1 refl)))
 
     -- so it holds of the room of the effective focus, where ROOT is not grafted: no tree is entered twice
-    pub room_by : holder s.nodes ROOT ≡ none → (u : SubtreeState) → subtree_of s ROOT ≡ some u → P (suc (length s.trees)) u.focus
+    pub room_by : holder s.nodes ROOT ≡ None → (u : SubtreeState) → subtree_of s ROOT ≡ Some u → P (suc (length s.trees)) u.focus
     room_by free u is =
         enough (suc count) (without first all_numbers) u.focus (omega (arith, keep_less (eqb first) all_numbers (among first (subtree_below s ROOT u is)), length_list_of count (λ i. i)))
         (without_self first all_numbers) start
@@ -162,11 +164,11 @@ module _ (s : Forest) (differ : grafts_differ s.nodes ≡ true) where
         start y k e f =
             absurd (⊎_elim (λ n. true≢false (sym (among k (rw e.numbered at (subtree_below s e.tree e.subtree e.exists))) ∙ n))
             (λ p. graft_spared s.nodes y ROOT (sym (holder_spared s.nodes ROOT) ∙ ap is_none free)
-            (e.grafts ∙ ap some (subtree_one s e.tree ROOT e.subtree u e.exists is (e.numbered ∙ p))))
+            (e.grafts ∙ ap Some (subtree_one s e.tree ROOT e.subtree u e.exists is (e.numbered ∙ p))))
             (without_cases first all_numbers k f))
 
 -- where no tree is grafted twice and ROOT is not grafted, more room answers the same
-pub room_enough : (s : Forest) → grafts_differ s.nodes ≡ true → holder s.nodes ROOT ≡ none → (u : SubtreeState) → subtree_of s ROOT ≡ some u → (more : ℕ)
+pub room_enough : (s : Forest) → grafts_differ s.nodes ≡ true → holder s.nodes ROOT ≡ None → (u : SubtreeState) → subtree_of s ROOT ≡ Some u → (more : ℕ)
     → through_grafts (suc (length s.trees) + more) s u.focus ≡ effective_focus s
 unfolding effective_focus
 room_enough s differ free u is more =

@@ -1,7 +1,8 @@
 -- Going down, where every node met is recorded with the link under which it is met, meets no node twice. Assumes nothing.
 use mathlib.Core.Bool.{true}
 use mathlib.Core.List.{List, [], ◌∷◌, ◌++◌}
-use mathlib.Core.Option.{Option, none, some, some-injective}
+use Rattle.std.specs.Prelude.{Option, None, Some}
+use Rattle.std.proofs.lemmas.Option.{same_Some}
 use mathlib.Core.Path.{◌≡◌, refl, sym, ap, ◌∙◌, subst}
 use Prim.Native.Nat.{ℕ, zero, suc, ◌+◌, ◌≤◌}
 use native.Mathlib.Omega.{arith}
@@ -38,8 +39,8 @@ unfolding ways same_link
 ways_here k m ms e = let here : same_option same_link k m.link ≡ true = rw e (same m.link) in rw here
   where
     same : (o : Option ParentAndIndex) → same_option same_link o o ≡ true
-    same none = refl
-    same (some l) = joined (same_id_refl l.parent) (eq-eqb l.index l.index refl)
+    same None = refl
+    same (Some l) = joined (same_id_refl l.parent) (eq-eqb l.index l.index refl)
 
 ways_append : (k : Option ParentAndIndex) (xs ys : List Met) → ways k (xs ++ ys) ≡ ways k xs + ways k ys
 unfolding ways
@@ -65,7 +66,7 @@ meets_most ns x (m ∷ ms) e =
 -- each link at most once, and each with x as the parent and a place from i on
 record From (x : FullNodeId) (i : ℕ) (ms : List Met) : Type 0 where
   each : (k : Option ParentAndIndex) → ways k ms ≤ 1
-  under : (k : Option ParentAndIndex) → 1 ≤ ways k ms → (l : ParentAndIndex) × (k ≡ some l) × (l.parent ≡ x) × (i ≤ l.index)
+  under : (k : Option ParentAndIndex) → 1 ≤ ways k ms → (l : ParentAndIndex) × (k ≡ Some l) × (l.parent ≡ x) × (i ≤ l.index)
 
 from_none : (x : FullNodeId) (i : ℕ) → From x i []
 unfolding ways
@@ -77,7 +78,7 @@ from_more x y i rest r = record {
   each = λ k. by_way k (met_under x i y) rest
       (λ q e. by_order 0 (ways k rest)
       (λ h. let z = r.under k h in
-      let here : ◌≡◌ {A = ParentAndIndex} (record { parent = x; index = i }) z.0 = some-injective _ _ (sym q ∙ z.1) in
+      let here : ◌≡◌ {A = ParentAndIndex} (record { parent = x; index = i }) z.0 = same_Some _ _ (sym q ∙ z.1) in
       absurd (omega (arith, z.3, ap (λ (l : ParentAndIndex). l.index) here)))
       (λ h. omega arith))
       (λ e. omega (arith, r.each k));
@@ -102,7 +103,7 @@ below_from s x =
 -- what is known of the nodes met, vs, and of those still to be gone to, ms
 record Known (ns : List NodeState) (vs ms : List Met) : Type 0 where
   apart : (k : Option ParentAndIndex) → ways k vs + ways k ms ≤ 1
-  parents : (l : ParentAndIndex) → 1 ≤ ways (some l) vs + ways (some l) ms → 1 ≤ meets l.parent vs
+  parents : (l : ParentAndIndex) → 1 ≤ ways (Some l) vs + ways (Some l) ms → 1 ≤ meets l.parent vs
   told : all (recorded ns) vs ≡ true
 
 known_next : (s : Forest) (vs ms : List Met) (m : Met) → Known s.nodes vs (m ∷ ms) → recorded s.nodes m ≡ true
@@ -121,9 +122,9 @@ known_next s vs ms m h e = record { apart = apart; parents = parents; told = joi
     fresh = omega (arith, rw (recorded_link s.nodes m e) at (meets_most s.nodes m.id vs h.told), h.apart m.link, ways_here m.link m ms refl)
 
     -- so no link with the node as its parent was met by before
-    none_before : (l : ParentAndIndex) → l.parent ≡ m.id → ways (some l) vs + ways (some l) (m ∷ ms) ≡ 0
+    none_before : (l : ParentAndIndex) → l.parent ≡ m.id → ways (Some l) vs + ways (Some l) (m ∷ ms) ≡ 0
     none_before l q =
-        by_order 0 (ways (some l) vs + ways (some l) (m ∷ ms)) (λ z. absurd (omega (arith, rw q at (h.parents l z), fresh))) (λ z. omega arith)
+        by_order 0 (ways (Some l) vs + ways (Some l) (m ∷ ms)) (λ z. absurd (omega (arith, rw q at (h.parents l z), fresh))) (λ z. omega arith)
 
     apart : (k : Option ParentAndIndex) → ways k (m ∷ vs) + ways k (new ++ ms) ≤ 1
     apart k =
@@ -133,14 +134,14 @@ known_next s vs ms m h e = record { apart = apart; parents = parents; told = joi
         omega (arith, b.each k, ways_append k new ms, ways_cons k m vs, ways_cons k m ms))
         (λ z. omega (arith, h.apart k, ways_append k new ms, ways_cons k m vs, ways_cons k m ms))
 
-    parents : (l : ParentAndIndex) → 1 ≤ ways (some l) (m ∷ vs) + ways (some l) (new ++ ms) → 1 ≤ meets l.parent (m ∷ vs)
+    parents : (l : ParentAndIndex) → 1 ≤ ways (Some l) (m ∷ vs) + ways (Some l) (new ++ ms) → 1 ≤ meets l.parent (m ∷ vs)
     parents l p =
         by_test (same_id l.parent m.id) (λ t. rw t (omega arith))
-        (λ t. by_order 0 (ways (some l) new)
-        (λ z. let w = b.under (some l) z in
-        let q : l.parent ≡ m.id = ap (λ (j : ParentAndIndex). j.parent) (some-injective l w.0 w.1) ∙ w.2 in
+        (λ t. by_order 0 (ways (Some l) new)
+        (λ z. let w = b.under (Some l) z in
+        let q : l.parent ≡ m.id = ap (λ (j : ParentAndIndex). j.parent) (same_Some l w.0 w.1) ∙ w.2 in
         absurd (clash t (rw q (same_id_refl m.id))))
-        (λ z. rw t (h.parents l (omega (arith, ways_append (some l) new ms, ways_cons (some l) m vs, ways_cons (some l) m ms)))))
+        (λ z. rw t (h.parents l (omega (arith, ways_append (Some l) new ms, ways_cons (Some l) m vs, ways_cons (Some l) m ms)))))
 
 down_once : (s : Forest) (room : ℕ) (vs ms : List Met) → Known s.nodes vs ms → all (recorded s.nodes) (down room s ms) ≡ true
     → (k : Option ParentAndIndex) → ways k vs + ways k (down room s ms) ≤ 1
@@ -152,18 +153,18 @@ down_once s (suc room) vs (m ∷ ms) h e k =
     omega (arith, down_once s room (m ∷ vs) (below_id s m.id ++ ms) r (both e).1 k, ways_cons k m vs, ways_cons k m (down room s (below_id s m.id ++ ms)))
 
 -- going down from a node that has no parent, where every node met is recorded so, no node is met twice
-pub once : (s : Forest) (room : ℕ) (r : FullNodeId) → all (recorded s.nodes) (down room s (record { id = r; link = none } ∷ [])) ≡ true
-    → (x : FullNodeId) → meets x (down room s (record { id = r; link = none } ∷ [])) ≤ 1
+pub once : (s : Forest) (room : ℕ) (r : FullNodeId) → all (recorded s.nodes) (down room s (record { id = r; link = None } ∷ [])) ≡ true
+    → (x : FullNodeId) → meets x (down room s (record { id = r; link = None } ∷ [])) ≤ 1
 unfolding ways
 once s room r e x =
     omega (arith, meets_most s.nodes x (down room s (top ∷ [])) e, down_once s room [] (top ∷ []) start e (link_at s.nodes x))
   where
     top : Met
-    top = record { id = r; link = none }
+    top = record { id = r; link = None }
 
     one : (k : Option ParentAndIndex) → ways k [] + ways k (top ∷ []) ≤ 1
-    one none = omega arith
-    one (some l) = omega arith
+    one None = omega arith
+    one (Some l) = omega arith
 
     start : Known s.nodes [] (top ∷ [])
     start = record { apart = one; parents = λ l p. absurd (omega arith); told = refl }

@@ -1,12 +1,11 @@
 -- Laws of nodes in ascending order: what is found in them tells the list, and which changes keep the order. Assumes nothing.
 use mathlib.Core.Bool.{Bool, true}
 use mathlib.Core.List.{List, [], ◌∷◌, map}
-use mathlib.Core.Option.{none, some}
 use mathlib.Core.Path.{◌≡◌, refl, ap, ◌∙◌}
 use Prim.Native.Nat.{ℕ, zero, suc, ◌+◌, ◌<◌}
 use native.Mathlib.Numerals.{add-one}
 use native.Mathlib.Omega.{arith}
-use Rattle.std.specs.Prelude.{if◌then◌else◌}
+use Rattle.std.specs.Prelude.{if◌then◌else◌, None, Some}
 use Rattle.base.specs.Tests.{all, keep}
 use Rattle.base.specs.Bytes.{list_of}
 use Rattle.base.proofs.Cases.{by_test}
@@ -23,7 +22,7 @@ use Rattle.state.specs.Sound.{ascending}
 -- ## Finding in order
 
 -- an id that comes before all nodes is not found
-pub find_none : (x : FullNodeId) (ns : List NodeState) → all (λ n. before x n.id) ns ≡ true → find x ns ≡ none
+pub find_none : (x : FullNodeId) (ns : List NodeState) → all (λ n. before x n.id) ns ≡ true → find x ns ≡ None
 unfolding find
 find_none x [] e = refl
 find_none x (n ∷ ns) e = rw (same_id_sym x n.id ∙ before_apart x n.id (both e).0) (find_none x ns (both e).1)
@@ -32,7 +31,7 @@ find_none x (n ∷ ns) e = rw (same_id_sym x n.id ∙ before_apart x n.id (both 
 
 -- a test of ids keeps what is found under an id that passes
 pub find_keep : (q : FullNodeId → Bool) (ns : List NodeState) (x : FullNodeId)
-    → find x (keep (λ n. q n.id) ns) ≡ (if q x then find x ns else none)
+    → find x (keep (λ n. q n.id) ns) ≡ (if q x then find x ns else None)
 unfolding find
 find_keep q [] x = by_test (q x) (λ t. rw t) (λ t. rw t)
 find_keep q (n ∷ ns) x =
@@ -51,7 +50,7 @@ ascending_keep q (n ∷ ns) e =
 -- ## Nodes changed under their ids
 
 module _ (f : NodeState → NodeState) (same : (n : NodeState) → (f n).id ≡ n.id) where
-  pub find_map : (ns : List NodeState) (x : FullNodeId) → find x (map f ns) ≡ elim (find x ns) [ none ↦ none | some n ↦ some (f n) ]
+  pub find_map : (ns : List NodeState) (x : FullNodeId) → find x (map f ns) ≡ elim (find x ns) [ None ↦ None | Some n ↦ Some (f n) ]
   unfolding find
   find_map [] x = refl
   find_map (n ∷ ns) x =

@@ -1,7 +1,7 @@
 -- A sound shape names fewer children than it has nodes: the way down meets each node once, and all but the root below another. Assumes nothing.
 use mathlib.Core.Bool.{true, false≢true}
 use mathlib.Core.List.{List, [], ◌∷◌, ◌++◌, map, Memᴰ}
-use mathlib.Core.Option.{none}
+use Rattle.std.specs.Prelude.{None}
 use mathlib.Core.Path.{◌≡◌, refl, ap, ◌∙◌, subst}
 use Prim.Native.Nat.{ℕ, zero, suc, ◌+◌, ◌≤◌, ◌<◌}
 use native.Mathlib.Nat.{not-suc-le-zero, le_of_suc-le-suc}
@@ -77,7 +77,7 @@ module _ (s : Forest) where
   way_length h =
       let r = root_of_shape s h in
       let way = way_down_from s r.root r.is_the_root in
-      let start : List Met = record { id = r.root; link = none } ∷ [] in
+      let start : List Met = record { id = r.root; link = None } ∷ [] in
       let short : length (down (suc (length s.nodes)) s start) < suc (length s.nodes) =
       rw (← way) (omega (arith, leb-true (length (way_down s)) (length s.nodes) h.ends)) in
       rw way (down_length (suc (length s.nodes)) start short)

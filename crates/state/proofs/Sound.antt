@@ -1,7 +1,8 @@
 -- What soundness says, part by part, and back; the root; the effective focus is never a graft. Assumes nothing.
 use mathlib.Core.Bool.{true, false≢true}
 use mathlib.Core.List.{List, [], ◌∷◌}
-use mathlib.Core.Option.{none, some, none-ne-some, some-injective}
+use Rattle.std.specs.Prelude.{None, Some}
+use Rattle.std.proofs.lemmas.Option.{none-some, same_Some}
 use mathlib.Core.Path.{◌≡◌, refl}
 use Prim.Native.Nat.{ℕ, zero, suc}
 use lib.Dec.{leb}
@@ -56,11 +57,11 @@ sound_of s p = joined (joined (joined (joined p.shape p.few_nodes) p.few_trees) 
 
 pub record Root (s : Forest) : Type 0 where
   pub root : FullNodeId
-  pub is_the_root : root_of s ≡ some root
+  pub is_the_root : root_of s ≡ Some root
   pub there : present s.nodes root ≡ true
 
-root_of_first : (ns : List NodeState) (t : TreeEntry) (ts : List TreeEntry) (u : Subtree) → t.id ≡ ROOT → t.subtree ≡ some u
-    → root_of (record { nodes = ns; trees = t ∷ ts }) ≡ some (record { tree = record { 0 = 0 }; node = u.root })
+root_of_first : (ns : List NodeState) (t : TreeEntry) (ts : List TreeEntry) (u : Subtree) → t.id ≡ ROOT → t.subtree ≡ Some u
+    → root_of (record { nodes = ns; trees = t ∷ ts }) ≡ Some (record { tree = record { 0 = 0 }; node = u.root })
 unfolding root_of subtree_of subtree_from subtree_state same_tree ◌and◌
 root_of_first ns t ts u p q = rw (p, q) refl
 
@@ -81,19 +82,19 @@ root_of_shape s h = root_of_tables s.nodes s.trees h.first h.held
 -- ## The effective focus
 
 -- a way through the grafts ends at no graft
-pub through_grafts_end : (s : Forest) (room : ℕ) (x y : FullNodeId) → through_grafts room s x ≡ some y → graft_at s.nodes y ≡ none
+pub through_grafts_end : (s : Forest) (room : ℕ) (x y : FullNodeId) → through_grafts room s x ≡ Some y → graft_at s.nodes y ≡ None
 unfolding through_grafts
-through_grafts_end s zero x y e = absurd (none-ne-some y e)
+through_grafts_end s zero x y e = absurd (none-some y e)
 through_grafts_end s (suc room) x y e =
-    by_option (graft_at s.nodes x) (λ q. rw (← some-injective x y (rw (q, through_grafts) at e)) q)
+    by_option (graft_at s.nodes x) (λ q. rw (← same_Some x y (rw (q, through_grafts) at e)) q)
     (λ t q. let u = some_from (subtree_of s t) (λ v. through_grafts room s v.focus) y (rw (q, through_grafts) at e) in
     through_grafts_end s room u.0.focus y u.2)
 
 pub record Focus (s : Forest) : Type 0 where
   pub focus : FullNodeId
-  pub effective : effective_focus s ≡ some focus
+  pub effective : effective_focus s ≡ Some focus
   pub there : present s.nodes focus ≡ true
-  pub no_graft : graft_at s.nodes focus ≡ none
+  pub no_graft : graft_at s.nodes focus ≡ None
 
 pub focus_of_sound : (s : Forest) → focus_present s ≡ true → Focus s
 unfolding focus_present

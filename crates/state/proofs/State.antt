@@ -1,7 +1,8 @@
 -- Laws of finding and keeping nodes. Assumes nothing.
 use mathlib.Core.Bool.{Bool, true}
 use mathlib.Core.List.{List, [], ◌∷◌, Memᴰ}
-use mathlib.Core.Option.{some, none-ne-some, some-injective}
+use Rattle.std.specs.Prelude.{Some}
+use Rattle.std.proofs.lemmas.Option.{none-some, same_Some}
 use mathlib.Core.Path.{◌≡◌, refl, sym, ap, ◌∙◌}
 use borrow.Author.Tests.{eqb-true}
 use Rattle.base.specs.Tests.{◌and◌, all, keep, has}
@@ -35,25 +36,25 @@ present_keep q ns x =
     ∙ ap (λ (c : Bool). c and q x) (sym (present_has ns x))
 
 -- what is found is what was looked for
-pub find_id : (ns : List NodeState) (x : FullNodeId) (n : NodeState) → find x ns ≡ some n → n.id ≡ x
+pub find_id : (ns : List NodeState) (x : FullNodeId) (n : NodeState) → find x ns ≡ Some n → n.id ≡ x
 unfolding find
-find_id [] x n e = absurd (none-ne-some n e)
+find_id [] x n e = absurd (none-some n e)
 find_id (m ∷ ns) x n e =
-    by_test (same_id x m.id) (λ t. rw (← some-injective m n (rw t at e)) (sym (same_id→≡ x m.id t))) (λ t. find_id ns x n (rw t at e))
+    by_test (same_id x m.id) (λ t. rw (← same_Some m n (rw t at e)) (sym (same_id→≡ x m.id t))) (λ t. find_id ns x n (rw t at e))
 
 -- and is one of the nodes
-pub find_member : (ns : List NodeState) (x : FullNodeId) (n : NodeState) → find x ns ≡ some n → Memᴰ n ns
+pub find_member : (ns : List NodeState) (x : FullNodeId) (n : NodeState) → find x ns ≡ Some n → Memᴰ n ns
 unfolding find
-find_member [] x n e = absurd (none-ne-some n e)
+find_member [] x n e = absurd (none-some n e)
 find_member (m ∷ ns) x n e =
-    by_test (same_id x m.id) (λ t. Memᴰ.head (sym (some-injective m n (rw t at e)))) (λ t. Memᴰ.tail (find_member ns x n (rw t at e)))
+    by_test (same_id x m.id) (λ t. Memᴰ.head (sym (same_Some m n (rw t at e)))) (λ t. Memᴰ.tail (find_member ns x n (rw t at e)))
 
 -- and passes every test that all nodes pass
-pub all_find : (p : NodeState → Bool) (ns : List NodeState) (x : FullNodeId) (n : NodeState) → all p ns ≡ true → find x ns ≡ some n → p n ≡ true
+pub all_find : (p : NodeState → Bool) (ns : List NodeState) (x : FullNodeId) (n : NodeState) → all p ns ≡ true → find x ns ≡ Some n → p n ≡ true
 all_find p ns x n e f = all_member p ns n e (find_member ns x n f)
 
 -- a node that stands in order is found by its id
-pub find_self : (ns : List NodeState) (n : NodeState) → ascending ns ≡ true → Memᴰ n ns → find n.id ns ≡ some n
+pub find_self : (ns : List NodeState) (n : NodeState) → ascending ns ≡ true → Memᴰ n ns → find n.id ns ≡ Some n
 unfolding find ascending
 find_self [] n e x'' = elim x'' [ ]
 find_self (m ∷ ns) n e (Memᴰ.head q) = rw (q, same_id_refl m.id)

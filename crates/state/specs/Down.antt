@@ -1,7 +1,6 @@
 -- Going down from the root, and climbing by the recorded parents: document 01, "The update", "A state is sound".
 -- Assumes nothing.
-use Rattle.std.specs.Prelude.{List, [], ◌∷◌, ◌++◌, ℕ, zero, suc, length}
-use Rattle.std.proofs.Math.Option.{Option, none, some}
+use Rattle.std.specs.Prelude.{List, [], ◌∷◌, ◌++◌, ℕ, zero, suc, length, Option, None, Some}
 use Rattle.ids.specs.Ids.{ROOT}
 use Rattle.ids.specs.declared.NodeId.{NodeId}
 use Rattle.ids.specs.declared.FullNodeId.{FullNodeId}
@@ -15,7 +14,7 @@ pub record Met : Type 0 where
 
 -- x met under p at place i
 unfoldable pub met_under : FullNodeId → ℕ → FullNodeId → Met
-met_under p i x = record { id = x; link = some (record { parent = p; index = i }) }
+met_under p i x = record { id = x; link = Some (record { parent = p; index = i }) }
 
 -- the children of p, in its tree, from place i on
 unfoldable pub children_met : FullNodeId → ℕ → List NodeId → List Met
@@ -26,13 +25,13 @@ children_met p i (c ∷ cs) = met_under p i (record { tree = p.tree; node = c })
 unfoldable pub below : Forest → NodeState → List Met
 below s n =
     elim (graft? n.body) [
-      | none ↦ children_met n.id 0 n.body.children
-      | some t ↦ elim (subtree_of s t) [ none ↦ [] | some u ↦ met_under n.id 0 u.root ∷ [] ]
+      | None ↦ children_met n.id 0 n.body.children
+      | Some t ↦ elim (subtree_of s t) [ None ↦ [] | Some u ↦ met_under n.id 0 u.root ∷ [] ]
     ]
 
 -- the same of an id; nothing where it is absent
 unfoldable pub below_id : Forest → FullNodeId → List Met
-below_id s x = elim (find x s.nodes) [ none ↦ [] | some n ↦ below s n ]
+below_id s x = elim (find x s.nodes) [ None ↦ [] | Some n ↦ below s n ]
 
 -- Everything met going down from a list of nodes, parents before children, at most `room` of them.
 unfoldable pub down : ℕ → Forest → List Met → List Met
@@ -42,17 +41,17 @@ down (suc room) s (m ∷ ms) = m ∷ down room s (below_id s m.id ++ ms)
 
 -- ROOT's root
 unfoldable pub root_of : Forest → Option FullNodeId
-root_of s = elim (subtree_of s ROOT) [ none ↦ none | some u ↦ some u.root ]
+root_of s = elim (subtree_of s ROOT) [ None ↦ None | Some u ↦ Some u.root ]
 
 -- The way down: everything met going down from the root, with room for one more than the nodes that there are.
 unfoldable pub way_down : Forest → List Met
 way_down s =
     elim (root_of s) [
-      | none ↦ []
-      | some r ↦ down (suc (length s.nodes)) s (record { id = r; link = none } ∷ [])
+      | None ↦ []
+      | Some r ↦ down (suc (length s.nodes)) s (record { id = r; link = None } ∷ [])
     ]
 
 -- climbing k steps by the recorded parents
 unfoldable pub climb : ℕ → List NodeState → FullNodeId → FullNodeId
 climb zero ns x = x
-climb (suc k) ns x = elim (link_at ns x) [ none ↦ x | some l ↦ climb k ns l.parent ]
+climb (suc k) ns x = elim (link_at ns x) [ None ↦ x | Some l ↦ climb k ns l.parent ]

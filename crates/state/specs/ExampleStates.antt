@@ -1,7 +1,6 @@
 -- States written short, for worked examples.
 -- Assumes nothing.
-use Rattle.std.specs.Prelude.{true, List, ℕ}
-use Rattle.std.proofs.Math.Option.{none, some}
+use Rattle.std.specs.Prelude.{true, List, ℕ, None, Some}
 use Rattle.ids.specs.declared.TreeId.{TreeId}
 use Rattle.ids.specs.declared.FullNodeId.{FullNodeId}
 use Rattle.record.specs.Batch.{NodeData}
@@ -13,18 +12,18 @@ abbrev pub id : ℕ → ℕ → FullNodeId
 id t n = record { tree = record { 0 = t }; node = record { 0 = n } }
 
 abbrev pub root : ℕ → ℕ → NodeData → NodeState
-root t n d = record { id = id t n; parent_and_index = none; body = d }
+root t n d = record { id = id t n; parent_and_index = None; body = d }
 
 -- a node under a parent, at a place among its children
 abbrev pub under : FullNodeId → ℕ → FullNodeId → NodeData → NodeState
-under p i x d = record { id = x; parent_and_index = some (record { parent = p; index = i }); body = d }
+under p i x d = record { id = x; parent_and_index = Some (record { parent = p; index = i }); body = d }
 
 -- a tree with its root and focus; one that does not exist
 abbrev pub tree : TreeId → ℕ → ℕ → TreeEntry
-tree t r f = record { id = t; subtree = some (record { root = node r; focus = node f }) }
+tree t r f = record { id = t; subtree = Some (record { root = node r; focus = node f }) }
 
 abbrev pub no_tree : TreeId → TreeEntry
-no_tree t = record { id = t; subtree = none }
+no_tree t = record { id = t; subtree = None }
 
 abbrev pub state : List NodeState → List TreeEntry → State
 state ns ts = record { forest = record { nodes = ns; trees = ts }; host_focused = true }

@@ -1,7 +1,6 @@
 -- When a state is sound: document 01, "A state is **sound** when". Number 1 asks it of the state handed in, number 19 asks `sound_shape` of an outcome.
 -- Assumes nothing.
-use Rattle.std.specs.Prelude.{Bool, true, false, ◌||◌, List, [], ◌∷◌, map, ℕ, suc, eqb, leb, length}
-use Rattle.std.proofs.Math.Option.{none, some}
+use Rattle.std.specs.Prelude.{Bool, true, false, ◌||◌, List, [], ◌∷◌, map, ℕ, suc, eqb, leb, length, None, Some}
 use Rattle.base.specs.Tests.{◌and◌, is_some, is_none, is_nil, all, count, same_option, distinct, given}
 use Rattle.ids.specs.Ids.{ROOT, same_tree, same_id, before}
 use Rattle.record.specs.Batch.{graft?, fields_ok}
@@ -17,7 +16,7 @@ met_once ms n = eqb (count (λ m. same_id n.id m.id) ms) 1
 
 -- what is met is present, and records the parent and the place under which it is met; the root, met under none, records none
 unfoldable pub recorded : List NodeState → Met → Bool
-recorded ns m = elim (find m.id ns) [ none ↦ false | some n ↦ same_option same_link n.parent_and_index m.link ]
+recorded ns m = elim (find m.id ns) [ None ↦ false | Some n ↦ same_option same_link n.parent_and_index m.link ]
 
 -- a graft's only child is its tree's root: it has no children of its own
 unfoldable pub graft_is_bare : NodeState → Bool
@@ -37,8 +36,8 @@ grafts_differ ns = distinct same_tree (given (λ n. graft? n.body) ns)
 unfoldable pub grafted : List NodeState → ℕ → TreeEntry → Bool
 grafted ns k e =
     elim e.subtree [
-      | none ↦ true
-      | some u ↦
+      | None ↦ true
+      | Some u ↦
           present ns (record { tree = record { 0 = k }; node = u.root })
           and (eqb k 0 || is_some (holder ns e.id))
     ]
@@ -82,7 +81,7 @@ sound_shape s = sound_links s and sound_trees s and ascending s.nodes and way_en
 
 -- the effective focus is present; it is no graft, for the way through the grafts goes on from a graft that is present
 unfoldable pub focus_present : Forest → Bool
-focus_present s = elim (effective_focus s) [ none ↦ false | some x ↦ present s.nodes x ]
+focus_present s = elim (effective_focus s) [ None ↦ false | Some x ↦ present s.nodes x ]
 
 -- "A state is sound when"
 unfoldable pub sound : Forest → Bool

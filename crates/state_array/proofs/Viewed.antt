@@ -1,6 +1,5 @@
 -- The state that an image stands for is the one that it is the image of. Assumes nothing.
 use mathlib.Core.Bool.{not}
-use mathlib.Core.Option.{Option, none, some}
 use mathlib.Core.Path.{◌≡◌, refl, ap, ◌∙◌}
 use Prim.Native.Nat.{ℕ, zero, suc, ◌+◌, ◌*◌, ◌/◌, ◌%◌, ◌<◌, min}
 use native.Mathlib.Omega.{arith}
@@ -8,7 +7,7 @@ use lib.Dec.{eqb}
 use lib.Ieee.{fits, of_bits, to_bits, binary64}
 use lib.ListN.{length, get_or}
 use borrow.Author.Tests.{lt-ltb}
-use Rattle.std.specs.Prelude.{if◌then◌else◌}
+use Rattle.std.specs.Prelude.{if◌then◌else◌, Option, None, Some}
 use Rattle.base.specs.Bytes.{list_of}
 use Rattle.base.proofs.Tests.{bit_set}
 use Rattle.base.proofs.Lists.{all_at}
@@ -27,24 +26,24 @@ use Rattle.state_array.proofs.Stored.{stored_count, stored_trees, stored_host, s
 
 link_back : (o : Option ParentAndIndex) → link_of (link_row o) ≡ o
 unfolding link_of link_row
-link_back none = refl
-link_back (some l) = refl
+link_back None = refl
+link_back (Some l) = refl
 
-link_below : (o : Option ParentAndIndex) → ((l : ParentAndIndex) → o ≡ some l → l.parent.tree.0 < 4294967296) → (link_row o).parent.tree.0 < 4294967296
+link_below : (o : Option ParentAndIndex) → ((l : ParentAndIndex) → o ≡ Some l → l.parent.tree.0 < 4294967296) → (link_row o).parent.tree.0 < 4294967296
 unfolding link_row
-link_below none h = omega arith
-link_below (some l) h = h l refl
+link_below None h = omega arith
+link_below (Some l) h = h l refl
 
 tree_back : (o : Option Subtree) (e : TreeEntry) → e.subtree ≡ o
-    → (if eqb (tree_row e).exists 0 then none else some (record { root = (tree_row e).root; focus = (tree_row e).focus })) ≡ o
+    → (if eqb (tree_row e).exists 0 then None else Some (record { root = (tree_row e).root; focus = (tree_row e).focus })) ≡ o
 unfolding tree_row
-tree_back none e q = rw q
-tree_back (some u) e q = rw q
+tree_back None e q = rw q
+tree_back (Some u) e q = rw q
 
 tree_id : (o : Option Subtree) (e : TreeEntry) → e.subtree ≡ o → (tree_row e).id ≡ e.id
 unfolding tree_row
-tree_id none e q = rw q
-tree_id (some u) e q = rw q
+tree_id None e q = rw q
+tree_id (Some u) e q = rw q
 
 module _ (a : State) (fit : Fits a) where
   -- ## A node
@@ -152,7 +151,7 @@ module _ (a : State) (fit : Fits a) where
   unfolding entry_in tree_in tree_word
   entry_stored k l = λ z. record {
     id = (ap (λ r. r.id) row ∙ tree_id (get_or a.forest.trees k no_tree).subtree (get_or a.forest.trees k no_tree) refl) z;
-    subtree = (ap {B = Option Subtree} (λ r. if eqb r.exists 0 then none else some (record { root = r.root; focus = r.focus })) row ∙ tree_back (get_or a.forest.trees k no_tree).subtree (get_or a.forest.trees k no_tree) refl) z;
+    subtree = (ap {B = Option Subtree} (λ r. if eqb r.exists 0 then None else Some (record { root = r.root; focus = r.focus })) row ∙ tree_back (get_or a.forest.trees k no_tree).subtree (get_or a.forest.trees k no_tree) refl) z;
   }
     where
       at : (j : ℕ) → j < TREE_FIELDS → entry (stored a) j k ≡ tree_word (get_or a.forest.trees k no_tree) j

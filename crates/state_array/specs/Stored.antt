@@ -1,7 +1,6 @@
 -- The one image of an abstract state in memory: counts, the table of trees, the nodes field by field, the child entries run after run.
 -- Places that are not used are 0, flags are 0 or 1, and nothing stands there but what the state says. Assumes nothing.
-use Rattle.std.specs.Prelude.{true, List, [], ◌∷◌, ◌++◌, map, ◌≡◌, ℕ, ◌+◌, ◌*◌, ◌≤◌, ◌<◌, ltb, Float, length, get_or, if◌then◌else◌}
-use Rattle.std.proofs.Math.Option.{Option, none, some}
+use Rattle.std.specs.Prelude.{true, List, [], ◌∷◌, ◌++◌, map, ◌≡◌, ℕ, ◌+◌, ◌*◌, ◌≤◌, ◌<◌, ltb, Float, length, get_or, if◌then◌else◌, Option, None, Some}
 use Rattle.std.specs.Float.Ieee.{fits, of_bits, to_bits}
 use Rattle.std.specs.Float.{binary64}
 use Rattle.base.specs.Tests.{all}
@@ -39,17 +38,17 @@ no_data = record {
 }
 
 abbrev pub no_state : NodeState
-no_state = record { id = record { tree = record { 0 = 0 }; node = no_node }; parent_and_index = none; body = no_data }
+no_state = record { id = record { tree = record { 0 = 0 }; node = no_node }; parent_and_index = None; body = no_data }
 
 abbrev pub no_tree : TreeEntry
-no_tree = record { id = ROOT; subtree = none }
+no_tree = record { id = ROOT; subtree = None }
 
 -- ## A node
 
 -- the words of a link: without one, all 0
 unfoldable pub link_row : Option ParentAndIndex → LinkRow
-link_row none = record { parent = record { tree = record { 0 = 0 }; node = no_node }; index = 0; linked = 0 }
-link_row (some l) = record { parent = l.parent; index = l.index; linked = 1 }
+link_row None = record { parent = record { tree = record { 0 = 0 }; node = no_node }; index = 0; linked = 0 }
+link_row (Some l) = record { parent = l.parent; index = l.index; linked = 1 }
 
 -- word k of a label: eight bytes, little-endian, 0 past its end
 abbrev pub label_word : List ℕ → ℕ → ℕ
@@ -141,8 +140,8 @@ node_word ns f i = get_or (row_of (children_before ns i) (get_or ns i no_state))
 unfoldable pub tree_row : TreeEntry → TreeRow
 tree_row e =
     elim e.subtree [
-      | none ↦ record { id = e.id; root = no_node; focus = no_node; exists = 0 }
-      | some u ↦ record { id = e.id; root = u.root; focus = u.focus; exists = 1 }
+      | None ↦ record { id = e.id; root = no_node; focus = no_node; exists = 0 }
+      | Some u ↦ record { id = e.id; root = u.root; focus = u.focus; exists = 1 }
     ]
 
 -- field j of a tree
@@ -184,7 +183,7 @@ pub record DataFits (d : NodeData) : Type 0 where
 pub record NodeFits (n : NodeState) : Type 0 where
   pub body : DataFits n.body
   pub tree : n.id.tree.0 < 4294967296
-  pub parent : (l : ParentAndIndex) → n.parent_and_index ≡ some l → l.parent.tree.0 < 4294967296
+  pub parent : (l : ParentAndIndex) → n.parent_and_index ≡ Some l → l.parent.tree.0 < 4294967296
 
 pub record Fits (a : State) : Type 0 where
   pub nodes : length a.forest.nodes ≤ SLOTS

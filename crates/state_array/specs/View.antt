@@ -5,8 +5,7 @@
 -- so no sound state has a child range that leaves the entries. A label longer than its room is shown with that length. A float is its bit
 -- pattern's: a NaN's pattern is shown as NaN, which is not finite.
 -- Assumes nothing.
-use Rattle.std.specs.Prelude.{not, List, ℕ, ◌+◌, ◌*◌, ◌/◌, ◌%◌, ◌^◌, min, eqb, ltb, Float, if◌then◌else◌}
-use Rattle.std.proofs.Math.Option.{Option, none, some}
+use Rattle.std.specs.Prelude.{not, List, ℕ, ◌+◌, ◌*◌, ◌/◌, ◌%◌, ◌^◌, min, eqb, ltb, Float, if◌then◌else◌, Option, None, Some}
 use Rattle.std.specs.Float.Ieee.{of_bits}
 use Rattle.std.specs.Float.{binary64}
 use Rattle.base.specs.Bytes.{bit, list_of}
@@ -52,7 +51,7 @@ shape_in s i = record {
 
 -- the tree that the node grafts
 unfoldable pub graft_in : List ℕ → ℕ → Option TreeId
-graft_in s i = if bit 8 (shape_in s i).flags then some (shape_in s i).graft else none
+graft_in s i = if bit 8 (shape_in s i).flags then Some (shape_in s i).graft else None
 
 -- byte j of the label: four little-endian words, and 0 past them
 unfoldable pub label_byte : List ℕ → ℕ → ℕ → ℕ
@@ -81,7 +80,7 @@ tree_in s k = record {
 -- ## What a row stands for
 
 unfoldable pub link_of : LinkRow → Option ParentAndIndex
-link_of r = if eqb r.linked 0 then none else some (record { parent = r.parent; index = r.index })
+link_of r = if eqb r.linked 0 then None else Some (record { parent = r.parent; index = r.index })
 
 -- the child entries that a row names; `own` is the node's number
 unfoldable pub children_in : List ℕ → NodeId → ShapeRow → List NodeId
@@ -109,7 +108,7 @@ unfoldable pub entry_in : List ℕ → ℕ → TreeEntry
 entry_in s k =
     record {
       id = (tree_in s k).id;
-      subtree = if eqb (tree_in s k).exists 0 then none else some (record { root = (tree_in s k).root; focus = (tree_in s k).focus });
+      subtree = if eqb (tree_in s k).exists 0 then None else Some (record { root = (tree_in s k).root; focus = (tree_in s k).focus });
     }
 
 -- ## The state

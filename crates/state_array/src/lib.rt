@@ -93,7 +93,7 @@ pub const WORDS: usize = CHILDREN + ENTRIES;
 // The state.
 pub type State = [u64; WORDS];
 
-// A node's parent and its place among the parent's children. `linked` is 0 where it has none.
+// A node's parent and its place among the parent's children. `linked` is 0 where it has none: a row is words, as they stand in memory.
 #[derive(Clone, Copy)]
 pub struct LinkRow {
     pub parent: FullNodeId,
@@ -357,12 +357,7 @@ pub fn body_at(state: &State, i: usize) -> Body
 fn label_at(state: &State, i: usize) -> [u64; 4]
     ensures { result ≡ list_of 4 (label_word (label_in state.now i)) }
 {
-    [
-        label_word(state, i, 0),
-        label_word(state, i, 1),
-        label_word(state, i, 2),
-        label_word(state, i, 3),
-    ]
+    std::array::from_fn(|k| label_word(state, i, k))
 }
 
 // Word k of it.
@@ -389,18 +384,7 @@ fn low_bytes(w: u64, n: u64) -> u64
 fn floats_at(state: &State, i: usize) -> [u64; 10]
     ensures { result ≡ float_words state.now i }
 {
-    [
-        pattern_at(state, i, 0),
-        pattern_at(state, i, 1),
-        pattern_at(state, i, 2),
-        pattern_at(state, i, 3),
-        pattern_at(state, i, 4),
-        pattern_at(state, i, 5),
-        pattern_at(state, i, 6),
-        pattern_at(state, i, 7),
-        pattern_at(state, i, 8),
-        pattern_at(state, i, 9),
-    ]
+    std::array::from_fn(|k| pattern_at(state, i, k))
 }
 
 // The bit pattern of number k of the ten.
@@ -523,10 +507,8 @@ fn put_words(state: &mut State, f: usize, i: usize, words: &[u64])
     requires { (f + length words.now ≤ at.NODE_FIELDS) × (i < at.SLOTS) }
     ensures { state.new ≡ words_put f i words.now state.old }
 {
-    let mut k = 0usize;
-    while k < words.len() {
-        put_word(state, f + k, i, words[k]);
-        k += 1;
+    for (k, &w) in words.iter().enumerate() {
+        put_word(state, f + k, i, w);
     }
 }
 
@@ -604,5 +586,5 @@ pub fn is_graft(flags: u64) -> bool
 fn narrow(w: u64) -> u32
     ensures { result ≡ min w 4294967295 }
 {
-    if w < 4294967295 { w as u32 } else { 4294967295 }
+    w.min(4294967295) as u32
 }

@@ -15,12 +15,10 @@ pub fn fields_are_ok(state: &State) -> bool
     ensures { result ≡ all (λ n. fields_ok n.body) (view state.now).forest.nodes }
 {
     let n = state_array::slots(state);
-    let mut i = 0usize;
-    while i < n {
+    for i in 0..n {
         if !fields_ok_at(state, i) {
             return false;
         }
-        i += 1;
     }
     true
 }
@@ -48,27 +46,24 @@ fn are_zero(state: &State, i: usize, from: usize, n: usize) -> bool
     requires { from + n ≤ 10 }
     ensures { result ≡ zero_from state.now i from n }
 {
-    let mut k = 0usize;
-    while k < n {
+    for k in 0..n {
         if word_at(state, state_array::FLOATS + (from + k), i) != 0 {
             return false;
         }
-        k += 1;
     }
     true
 }
 
-// Whether n floats of a node are finite.
+// Whether n floats of a node are finite. It is no one function with `are_zero`: the test would be a closure, whose answers the contract and
+// the invariant would speak of in place of the definition.
 fn are_finite(state: &State, i: usize, from: usize, n: usize) -> bool
     requires { from + n ≤ 10 }
     ensures { result ≡ finite_from state.now i from n }
 {
-    let mut k = 0usize;
-    while k < n {
+    for k in 0..n {
         if !record_wire::finite_bits(word_at(state, state_array::FLOATS + (from + k), i)) {
             return false;
         }
-        k += 1;
     }
     true
 }

@@ -1,14 +1,13 @@
 -- The way of the focus through the grafts and to the active descendant, one law for each way on and out of the code. Assumes nothing.
 use mathlib.Core.Bool.{Bool, true, false}
 use mathlib.Core.List.{List}
-use mathlib.Core.Option.{Option, none, some}
-use mathlib.Core.Path.{◌≡◌, sym, ap, ◌∙◌}
-use Prim.Native.Nat.{ℕ, ◌+◌, ◌-◌, ◌/◌, ◌%◌, ◌≤◌, ◌<◌}
+use mathlib.Core.Path.{◌≡◌, sym, ◌∙◌}
+use Prim.Native.Nat.{ℕ, suc, ◌+◌, ◌-◌, ◌/◌, ◌%◌, ◌≤◌, ◌<◌}
 use native.Mathlib.Numerals.{add-one}
 use native.Mathlib.Omega.{arith}
 use lib.Dec.{ltb}
 use borrow.Author.Tests.{lt-ltb, le-ltb, eq-eqb, ne_eqb}
-use Rattle.std.specs.Prelude.{if◌then◌else◌}
+use Rattle.std.specs.Prelude.{if◌then◌else◌, Option, None, Some}
 use Rattle.base.specs.Bytes.{bit}
 use Rattle.base.specs.Search.{First}
 use Rattle.base.proofs.Bytes.{length_list_of}
@@ -17,79 +16,77 @@ use Rattle.ids.specs.declared.NodeId.{NodeId}
 use Rattle.ids.specs.declared.FullNodeId.{FullNodeId}
 use Rattle.record.specs.Batch.{graft?, active_descendant?}
 use Rattle.state.specs.State.{NodeState, Forest, graft_at, subtree_of}
+use Rattle.state.specs.declared.SubtreeState.{SubtreeState}
 use Rattle.state.specs.Focus.{through_grafts, effective_focus, or_active_descendant, state_focus}
 use Rattle.state_array.specs.Layout.{host_of, word, ACTIVE}
 use Rattle.state_array.specs.View.{shape_in, body_in, node_in, entry_in, slots_of, trees_of, view}
 use Rattle.state_array.specs.declared.ShapeRow.{ShapeRow}
-use Rattle.state_lookup.specs.Lookup.{stands_at, ends_of}
-use Rattle.state_lookup.specs.declared.Ends.{Ends}
-use Rattle.state_lookup.specs.declared.FoundTree.{FoundTree}
-use Rattle.state_lookup.specs.declared.FoundTree.TheVariants as tree
-use Rattle.state_focus.specs.declared.FoundNode.{FoundNode}
-use Rattle.state_focus.specs.declared.FoundNode.TheVariants as node
-use Rattle.state_focus.specs.Focus.{found_of}
+use Rattle.state_lookup.specs.Lookup.{stands_at}
 use Rattle.state_lookup.proofs.Found.{find_there, find_absent, present_slot}
 
 -- ## The way through the grafts
 
--- Room for `left` trees more leads from x to the goal. The search for x found slot i, where n slots hold nodes.
-module _ (s : List ℕ) (x : FullNodeId) (left : ℕ) {goal : Option FullNodeId} (inv : through_grafts (left + 1) (view s).forest x ≡ goal)
+-- Of room for m nodes k are looked at, and what is left leads from x to the goal. The search for x found slot i, where n slots hold nodes.
+module _ (s : List ℕ) (x : FullNodeId) (m k : ℕ) {goal : Option FullNodeId} (inv : through_grafts (m - k) (view s).forest x ≡ goal) (more : k < m)
     {i n : ℕ} (slots : n ≡ slots_of s) (found : First (stands_at s x) (slots_of s) i) where
   -- the forest that the state shows
   abbrev f : Forest
   f = (view s).forest
 
+  -- this node, and the room after it
+  next : m - k ≡ suc (m - (k + 1))
+  next = let e : m - k ≡ m - (k + 1) + 1 = omega arith in e ∙ add-one (m - (k + 1))
+
   -- a node that grafts nothing is the end
-  ends_here : graft_at f.nodes x ≡ none → some x ≡ goal
+  ends_here : graft_at f.nodes x ≡ None → Some x ≡ goal
   unfolding through_grafts
-  ends_here e = rw (add-one left, e, through_grafts) at inv
+  ends_here e = rw (next, e, through_grafts) at inv
 
   -- so is an absent one
-  pub way_absent : n ≤ i → some x ≡ goal
+  pub way_absent : n ≤ i → Some x ≡ goal
   unfolding graft_at
   way_absent h = ends_here (rw (find_absent s x i found (rw slots at h), graft_at))
 
   -- a present one, with its row and whether it is a graft
   module _ (h : i < n) {d : ShapeRow} (is : d ≡ shape_in s i) {g : Bool} (test : g ≡ bit 8 d.flags) where
-    grafts : graft_at f.nodes x ≡ (if g then some d.graft else none)
+    grafts : graft_at f.nodes x ≡ (if g then Some d.graft else None)
     unfolding graft_at node_in body_in graft?
     grafts = rw (find_there s x i found (rw slots at h), graft_at, ← is, ← test)
 
-    pub way_plain : g ≡ false → some x ≡ goal
+    pub way_plain : g ≡ false → Some x ≡ goal
     way_plain e = let z : g ≡ false = e in ends_here (grafts ∙ rw z)
 
     -- a graft, and its tree
-    module _ (e : g ≡ true) (r : FoundTree) (ends : ends_of r ≡ subtree_of (view s).forest d.graft) where
-      entered : (elim (ends_of r) as (λ _. Option FullNodeId) [ none ↦ none | some u ↦ through_grafts left f u.focus ]) ≡ goal
+    module _ (e : g ≡ true) (r : Option SubtreeState) (ends : r ≡ subtree_of (view s).forest d.graft) where
+      entered : (elim r as (λ _. Option FullNodeId) [ None ↦ None | Some u ↦ through_grafts (m - (k + 1)) f u.focus ]) ≡ goal
       unfolding through_grafts
-      entered = let z : g ≡ true = e in rw (add-one left, grafts, z, through_grafts, ← ends) at inv
+      entered = let z : g ≡ true = e in rw (next, grafts, z, through_grafts, ← ends) at inv
 
-      -- one that does not exist, one that does without room for it, and one with room
-      pub way_lost : r ≡ tree.Nothing → none ≡ goal
-      unfolding ends_of
+      -- one that does not exist, and one that does
+      pub way_lost : r ≡ None → None ≡ goal
       way_lost q = rw q at entered
 
-      pub way_spent : {v : Ends} → r ≡ tree.At v → left < 1 → none ≡ goal
-      unfolding ends_of through_grafts
-      way_spent q l = let z : left ≡ 0 = omega arith in rw (q, z) at entered
+      pub way_on : {v : SubtreeState} → r ≡ Some v → through_grafts (m - (k + 1)) (view s).forest v.focus ≡ goal
+      way_on q = rw q at entered
 
-      pub way_on : {v : Ends} → r ≡ tree.At v → 1 ≤ left → through_grafts (left - 1 + 1) (view s).forest v.focus ≡ goal
-      unfolding ends_of
-      way_on q l = let z : left - 1 + 1 ≡ left = omega arith in rw z (rw q at entered)
+-- no room is left
+pub way_spent : (s : List ℕ) (x : FullNodeId) (m k : ℕ) {goal : Option FullNodeId} → through_grafts (m - k) (view s).forest x ≡ goal → m ≤ k → None ≡ goal
+unfolding through_grafts
+way_spent s x m k inv h = let z : m - k ≡ 0 = omega arith in rw z at inv
 
 -- ## The effective focus
 
-module _ (s : List ℕ) {r : FoundTree} (ends : ends_of r ≡ subtree_of (view s).forest ROOT) where
+module _ (s : List ℕ) {r : Option SubtreeState} (ends : r ≡ subtree_of (view s).forest ROOT) where
   -- without ROOT there is none
-  pub effective_none : r ≡ tree.Nothing → none ≡ effective_focus (view s).forest
-  unfolding effective_focus ends_of
-  effective_none q = rw (sym ends ∙ ap ends_of q, effective_focus)
+  pub effective_none : r ≡ None → None ≡ effective_focus (view s).forest
+  unfolding effective_focus
+  effective_none q = rw (sym ends ∙ q, effective_focus)
 
   -- it begins at ROOT's focus
-  pub effective_from : {v : Ends} → r ≡ tree.At v → {y : Option FullNodeId} → y ≡ through_grafts (trees_of s + 1) (view s).forest v.focus
+  pub effective_from : {v : SubtreeState} → r ≡ Some v → {y : Option FullNodeId} → y ≡ through_grafts (trees_of s + 1) (view s).forest v.focus
       → y ≡ effective_focus (view s).forest
-  unfolding effective_focus ends_of view
-  effective_from q e = e ∙ rw (sym ends ∙ ap ends_of q, effective_focus, length_list_of (trees_of s) (entry_in s), add-one (trees_of s))
+  unfolding effective_focus view
+  effective_from q e = e ∙ rw (sym ends ∙ q, effective_focus, length_list_of (trees_of s) (entry_in s), add-one (trees_of s))
 
 -- ## The active descendant
 
@@ -128,17 +125,17 @@ module _ (s : List ℕ) (x : FullNodeId) {i n : ℕ} (slots : n ≡ slots_of s) 
 
 module _ (s : List ℕ) {h : ℕ} (host : h ≡ host_of s) where
   -- without host focus there is no focus
-  pub unfocused : h ≡ 0 → none ≡ state_focus (view s)
+  pub unfocused : h ≡ 0 → None ≡ state_focus (view s)
   unfolding state_focus view
   unfocused e = rw (← host, eq-eqb h 0 e, state_focus)
 
-  module _ {r : FoundNode} (way : found_of r ≡ effective_focus (view s).forest) (e : h ≡ 0 → ⊥) where
+  module _ {r : Option FullNodeId} (way : r ≡ effective_focus (view s).forest) (e : h ≡ 0 → ⊥) where
     -- none where there is no effective focus
-    pub focus_none : r ≡ node.Nothing → none ≡ state_focus (view s)
-    unfolding state_focus view found_of
-    focus_none q = rw (← host, ne_eqb h 0 e, state_focus, sym way ∙ ap found_of q)
+    pub focus_none : r ≡ None → None ≡ state_focus (view s)
+    unfolding state_focus view
+    focus_none q = rw (← host, ne_eqb h 0 e, state_focus, sym way ∙ q)
 
     -- else its active descendant, if present
-    pub focus_some : {x y : FullNodeId} → r ≡ node.At x → y ≡ or_active_descendant (view s).forest.nodes x → some y ≡ state_focus (view s)
-    unfolding state_focus view found_of
-    focus_some q a = rw (← host, ne_eqb h 0 e, state_focus, sym way ∙ ap found_of q, a)
+    pub focus_some : {x y : FullNodeId} → r ≡ Some x → y ≡ or_active_descendant (view s).forest.nodes x → Some y ≡ state_focus (view s)
+    unfolding state_focus view
+    focus_some q a = rw (← host, ne_eqb h 0 e, state_focus, sym way ∙ q, a)

@@ -4,68 +4,49 @@
 ghost use Rattle.std.specs.Prelude.{◌≡◌, ◌+◌};
 ghost use Rattle.state.specs.Focus.{through_grafts, effective_focus, or_active_descendant, state_focus};
 ghost use Rattle.state_array.specs.View.{trees_of, view};
-ghost use Rattle.state_focus.specs.Focus.{found_of};
 
 use ids::{FullNodeId, TreeId};
 use state_array::State;
-use state_lookup::FoundTree;
-
-// A node, if there is one.
-#[derive(Clone, Copy)]
-pub enum FoundNode {
-    At(FullNodeId),
-    Nothing,
-}
 
 // `TreeState::focus`: from the effective focus to the active descendant; none without host focus.
-pub fn focus(state: &State) -> FoundNode
-    ensures { found_of result ≡ state_focus (view state.now) }
+pub fn focus(state: &State) -> Option<FullNodeId>
+    ensures { result ≡ state_focus (view state.now) }
 {
     if state_array::host(state) == 0 {
-        return FoundNode::Nothing;
+        return None;
     }
-    let FoundNode::At(x) = effective_focus(state) else {
-        return FoundNode::Nothing;
-    };
-    FoundNode::At(or_active_descendant(state, x))
+    let x = effective_focus(state)?;
+    Some(or_active_descendant(state, x))
 }
 
 // The effective focus: from ROOT's focus through the grafts.
-pub fn effective_focus(state: &State) -> FoundNode
-    ensures { found_of result ≡ effective_focus (view state.now).forest }
+pub fn effective_focus(state: &State) -> Option<FullNodeId>
+    ensures { result ≡ effective_focus (view state.now).forest }
 {
-    let FoundTree::At(e) = state_lookup::tree_of(state, TreeId { high: 0, low: 0 }) else {
-        return FoundNode::Nothing;
-    };
+    let e = state_lookup::tree_of(state, TreeId { high: 0, low: 0 })?;
     let x = e.focus;
     through_grafts(state, x)
 }
 
 // Going on from x to the tree's focus while it is present and a graft.
-fn through_grafts(state: &State, x: FullNodeId) -> FoundNode
-    ensures { found_of result ≡ through_grafts (trees_of state.now + 1) (view state.now).forest x }
+fn through_grafts(state: &State, x: FullNodeId) -> Option<FullNodeId>
+    ensures { result ≡ through_grafts (trees_of state.now + 1) (view state.now).forest x }
 {
     let n = state_array::slots(state);
     let mut at = x;
-    let mut left = state_array::trees(state);
-    loop {
+    for _ in 0..state_array::trees(state) + 1 {
         let i = state_lookup::find_in(state, at);
         if n <= i {
-            return FoundNode::At(at);
+            return Some(at);
         }
         let d = state_array::shape_at(state, i);
         if !state_array::is_graft(d.flags) {
-            return FoundNode::At(at);
+            return Some(at);
         }
-        let FoundTree::At(e) = state_lookup::tree_of(state, d.graft) else {
-            return FoundNode::Nothing;
-        };
-        if left < 1 {
-            return FoundNode::Nothing;
-        }
-        left -= 1;
+        let e = state_lookup::tree_of(state, d.graft)?;
         at = e.focus;
     }
+    None
 }
 
 // The active descendant of x, looked up in the same tree, if present; else x.

@@ -1,15 +1,11 @@
 -- What the searches answer: the slot of a node, the tree of a tree id. Assumes nothing.
 use Rattle.std.specs.Prelude.{Bool, true, List, ◌≡◌, ℕ, ◌+◌, ◌-◌, ◌≤◌, ◌<◌, ltb, length, set, if◌then◌else◌}
-use Rattle.std.proofs.Math.Option.{Option, none, some}
 use Rattle.base.specs.Tests.{◌and◌}
 use Rattle.base.specs.Bytes.{all_below}
 use Rattle.base.specs.Search.{First}
 use Rattle.ids.specs.Ids.{same_id, before}
 use Rattle.ids.specs.declared.FullNodeId.{FullNodeId}
-use Rattle.state.specs.State.{SubtreeState}
 use Rattle.state_array.specs.View.{id_in, slots_of}
-use Rattle.state_lookup.specs.declared.FoundTree.{FoundTree}
-use Rattle.state_lookup.specs.declared.FoundTree.TheVariants as tree
 
 -- the first n of a row of ids ascend, each before the next
 unfoldable pub ascend : ℕ → (ℕ → FullNodeId) → Bool
@@ -39,8 +35,3 @@ SlotOf s x r = SlotAmong (slots_of s) (id_in s) x r
 -- a list of hints, two bytes each, with a hint for slot i, if the list is that long and the hint fits
 unfoldable pub with_hint : List ℕ → ℕ → ℕ → List ℕ
 with_hint hints i hint = if ltb i (length hints) and ltb hint 65536 then set hints i hint else hints
-
--- what a search for a tree found
-unfoldable pub ends_of : FoundTree → Option SubtreeState
-ends_of (tree.At e) = some (record { root = e.root; focus = e.focus })
-ends_of tree.Nothing = none

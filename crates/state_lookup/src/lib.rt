@@ -7,36 +7,22 @@ ghost use Rattle.ids.specs.Ids.{same_tree};
 ghost use Rattle.state.specs.State.{subtree_of};
 ghost use Rattle.state.specs.Sound.{ascending};
 ghost use Rattle.state_array.specs.View.{view, slots_of, trees_of, id_in, tree_in};
-ghost use Rattle.state_lookup.specs.Lookup.{stands_at, in_slot, SlotOf, with_hint, ends_of};
+ghost use Rattle.state_lookup.specs.Lookup.{stands_at, in_slot, SlotOf, with_hint};
 
 use ids::{FullNodeId, TreeId, TreeIndex};
+use state::SubtreeState;
 use state_array::{State, id_at, tree_at};
 
-// The root and the focus of a tree.
-#[derive(Clone, Copy)]
-pub struct Ends {
-    pub root: FullNodeId,
-    pub focus: FullNodeId,
-}
-
-// The tree of a tree id, if it exists.
-#[derive(Clone, Copy)]
-pub enum FoundTree {
-    At(Ends),
-    Nothing,
-}
-
 // The first slot that holds an id, in any state, or their number.
+#[tactic(auto, using(ids::proofs::Ids::id_test))]
 pub fn find_in(state: &State, id: FullNodeId) -> usize
     ensures { First (stands_at state.now id) (slots_of state.now) result }
 {
     let n = state_array::slots(state);
-    let mut i = 0usize;
-    while i < n {
-        if ids::same_id(id, id_at(state, i)) {
+    for i in 0..n {
+        if id == id_at(state, i) {
             return i;
         }
-        i += 1;
     }
     n
 }
@@ -46,12 +32,10 @@ pub fn ordered(state: &State) -> bool
     ensures { result ≡ ascending (view state.now).forest.nodes }
 {
     let n = state_array::slots(state);
-    let mut i = 0usize;
-    while i + 1 < n {
-        if !ids::is_before(id_at(state, i), id_at(state, i + 1)) {
+    for i in 1..n {
+        if !ids::is_before(id_at(state, i - 1), id_at(state, i)) {
             return false;
         }
-        i += 1;
     }
     true
 }
@@ -91,6 +75,7 @@ fn bisected(state: &State, id: FullNodeId) -> usize
     let n = state_array::slots(state);
     let mut low = 0usize;
     let mut left = n;
+    // Not a `for`: what is left is halved each time.
     while 1 < left {
         let half = left / 2;
         if ids::is_before(id_at(state, low + half - 1), id) {
@@ -152,37 +137,36 @@ pub fn set_hint(hints: &mut [u16], i: usize, hint: usize)
 }
 
 // The number of the tree `id`, or how many numbers are taken where it is not there.
+#[tactic(auto, using(ids::proofs::Ids::tree_test))]
 pub fn find_tree(state: &State, id: TreeId) -> usize
     ensures { First (λ k. same_tree id (tree_in state.now k).id) (trees_of state.now) result }
 {
     let m = state_array::trees(state);
-    let mut k = 0usize;
-    while k < m {
+    for k in 0..m {
         let t = tree_at(state, k);
-        if ids::same_tree(id, t.id) {
+        if id == t.id {
             return k;
         }
-        k += 1;
     }
     m
 }
 
 // The root and the focus of the tree `id`, if it exists.
-pub fn tree_of(state: &State, id: TreeId) -> FoundTree
-    ensures { ends_of result ≡ subtree_of (view state.now).forest id }
+pub fn tree_of(state: &State, id: TreeId) -> Option<SubtreeState>
+    ensures { result ≡ subtree_of (view state.now).forest id }
 {
     let k = find_tree(state, id);
     if state_array::trees(state) <= k {
-        return FoundTree::Nothing;
+        return None;
     }
     let t = tree_at(state, k);
     if t.exists == 0 {
-        return FoundTree::Nothing;
+        return None;
     }
     let tree = TreeIndex(k as u32);
     let root = t.root;
     let focus = t.focus;
-    FoundTree::At(Ends {
+    Some(SubtreeState {
         root: FullNodeId { tree, node: root },
         focus: FullNodeId { tree, node: focus },
     })
@@ -195,5 +179,5 @@ fn stands(state: &State, n: usize, i: usize, id: FullNodeId) -> bool
     if n <= i {
         return false;
     }
-    ids::same_id(id, id_at(state, i))
+    id == id_at(state, i)
 }

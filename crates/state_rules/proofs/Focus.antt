@@ -1,7 +1,8 @@
 -- The focus is present where the code finds it. Assumes nothing.
+use Rattle.std.specs.Prelude.{Option, None, Some}
 use mathlib.Core.Bool.{false}
 use mathlib.Core.List.{List}
-use mathlib.Core.Path.{◌≡◌, sym, ap, ◌∙◌}
+use mathlib.Core.Path.{◌≡◌, sym, ◌∙◌}
 use Prim.Native.Nat.{ℕ}
 use lib.Dec.{ltb}
 use Rattle.base.specs.Search.{First}
@@ -10,9 +11,6 @@ use Rattle.state.specs.State.{Forest}
 use Rattle.state.specs.Focus.{effective_focus}
 use Rattle.state.specs.Sound.{focus_present}
 use Rattle.state_array.specs.View.{slots_of, view}
-use Rattle.state_focus.specs.declared.FoundNode.{FoundNode}
-use Rattle.state_focus.specs.declared.FoundNode.TheVariants as node
-use Rattle.state_focus.specs.Focus.{found_of}
 use Rattle.state_lookup.specs.Lookup.{stands_at}
 use Rattle.state_lookup.proofs.Found.{present_slot}
 
@@ -22,11 +20,11 @@ module _ (s : List ℕ) where
   f = (view s).forest
 
   -- no effective focus, and one with its slot
-  module _ {r : FoundNode} (e : found_of r ≡ effective_focus f) where
-    pub focus_nowhere : r ≡ node.Nothing → false ≡ focus_present f
-    unfolding focus_present found_of
-    focus_nowhere q = rw (sym e ∙ ap found_of q, focus_present)
+  module _ {r : Option FullNodeId} (e : r ≡ effective_focus f) where
+    pub focus_nowhere : r ≡ None → false ≡ focus_present f
+    unfolding focus_present
+    focus_nowhere q = rw (sym e ∙ q, focus_present)
 
-    pub focus_found : {x : FullNodeId} → r ≡ node.At x → {i n : ℕ} → First (stands_at s x) (slots_of s) i → n ≡ slots_of s → ltb i n ≡ focus_present f
-    unfolding focus_present found_of
-    focus_found {x} q {i} found slots = rw (slots, sym e ∙ ap found_of q, focus_present) (sym (present_slot s x i found))
+    pub focus_found : {x : FullNodeId} → r ≡ Some x → {i n : ℕ} → First (stands_at s x) (slots_of s) i → n ≡ slots_of s → ltb i n ≡ focus_present f
+    unfolding focus_present
+    focus_found {x} q {i} found slots = rw (slots, sym e ∙ q, focus_present) (sym (present_slot s x i found))

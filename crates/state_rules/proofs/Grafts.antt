@@ -1,7 +1,7 @@
 -- Grafts by index: which are bare, and that no tree is grafted twice, found one node at a time. Assumes nothing.
 use mathlib.Core.Bool.{Bool, true, false, not}
 use mathlib.Core.List.{List}
-use mathlib.Core.Option.{none, some}
+use Rattle.std.specs.Prelude.{None, Some}
 use mathlib.Core.Path.{◌≡◌, refl, sym, ap, ◌∙◌}
 use Prim.Native.Nat.{ℕ, zero, suc, ◌+◌, ◌≤◌, ◌<◌}
 use native.Mathlib.Numerals.{add-one}
@@ -36,20 +36,20 @@ same_tree_swap a b =
 
 -- what the node in slot i grafts, no node before it grafts
 unfoldable pub new_in : List ℕ → ℕ → Bool
-new_in s i = elim (graft_in s i) [ none ↦ true | some t ↦ none_grafts s t i ]
+new_in s i = elim (graft_in s i) [ None ↦ true | Some t ↦ none_grafts s t i ]
 
 module _ (s : List ℕ) where
   -- what a flag says of the graft
-  pub graft_none : (i : ℕ) → bit 8 (shape_in s i).flags ≡ false → graft_in s i ≡ none
+  pub graft_none : (i : ℕ) → bit 8 (shape_in s i).flags ≡ false → graft_in s i ≡ None
   unfolding graft_in
   graft_none i e = rw e
 
-  pub graft_some : (i : ℕ) → bit 8 (shape_in s i).flags ≡ true → graft_in s i ≡ some (shape_in s i).graft
+  pub graft_some : (i : ℕ) → bit 8 (shape_in s i).flags ≡ true → graft_in s i ≡ Some (shape_in s i).graft
   unfolding graft_in
   graft_some i e = rw e
 
   -- a node grafts t where its graft is t
-  grafts_is : (t : TreeId) (i : ℕ) → grafts_tree s t i ≡ elim (graft_in s i) [ none ↦ false | some g ↦ same_tree t g ]
+  grafts_is : (t : TreeId) (i : ℕ) → grafts_tree s t i ≡ elim (graft_in s i) [ None ↦ false | Some g ↦ same_tree t g ]
   unfolding grafts_tree graft_in ◌and◌
   grafts_is t i = by_test (bit 8 (shape_in s i).flags) (λ e. rw e) (λ e. rw e)
 
@@ -172,7 +172,7 @@ module _ (s : List ℕ) where
   all_bare = all_indexed graft_is_bare (slots_of s) (node_in s) ∙ all_below_cong (slots_of s) _ _ (λ i l. bare_at i)
 
   -- a node grafts a tree by its row
-  pub grafts_at : (x : TreeId) (i : ℕ) → same_option same_tree (graft? (node_in s i).body) (some x) ≡ grafts_tree s x i
+  pub grafts_at : (x : TreeId) (i : ℕ) → same_option same_tree (graft? (node_in s i).body) (Some x) ≡ grafts_tree s x i
   unfolding node_in body_in graft? grafts_tree ◌and◌
   grafts_at x i = by_test (bit 8 (shape_in s i).flags) (λ e. rw e (same_tree_swap (shape_in s i).graft x)) (λ e. rw e)
 
@@ -180,6 +180,6 @@ module _ (s : List ℕ) where
   pub holder_is : (x : TreeId) → is_some (holder (view s).forest.nodes x) ≡ not (none_grafts s x (slots_of s))
   unfolding holder view none_grafts
   holder_is x =
-      first_given_some (λ k. same_option same_tree (graft? k.body) (some x)) (λ k. k.id) (view s).forest.nodes
-      ∙ any_indexed (λ k. same_option same_tree (graft? k.body) (some x)) (slots_of s) (node_in s)
+      first_given_some (λ k. same_option same_tree (graft? k.body) (Some x)) (λ k. k.id) (view s).forest.nodes
+      ∙ any_indexed (λ k. same_option same_tree (graft? k.body) (Some x)) (slots_of s) (node_in s)
       ∙ ap not (all_below_cong (slots_of s) _ _ (λ i l. ap not (grafts_at x i)))

@@ -1,7 +1,7 @@
 -- Laws of what is met one step below a node, for each way out of `kid_at`. Assumes nothing.
 use mathlib.Core.Bool.{Bool, true, false}
 use mathlib.Core.List.{List, [], ◌∷◌}
-use mathlib.Core.Option.{Option, none, some}
+use Rattle.std.specs.Prelude.{Option, None, Some}
 use mathlib.Core.Path.{◌≡◌, refl, sym, ap, ◌∙◌}
 use Prim.Native.Nat.{ℕ, zero, suc, ◌+◌, ◌≤◌, ◌<◌}
 use native.Mathlib.Nat.{add-zero, zero-add}
@@ -16,14 +16,10 @@ use Rattle.ids.specs.declared.FullNodeId.{FullNodeId}
 use Rattle.state_array.specs.declared.ShapeRow.{ShapeRow}
 use Rattle.record.specs.Batch.{graft?}
 use Rattle.state_array.specs.Layout.{child}
-use Rattle.state.specs.State.{SubtreeState, subtree_of}
+use Rattle.state.specs.State.{subtree_of}
+use Rattle.state.specs.declared.SubtreeState.{SubtreeState}
 use Rattle.state.specs.Down.{Met, met_under, children_met, below}
 use Rattle.state_array.specs.View.{graft_in, id_in, shape_in, children_in, body_in, node_in, view}
-use Rattle.state_lookup.specs.declared.Ends.{Ends}
-use Rattle.state_lookup.specs.declared.FoundTree.{FoundTree}
-use Rattle.state_lookup.specs.declared.FoundTree.TheVariants as tree
-use Rattle.state_lookup.specs.Lookup.{ends_of}
-use Rattle.state_rules.specs.declared.Kid.TheVariants as kid
 use Rattle.state_rules.specs.Parts.{below_in, KidSays}
 use Rattle.state_rules.proofs.Grafts.{graft_none, graft_some}
 
@@ -51,12 +47,12 @@ children_at p i (suc n) f (suc j) h =
 
 -- what a graft meets
 abbrev on_graft : FullNodeId → Option SubtreeState → List Met
-on_graft x o = elim o [ none ↦ [] | some v ↦ met_under x 0 v.root ∷ [] ]
+on_graft x o = elim o [ None ↦ [] | Some v ↦ met_under x 0 v.root ∷ [] ]
 
 -- a graft has one place
 graft_past : (x : FullNodeId) (o : Option SubtreeState) (j : ℕ) → 0 < j → drop j (on_graft x o) ≡ []
-graft_past x none j h = drop_of_length-le [] {i = j} (omega arith)
-graft_past x (some v) j h = drop_of_length-le (on_graft x (some v)) h
+graft_past x None j h = drop_of_length-le [] {i = j} (omega arith)
+graft_past x (Some v) j h = drop_of_length-le (on_graft x (Some v)) h
 
 -- the node in slot p, with its row and whether it is a graft, for each way out of `kid_at`
 module _ (s : List ℕ) (p j : ℕ) {d : ShapeRow} (is : d ≡ shape_in s p) {g : Bool} (test : g ≡ bit 8 d.flags) where
@@ -65,7 +61,7 @@ module _ (s : List ℕ) (p j : ℕ) {d : ShapeRow} (is : d ≡ shape_in s p) {g 
   x = id_in s p
 
   abbrev step : Option TreeId → List Met
-  step o = elim o [ none ↦ children_met x 0 (children_in s x.node (shape_in s p)) | some t ↦ on_graft x (subtree_of (view s).forest t) ]
+  step o = elim o [ None ↦ children_met x 0 (children_in s x.node (shape_in s p)) | Some t ↦ on_graft x (subtree_of (view s).forest t) ]
 
   steps : below_in s p ≡ step (graft_in s p)
   unfolding below node_in body_in graft? graft_in
@@ -78,28 +74,28 @@ module _ (s : List ℕ) (p j : ℕ) {d : ShapeRow} (is : d ≡ shape_in s p) {g 
   steps_children e = steps ∙ rw (graft_none s p (rw is at (call_false test e)), step, is)
 
   -- a graft has one place
-  pub kid_past : g ≡ true → 0 < j → KidSays (below_in s p) j x kid.Nothing
+  pub kid_past : g ≡ true → 0 < j → KidSays (below_in s p) j x None
   unfolding KidSays
   kid_past e h = rw (steps_graft e) (graft_past x (subtree_of (view s).forest d.graft) j h)
 
   -- a graft whose tree does not exist, and one whose tree's root is met
-  module _ (e : g ≡ true) {r : FoundTree} (found : ends_of r ≡ subtree_of (view s).forest d.graft) where
-    pub kid_unborn : r ≡ tree.Nothing → KidSays (below_in s p) j x kid.Nothing
-    unfolding KidSays ends_of
-    kid_unborn n = rw (steps_graft e ∙ ap (on_graft x) (sym found ∙ ap ends_of n)) (drop_of_length-le [] {i = j} (omega arith))
+  module _ (e : g ≡ true) {r : Option SubtreeState} (found : r ≡ subtree_of (view s).forest d.graft) where
+    pub kid_unborn : r ≡ None → KidSays (below_in s p) j x None
+    unfolding KidSays
+    kid_unborn n = rw (steps_graft e ∙ ap (on_graft x) (sym found ∙ n)) (drop_of_length-le [] {i = j} (omega arith))
 
-    pub kid_root : j ≤ 0 → {v : Ends} → r ≡ tree.At v → KidSays (below_in s p) j x (kid.At v.root)
-    unfolding KidSays ends_of
-    kid_root h n = let z : j ≡ 0 = omega arith in rw (z, steps_graft e ∙ ap (on_graft x) (sym found ∙ ap ends_of n))
+    pub kid_root : j ≤ 0 → {v : SubtreeState} → r ≡ Some v → KidSays (below_in s p) j x (Some v.root)
+    unfolding KidSays
+    kid_root h n = let z : j ≡ 0 = omega arith in rw (z, steps_graft e ∙ ap (on_graft x) (sym found ∙ n))
 
   -- past the last child
-  pub kid_end : g ≡ false → d.child_count ≤ j → KidSays (below_in s p) j x kid.Nothing
+  pub kid_end : g ≡ false → d.child_count ≤ j → KidSays (below_in s p) j x None
   unfolding KidSays children_in
   kid_end e h = rw (steps_children e) (children_past x 0 d.child_count (λ i. record { 0 = child s x.node.0 (d.first_child + i) }) j h)
 
   -- the child entry, or the node itself
   pub kid_child : g ≡ false → j < d.child_count → {own : FullNodeId} {met : NodeId} → own ≡ x
-      → met ≡ record { 0 = child s own.node.0 (d.first_child + j) } → KidSays (below_in s p) j x (kid.At (record { tree = own.tree; node = met }))
+      → met ≡ record { 0 = child s own.node.0 (d.first_child + j) } → KidSays (below_in s p) j x (Some (record { tree = own.tree; node = met }))
   unfolding KidSays children_in
   kid_child e h q r =
       rw (r, q, steps_children e)

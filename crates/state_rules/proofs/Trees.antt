@@ -1,7 +1,7 @@
 -- The table of trees by index: ROOT first, one id each, each tree rooted. Assumes nothing.
 use mathlib.Core.Bool.{Bool, true, false, not, ◌||◌, false≢true}
 use mathlib.Core.List.{List}
-use mathlib.Core.Option.{some}
+use Rattle.std.specs.Prelude.{Some}
 use mathlib.Core.Path.{◌≡◌, refl, sym, ap, ◌∙◌}
 use Prim.Native.Nat.{ℕ, zero, suc, ◌+◌, ◌≤◌, ◌<◌}
 use Rattle.base.proofs.Cases.{by_test, by_order}
@@ -83,14 +83,14 @@ module _ (s : List ℕ) where
 
   -- where ROOT comes first, its root is that of the first row
   root_found : (m : ℕ) → root_first (list_of m (entry_in s)) ≡ true
-      → subtree_from 0 (list_of m (entry_in s)) ROOT ≡ some (subtree_state 0 (record { root = (tree_in s 0).root; focus = (tree_in s 0).focus }))
+      → subtree_from 0 (list_of m (entry_in s)) ROOT ≡ Some (subtree_state 0 (record { root = (tree_in s 0).root; focus = (tree_in s 0).focus }))
   unfolding root_first list_of subtree_from entry_in
   root_found zero e = absurd (false≢true e)
   root_found (suc k) e =
       rw (same_tree_swap ROOT (tree_in s 0).id ∙ (both e).0)
       (by_test (eqb (tree_in s 0).exists 0) (λ q. absurd (false≢true (rw q at (both e).1))) (λ q. rw q))
 
-  pub root_is : root_first (view s).forest.trees ≡ true → root_of (view s).forest ≡ some (record { tree = record { 0 = 0 }; node = (tree_in s 0).root })
+  pub root_is : root_first (view s).forest.trees ≡ true → root_of (view s).forest ≡ Some (record { tree = record { 0 = 0 }; node = (tree_in s 0).root })
   unfolding root_of subtree_of subtree_state view
   root_is e = rw (root_found (trees_of s) e, root_of)
 

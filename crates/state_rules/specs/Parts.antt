@@ -1,5 +1,5 @@
 -- What the rules answer, over the words of a state. Assumes nothing.
-use Rattle.std.specs.Prelude.{Bool, true, not, ◌||◌, List, [], ◌∷◌, ◌≡◌, ℕ, ◌+◌, ◌%◌, ◌<◌, eqb, drop, get_or}
+use Rattle.std.specs.Prelude.{Bool, true, not, ◌||◌, List, [], ◌∷◌, ◌≡◌, ℕ, ◌+◌, ◌%◌, ◌<◌, eqb, drop, get_or, Option, None, Some}
 use Rattle.base.specs.Tests.{◌and◌, any}
 use Rattle.base.specs.Bytes.{bit, all_below, list_of}
 use Rattle.ids.specs.Ids.{same_tree, same_id}
@@ -7,8 +7,6 @@ use Rattle.ids.specs.declared.TreeId.{TreeId}
 use Rattle.ids.specs.declared.FullNodeId.{FullNodeId}
 use Rattle.state.specs.Down.{Met, met_under, below}
 use Rattle.state_array.specs.View.{id_in, shape_in, tree_in, node_in, slots_of, view}
-use Rattle.state_rules.specs.declared.Kid.{Kid}
-use Rattle.state_rules.specs.declared.Kid.TheVariants as kid
 
 -- ## Grafts
 
@@ -52,6 +50,6 @@ abbrev pub below_in : List ℕ → ℕ → List Met
 below_in s p = below (view s).forest (node_in s p)
 
 -- what is met at place j
-unfoldable pub KidSays : List Met → ℕ → FullNodeId → Kid → Type 0
-KidSays ms j p (kid.At x) = drop j ms ≡ met_under p j x ∷ drop (j + 1) ms
-KidSays ms j p kid.Nothing = drop j ms ≡ []
+unfoldable pub KidSays : List Met → ℕ → FullNodeId → Option FullNodeId → Type 0
+KidSays ms j p (Some x) = drop j ms ≡ met_under p j x ∷ drop (j + 1) ms
+KidSays ms j p None = drop j ms ≡ []

@@ -8,50 +8,37 @@ ghost use Rattle.state_rules.specs.Parts.{bare_in, grafts_tree, none_grafts, bel
 
 use ids::{FullNodeId, TreeId};
 use state_array::State;
-use state_focus::FoundNode;
-use state_lookup::FoundTree;
-
-// What is met one step below a node at a place.
-#[derive(Clone, Copy)]
-pub enum Kid {
-    At(FullNodeId),
-    Nothing,
-}
 
 // What is met at place j one step below the node in slot p.
-pub fn kid_at(state: &State, p: usize, j: usize) -> Kid
+pub fn kid_at(state: &State, p: usize, j: usize) -> Option<FullNodeId>
     ensures { KidSays (below_in state.now p) j (id_in state.now p) result }
 {
     let d = state_array::shape_at(state, p);
     if !state_array::is_graft(d.flags) {
         if d.child_count <= j as u64 {
-            return Kid::Nothing;
+            return None;
         }
         let x = state_array::id_at(state, p);
         let tree = x.tree;
         let node = state_array::child_at(state, x.node, d.first_child, j);
-        return Kid::At(FullNodeId { tree, node });
+        return Some(FullNodeId { tree, node });
     }
     if 0 < j {
-        return Kid::Nothing;
+        return None;
     }
-    let FoundTree::At(e) = state_lookup::tree_of(state, d.graft) else {
-        return Kid::Nothing;
-    };
+    let e = state_lookup::tree_of(state, d.graft)?;
     let root = e.root;
-    Kid::At(root)
+    Some(root)
 }
 
 // Whether none of the first n nodes grafts a tree.
 pub fn is_free(state: &State, n: usize, t: TreeId) -> bool
     ensures { result ≡ none_grafts state.now t n }
 {
-    let mut i = 0usize;
-    while i < n {
+    for i in 0..n {
         if is_graft_of(state, i, t) {
             return false;
         }
-        i += 1;
     }
     true
 }
@@ -61,7 +48,7 @@ pub fn is_graft_of(state: &State, i: usize, t: TreeId) -> bool
     ensures { result ≡ grafts_tree state.now t i }
 {
     let d = state_array::shape_at(state, i);
-    state_array::is_graft(d.flags) & ids::same_tree(t, d.graft)
+    state_array::is_graft(d.flags) & (t == d.graft)
 }
 
 // Whether a node is no graft, or has no children.
@@ -78,14 +65,14 @@ pub fn root_is_first(state: &State) -> bool
 {
     let m = state_array::trees(state);
     let t = state_array::tree_at(state, 0);
-    (0 < m) & ids::same_tree(t.id, TreeId { high: 0, low: 0 }) & (t.exists != 0)
+    (0 < m) & (t.id == TreeId { high: 0, low: 0 }) & (t.exists != 0)
 }
 
 // Whether the effective focus is present, and no graft.
 pub fn focus_is_present(state: &State) -> bool
     ensures { result ≡ focus_present (view state.now).forest }
 {
-    let FoundNode::At(x) = state_focus::effective_focus(state) else {
+    let Some(x) = state_focus::effective_focus(state) else {
         return false;
     };
     state_lookup::find_in(state, x) < state_array::slots(state)

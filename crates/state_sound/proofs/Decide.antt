@@ -2,7 +2,7 @@
 -- Assumes nothing.
 use mathlib.Core.Bool.{Bool, true, false}
 use mathlib.Core.List.{List, [], ◌∷◌, append-nil}
-use mathlib.Core.Option.{none, some}
+use Rattle.std.specs.Prelude.{None, Some}
 use mathlib.Core.Path.{◌≡◌, sym, ◌∙◌}
 use Prim.Native.Nat.{ℕ, ◌≤◌, ◌<◌}
 use native.Mathlib.Omega.{arith}
@@ -31,8 +31,8 @@ use Rattle.state_rules.proofs.Trees.{root_is}
 use Rattle.state_sound.proofs.Walks.{counted_refused, counted_on, recorded_absent, recorded_there, below_there}
 
 -- over ids that ascend, the shape is the rules that do not go down, and the way down in one pass
-by_passes : (s : Forest) (r : FullNodeId) → (root_first s.trees ≡ true → root_of s ≡ some r) → ascending s.nodes ≡ true
-    → sound_shape s ≡ sound_grafts s and counted (length s.nodes) s (record { id = r; link = none } ∷ [])
+by_passes : (s : Forest) (r : FullNodeId) → (root_first s.trees ≡ true → root_of s ≡ Some r) → ascending s.nodes ≡ true
+    → sound_shape s ≡ sound_grafts s and counted (length s.nodes) s (record { id = r; link = None } ∷ [])
 unfolding sound_shape sound_links sound_trees sound_grafts ◌and◌
 by_passes s r root up =
     by_test (root_first s.trees) (λ h. rw (← links_counted s r (root h) up, up, h) (simp (and_right, and_comm, and_assoc, and_swap)))
@@ -70,12 +70,12 @@ module _ (s : List ℕ) where
     -- an absent root
     pub linked_absent : n ≤ r → false ≡ counted_all s
     unfolding counted_all
-    linked_absent h = sym (counted_refused f (start_in s) [] (slots_of s) (recorded_absent s (start_in s).id r found none (rw slots at h)))
+    linked_absent h = sym (counted_refused f (start_in s) [] (slots_of s) (recorded_absent s (start_in s).id r found None (rw slots at h)))
 
     module _ (h : r < n) {l : LinkRow} (is : l ≡ link_in s r) where
       told : recorded f.nodes (start_in s) ≡ eqb l.linked 0
       unfolding link_of
-      told = recorded_there s (start_in s).id r found none (rw slots at h) ∙ rw (← is) (by_test (eqb l.linked 0) (λ e. rw e) (λ e. rw e))
+      told = recorded_there s (start_in s).id r found None (rw slots at h) ∙ rw (← is) (by_test (eqb l.linked 0) (λ e. rw e) (λ e. rw e))
 
       -- a root with a parent, and one without
       pub linked_parented : (l.linked ≡ 0 → ⊥) → false ≡ counted_all s

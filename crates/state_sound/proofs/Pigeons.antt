@@ -2,7 +2,7 @@
 -- So the one pass of `counted` decides what `sound_links` and `way_ends` say of the way down. Assumes nothing.
 use mathlib.Core.Bool.{true}
 use mathlib.Core.List.{List, [], ◌∷◌, ◌++◌}
-use mathlib.Core.Option.{none, some}
+use Rattle.std.specs.Prelude.{None, Some}
 use mathlib.Core.Path.{◌≡◌, refl, sym, ◌∙◌}
 use Prim.Native.Nat.{ℕ, zero, suc}
 use native.Mathlib.Omega.{arith}
@@ -34,13 +34,13 @@ down_counted s (suc room) (m ∷ ms) =
     (sym (and_assoc (recorded s.nodes m) (all (recorded s.nodes) rest) (eqb (length rest) room)))
 
 -- every node is met once, every one met is recorded so, and the way ends by itself: what one pass from the root finds, over ids that ascend
-pub links_counted : (s : Forest) (r : FullNodeId) → root_of s ≡ some r → ascending s.nodes ≡ true
-    → (all (met_once (way_down s)) s.nodes and all (recorded s.nodes) (way_down s) and way_ends s) ≡ counted (length s.nodes) s (record { id = r; link = none } ∷ [])
+pub links_counted : (s : Forest) (r : FullNodeId) → root_of s ≡ Some r → ascending s.nodes ≡ true
+    → (all (met_once (way_down s)) s.nodes and all (recorded s.nodes) (way_down s) and way_ends s) ≡ counted (length s.nodes) s (record { id = r; link = None } ∷ [])
 unfolding way_ends
 links_counted s r q up = rw (way_down_from s r q) (iff there back ∙ sym (down_counted s (length s.nodes) start))
   where
     start : List Met
-    start = record { id = r; link = none } ∷ []
+    start = record { id = r; link = None } ∷ []
 
     way : List Met
     way = down (suc (length s.nodes)) s start

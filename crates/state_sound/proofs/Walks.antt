@@ -1,7 +1,7 @@
 -- The way down as `goes_down` goes it: what its two tables say is still to be met, and a law for each way on and out. Assumes nothing.
 use mathlib.Core.Bool.{Bool, true, false, not, ◌||◌}
 use mathlib.Core.List.{List, [], ◌∷◌, ◌++◌, append-nil}
-use mathlib.Core.Option.{Option, some}
+use Rattle.std.specs.Prelude.{Option, Some, None}
 use mathlib.Core.Path.{◌≡◌, refl, sym, ap, ◌∙◌}
 use Prim.Native.Nat.{ℕ, zero, suc, ◌+◌, ◌-◌, ◌≤◌, ◌<◌}
 use Rattle.base.proofs.Cases.{by_test, by_order, by_last}
@@ -23,8 +23,6 @@ use Rattle.state.specs.Sound.{recorded}
 use Rattle.state_array.specs.View.{id_in, link_in, link_of, node_in, slots_of, view}
 use Rattle.state_lookup.specs.Lookup.{stands_at, in_order, SlotOf}
 use Rattle.state_lookup.proofs.Found.{find_there, find_absent}
-use Rattle.state_rules.specs.declared.Kid.{Kid}
-use Rattle.state_rules.specs.declared.Kid.TheVariants as kid
 use Rattle.state_sound.specs.Counted.{counted}
 use Rattle.state_rules.specs.Parts.{below_in, KidSays}
 use Rattle.state_sound.specs.Parts.{MetAt, counted_below}
@@ -98,7 +96,7 @@ module _ (s : List ℕ) (x : FullNodeId) (i : ℕ) (found : First (stands_at s x
 
 -- what a row says of a link to p at place j
 pub agrees_is : (l : LinkRow) (p : FullNodeId) (j : ℕ)
-    → same_option same_link (link_of l) (some (record { parent = p; index = j })) ≡ not (eqb l.linked 0) and (same_id l.parent p and eqb l.index j)
+    → same_option same_link (link_of l) (Some (record { parent = p; index = j })) ≡ not (eqb l.linked 0) and (same_id l.parent p and eqb l.index j)
 unfolding link_of same_link ◌and◌
 agrees_is l p j = by_test (eqb l.linked 0) (λ e. rw e) (λ e. rw e)
 
@@ -106,7 +104,7 @@ agrees_is l p j = by_test (eqb l.linked 0) (λ e. rw e) (λ e. rw e)
 module _ (s : List ℕ) (p j : ℕ) {x : FullNodeId} {n i : ℕ} (slots : n ≡ slots_of s) (slot : SlotOf s x i) (up : in_order s ≡ true) where
   -- the link by which it is met
   abbrev link : Option ParentAndIndex
-  link = some (record { parent = id_in s p; index = j })
+  link = Some (record { parent = id_in s p; index = j })
 
   -- what is not recorded so has no slot
   nowhere : recorded (view s).forest.nodes (met_under (id_in s p) j x) ≡ false → MetAt s p j x n
@@ -119,7 +117,7 @@ module _ (s : List ℕ) (p j : ℕ) {x : FullNodeId} {n i : ℕ} (slots : n ≡ 
 
   -- there, with another link or with this one
   module _ (h : i < n) {l : LinkRow} (is : l ≡ link_in s i) {y : FullNodeId} (own : y ≡ id_in s p) {z : Bool}
-      (e : z ≡ same_option same_link (link_of l) (some (record { parent = y; index = j }))) where
+      (e : z ≡ same_option same_link (link_of l) (Some (record { parent = y; index = j }))) where
     told : recorded (view s).forest.nodes (met_under (id_in s p) j x) ≡ z
     unfolding met_under
     told = recorded_there s x i (slot.first up) link (rw slots at h) ∙ sym (rw (is, own) at e)
@@ -189,9 +187,9 @@ module _ {s : List ℕ} {n r : ℕ} {path nexts : List ℕ} {depth left : ℕ} (
     pub next_small : get_or nexts (depth - 1) 0 ≤ 320
     next_small = omega (arith, g.small top (omega arith), g.few)
 
-    module _ {k : Kid} (says : KidSays ms place (id_in s p) k) where
+    module _ {k : Option FullNodeId} (says : KidSays ms place (id_in s p) k) where
       -- nothing more below the deepest
-      pub going_back : k ≡ kid.Nothing → Going s n r path nexts (depth - 1) left
+      pub going_back : k ≡ None → Going s n r path nexts (depth - 1) left
       unfolding KidSays
       going_back q = record {
         slots = g.slots;
@@ -204,7 +202,7 @@ module _ {s : List ℕ} {n r : ℕ} {path nexts : List ℕ} {depth left : ℕ} (
         rest = sym (ap (λ (l : List Met). counted left f (l ++ after)) (rw q at says)) ∙ rw (pending_top f (node_in s) path nexts depth some_left) at g.rest;
       }
 
-      module _ {id : FullNodeId} (q : k ≡ kid.At id) {i : ℕ} (met : MetAt s p place id i) where
+      module _ {id : FullNodeId} (q : k ≡ Some id) {i : ℕ} (met : MetAt s p place id i) where
         -- the child, and what comes after it
         next : counted left f (met_under (id_in s p) place id ∷ (drop (place + 1) ms ++ after)) ≡ counted_below s r
         unfolding KidSays

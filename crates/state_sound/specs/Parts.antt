@@ -1,6 +1,5 @@
 -- What the parts of the decider answer, over the words of a state. Assumes nothing.
-use Rattle.std.specs.Prelude.{Bool, List, [], ◌∷◌, ◌≡◌, ℕ, ◌-◌, ◌<◌, ltb}
-use Rattle.std.proofs.Math.Option.{none}
+use Rattle.std.specs.Prelude.{Bool, List, [], ◌∷◌, ◌≡◌, ℕ, ◌-◌, ◌<◌, ltb, None}
 use Rattle.base.specs.Tests.{◌and◌, all}
 use Rattle.base.specs.Search.{First}
 use Rattle.ids.specs.declared.FullNodeId.{FullNodeId}
@@ -28,7 +27,7 @@ counted_below s r = counted (slots_of s - 1) (view s).forest (below_in s r)
 
 -- the root that the first row of the table names, as it is met
 abbrev pub start_in : List ℕ → Met
-start_in s = record { id = record { tree = record { 0 = 0 }; node = (tree_in s 0).root }; link = none }
+start_in s = record { id = record { tree = record { 0 = 0 }; node = (tree_in s 0).root }; link = None }
 
 -- going down from it meets the nodes, each by its own link
 unfoldable pub counted_all : List ℕ → Bool

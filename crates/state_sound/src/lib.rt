@@ -61,15 +61,12 @@ pub fn grafts_differ(state: &State) -> bool
 {
     let n = state_array::slots(state);
     let mut seen = [0u8; 4096];
-    let mut i = 0usize;
-    while i < n {
-        let at = i;
-        let d = state_array::shape_at(state, at);
-        i += 1;
+    for i in 0..n {
+        let d = state_array::shape_at(state, i);
         if !state_array::is_graft(d.flags) {
             continue;
         }
-        if !is_new(&seen, state, at, d.graft) {
+        if !is_new(&seen, state, i, d.graft) {
             return false;
         }
         let mark = (d.graft.low % 4096) as usize;
@@ -95,12 +92,10 @@ fn grafts_are_bare(state: &State) -> bool
     ensures { result ≡ all graft_is_bare (view state.now).forest.nodes }
 {
     let n = state_array::slots(state);
-    let mut i = 0usize;
-    while i < n {
+    for i in 0..n {
         if !state_rules::is_bare(state, i) {
             return false;
         }
-        i += 1;
     }
     true
 }
@@ -110,13 +105,11 @@ fn ids_differ(state: &State) -> bool
     ensures { result ≡ one_id_each (view state.now).forest.trees }
 {
     let m = state_array::trees(state);
-    let mut k = 0usize;
-    while k < m {
+    for k in 0..m {
         let t = state_array::tree_at(state, k);
         if state_lookup::find_tree(state, t.id) < k {
             return false;
         }
-        k += 1;
     }
     true
 }
@@ -146,12 +139,10 @@ fn all_rooted(state: &State) -> bool
     ensures { result ≡ all_rooted state.now (trees_of state.now) }
 {
     let m = state_array::trees(state);
-    let mut k = 0usize;
-    while k < m {
+    for k in 0..m {
         if !is_rooted(state, k) {
             return false;
         }
-        k += 1;
     }
     true
 }

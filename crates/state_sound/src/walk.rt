@@ -1,6 +1,5 @@
 // The way down, in one pass: every node is met once, by the link that it records.
 ghost use Rattle.std.specs.Prelude.{◌≡◌, true, ◌+◌, ◌<◌};
-ghost use Rattle.std.proofs.Math.Option.{some};
 ghost use Rattle.base.specs.Tests.{same_option};
 ghost use Rattle.state.specs.State.{same_link};
 ghost use Rattle.state_array.specs.Layout.{SLOTS};
@@ -10,13 +9,12 @@ ghost use Rattle.state_sound.specs.Parts.{MetAt, counted_below, counted_all};
 
 use ids::{FullNodeId, TreeIndex};
 use state_array::{LinkRow, State};
-use state_rules::Kid;
 
 // Whether a node records the parent p and the place j.
 fn agrees(l: LinkRow, p: FullNodeId, j: usize) -> bool
-    ensures { result ≡ same_option same_link (link_of l) (some (record { parent = p; index = j })) }
+    ensures { result ≡ same_option same_link (link_of l) (Some (record { parent = p; index = j })) }
 {
-    (l.linked != 0) & (ids::same_id(l.parent, p) & (l.index == j as u64))
+    (l.linked != 0) & ((l.parent == p) & (l.index == j as u64))
 }
 
 // The slot of the node that is met at place j below slot p, with the slots beside `near` tried first; the number of slots where it is
@@ -50,11 +48,12 @@ fn goes_down<'a, 'b>(state: &'a State, r: usize, parents: &'b mut [u16]) -> bool
     let mut depth = 1usize;
     let mut left = n - 1;
     let mut near = r;
+    // Not a `for`: a step goes down to a child, or back where the node has no more.
     while 0 < depth {
         let top = depth - 1;
         let p = path[top];
         let j = nexts[top];
-        let Kid::At(id) = state_rules::kid_at(state, p, j) else {
+        let Some(id) = state_rules::kid_at(state, p, j) else {
             depth = top;
             continue;
         };

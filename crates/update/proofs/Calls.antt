@@ -2,7 +2,7 @@
 use Rattle.update.proofs.Sound.{first_row, first_found}
 use mathlib.Core.Bool.{false}
 use mathlib.Core.List.{List, [], ◌∷◌, ◌++◌, map}
-use mathlib.Core.Option.{Option, none, some}
+use Rattle.std.specs.Prelude.{Option, None, Some}
 use mathlib.Core.Path.{◌≡◌, refl, ap}
 use Prim.Native.Nat.{ℕ, zero, suc}
 use lib.ListN.{length}
@@ -25,8 +25,8 @@ use Rattle.update.proofs.Reports.{length_slice_after}
 abbrev pub update_of : State → List ℕ → Option Batch → Answer
 update_of s slice o =
     elim o [
-      | none ↦ refused (update_number s none slice) s slice
-      | some b ↦ update_batch s b slice
+      | None ↦ refused (update_number s None slice) s slice
+      | Some b ↦ update_batch s b slice
     ]
 
 pub update_is : (s : State) (bytes slice : List ℕ) (o : Option Batch) → parse bytes ≡ o → update s bytes slice ≡ update_of s slice o
@@ -42,7 +42,7 @@ update_keeps_length s bytes slice = go (parse bytes)
     after : Batch → State
     after b = record { forest = outcome s.forest b; host_focused = s.host_focused }
 
-    on : (b : Batch) (n : ℕ) → update_number s (some b) slice ≡ n
+    on : (b : Batch) (n : ℕ) → update_number s (Some b) slice ≡ n
         → length (judged n s slice (accepted s (after b) (changes_of s.forest b) slice)).slice ≡ length slice
     on b zero e =
         let z = simp (first_row, first_found) at e in
@@ -50,8 +50,8 @@ update_keeps_length s bytes slice = go (parse bytes)
     on b (suc n) e = refl
 
     go : (o : Option Batch) → length (update_of s slice o).slice ≡ length slice
-    go none = refl
-    go (some b) = on b (update_number s (some b) slice) refl
+    go None = refl
+    go (Some b) = on b (update_number s (Some b) slice) refl
 
 -- ## Tree numbers are kept for good: a batch at most takes the next one
 

@@ -1,12 +1,11 @@
 -- Laws of the outcome: which nodes it holds, what is found there, and that their data is old data or listed data. Assumes nothing.
 use mathlib.Core.Bool.{Bool, true, false, not, ◌||◌}
 use mathlib.Core.List.{List, [], ◌∷◌, map}
-use mathlib.Core.Option.{Option, none, some}
 use mathlib.Core.Path.{◌≡◌, refl, sym, ap, ◌∙◌}
 use Prim.Native.Nat.{◌+◌, ◌≤◌}
 use native.Mathlib.Omega.{arith}
 use lib.ListN.{length, length-map}
-use Rattle.std.specs.Prelude.{if◌then◌else◌}
+use Rattle.std.specs.Prelude.{if◌then◌else◌, Option, None, Some}
 use Rattle.base.specs.Tests.{◌and◌, is_some, all, keep, has, distinct}
 use Rattle.base.proofs.Tests.{both, or_absorb, or_swap, or_right, all_keep}
 use Rattle.base.proofs.Lists.{all_map, count_rest}
@@ -85,16 +84,16 @@ module _ (s : Forest) (b : Batch) where
   unfoldable pub found_written : FullNodeId → Option NodeState
   found_written x =
       if mine s b x
-      then elim (listing b.nodes x.node) [ none ↦ find x s.nodes | some d ↦ some (merged x d (find x s.nodes)) ]
+      then elim (listing b.nodes x.node) [ None ↦ find x s.nodes | Some d ↦ Some (merged x d (find x s.nodes)) ]
       else find x s.nodes
 
   -- what was found, with the link that it then records
   abbrev relinked : Option NodeState → Option NodeState
-  relinked o = elim o [ none ↦ none | some n ↦ some (relink s b n) ]
+  relinked o = elim o [ None ↦ None | Some n ↦ Some (relink s b n) ]
 
   -- the node found in the outcome: none if it goes, else with the link that it then records
   unfoldable pub found_after : FullNodeId → Option NodeState
-  found_after x = if gone s b x then none else relinked (found_written x)
+  found_after x = if gone s b x then None else relinked (found_written x)
 
   relink_id : (n : NodeState) → (relink s b n).id ≡ n.id
   unfolding relink
@@ -109,14 +108,14 @@ module _ (s : Forest) (b : Batch) where
       ∙ go (gone s b x) (find_write_all (tree_number s b) b.nodes s.nodes e u x)
     where
       go : (c : Bool) → find x (written s b) ≡ found_written x
-          → relinked (if not c then find x (written s b) else none) ≡ (if c then none else relinked (found_written x))
+          → relinked (if not c then find x (written s b) else None) ≡ (if c then None else relinked (found_written x))
       go true h = refl
       go false h = ap relinked h
 
   -- the data of an old node after the listed nodes are written
   unfoldable pub body_after : NodeState → NodeData
   body_after n =
-      if mine s b n.id then elim (listing b.nodes n.id.node) [ none ↦ n.body | some d ↦ renewed n.body d ] else n.body
+      if mine s b n.id then elim (listing b.nodes n.id.node) [ None ↦ n.body | Some d ↦ renewed n.body d ] else n.body
 
   -- an old node that does not go, as the outcome holds it
   unfoldable pub node_after : NodeState → NodeState
@@ -124,18 +123,18 @@ module _ (s : Forest) (b : Batch) where
 
   -- what is found of an old node
   pub find_old_outcome : ascending s.nodes ≡ true → distinct same_node (listed_ids b.nodes) ≡ true
-      → (n : NodeState) → find n.id s.nodes ≡ some n
-      → find n.id (outcome s b).nodes ≡ (if gone s b n.id then none else some (node_after n))
+      → (n : NodeState) → find n.id s.nodes ≡ Some n
+      → find n.id (outcome s b).nodes ≡ (if gone s b n.id then None else Some (node_after n))
   unfolding found_after found_written merged relink body_after node_after
   find_old_outcome e u n f =
       find_outcome e u n.id
-      ∙ ap (λ (o : Option NodeState). if gone s b n.id then none else relinked o) (go (mine s b n.id) (listing b.nodes n.id.node) (find n.id s.nodes) f)
+      ∙ ap (λ (o : Option NodeState). if gone s b n.id then None else relinked o) (go (mine s b n.id) (listing b.nodes n.id.node) (find n.id s.nodes) f)
     where
-      go : (c : Bool) (o : Option NodeData) (was : Option NodeState) → was ≡ some n
-          → (if c then elim o [ none ↦ was | some d ↦ some (merged n.id d was) ] else was)
-          ≡ some (record { id = n.id; parent_and_index = n.parent_and_index; body = if c then elim o [ none ↦ n.body | some d ↦ renewed n.body d ] else n.body })
-      go true none was h = h
-      go true (some d) was h = ap (λ (w : Option NodeState). some (merged n.id d w)) h
+      go : (c : Bool) (o : Option NodeData) (was : Option NodeState) → was ≡ Some n
+          → (if c then elim o [ None ↦ was | Some d ↦ Some (merged n.id d was) ] else was)
+          ≡ Some (record { id = n.id; parent_and_index = n.parent_and_index; body = if c then elim o [ None ↦ n.body | Some d ↦ renewed n.body d ] else n.body })
+      go true None was h = h
+      go true (Some d) was h = ap (λ (w : Option NodeState). Some (merged n.id d w)) h
       go false o was h = h
 
   -- a node is present afterwards if it does not go and was there or is listed
@@ -147,15 +146,15 @@ module _ (s : Forest) (b : Batch) where
       ∙ go (gone s b x) (mine s b x) (find x s.nodes) (listing b.nodes x.node) (has same_node (listed_ids b.nodes) x.node) (listing_some b.nodes x.node)
     where
       go : (g c : Bool) (was : Option NodeState) (o : Option NodeData) (l : Bool) → is_some o ≡ l
-          → is_some (if g then none else relinked (if c then elim o [ none ↦ was | some d ↦ some (merged x d was) ] else was))
+          → is_some (if g then None else relinked (if c then elim o [ None ↦ was | Some d ↦ Some (merged x d was) ] else was))
           ≡ (not g and (is_some was || (c and l)))
       go true c was o l h = refl
-      go false true none none l h = h
-      go false true none (some d) l h = h
-      go false true (some n) none l h = refl
-      go false true (some n) (some d) l h = refl
-      go false false none o l h = refl
-      go false false (some n) o l h = refl
+      go false true None None l h = h
+      go false true None (Some d) l h = h
+      go false true (Some n) None l h = refl
+      go false true (Some n) (Some d) l h = refl
+      go false false None o l h = refl
+      go false false (Some n) o l h = refl
 
   pub ascending_outcome : ascending s.nodes ≡ true → ascending (outcome s b).nodes ≡ true
   unfolding outcome written

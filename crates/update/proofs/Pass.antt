@@ -4,12 +4,11 @@ use Rattle.record.proofs.Batch.{named_append}
 use mathlib.Core.Bool.{Bool, true, false, not, ◌||◌, true≢false, false≢true}
 use mathlib.Core.List.Memᴰ
 use mathlib.Core.List.{List, [], ◌∷◌, ◌++◌, append_assoc, Memᴰ}
-use mathlib.Core.Option.{Option, none, some}
 use mathlib.Core.Path.{◌≡◌, refl, sym, ap, ◌∙◌, subst}
 use Prim.Native.Nat.{ℕ}
 use native.Mathlib.Omega.{arith}
 use lib.Seq.{append_snoc}
-use Rattle.std.specs.Prelude.{if◌then◌else◌}
+use Rattle.std.specs.Prelude.{if◌then◌else◌, Option, None, Some}
 use Rattle.base.specs.Tests.{◌and◌, is_some, is_nil, any, has, distinct, position, given}
 use Rattle.base.specs.Tables.{row, found}
 use Rattle.base.proofs.Tests.{both, not_true, or_false, one_of}
@@ -28,20 +27,20 @@ use Rattle.update.specs.Numbers.{placeless}
 -- ## Listed and named
 
 -- two lists in a row: the first list's answer, else the second's
-listing_append : (xs ys : List Listed) (n : NodeId) → listing (xs ++ ys) n ≡ (elim (listing xs n) as (λ _. Option NodeData) [ none ↦ listing ys n | some d ↦ some d ])
+listing_append : (xs ys : List Listed) (n : NodeId) → listing (xs ++ ys) n ≡ (elim (listing xs n) as (λ _. Option NodeData) [ None ↦ listing ys n | Some d ↦ Some d ])
 unfolding listing
-listing_append xs ys n = first_given_append (λ l. if same_node n l.id then some l.body else none) xs ys
+listing_append xs ys n = first_given_append (λ l. if same_node n l.id then Some l.body else None) xs ys
 
 -- one more node: its data, if it is the one
-listing_snoc : (xs : List Listed) (l : Listed) (n : NodeId) (c : Bool) → listing xs n ≡ none → same_node n l.id ≡ c
-    → listing (xs ++ l ∷ []) n ≡ (if c then some l.body else none)
+listing_snoc : (xs : List Listed) (l : Listed) (n : NodeId) (c : Bool) → listing xs n ≡ None → same_node n l.id ≡ c
+    → listing (xs ++ l ∷ []) n ≡ (if c then Some l.body else None)
 unfolding listing
 listing_snoc xs l n c e q = rw (listing_append xs (l ∷ []) n, e) (ap (λ (t : Bool). data_if t) q ∙ go c)
   where
     data_if : Bool → Option NodeData
-    data_if t = let o : Option NodeData = if t then some l.body else none in elim o [ none ↦ none | some d ↦ some d ]
+    data_if t = let o : Option NodeData = if t then Some l.body else None in elim o [ None ↦ None | Some d ↦ Some d ]
 
-    go : (t : Bool) → data_if t ≡ (if t then some l.body else none)
+    go : (t : Bool) → data_if t ≡ (if t then Some l.body else None)
     go true = refl
     go false = refl
 
@@ -95,7 +94,7 @@ module _ (s : Forest) (b : Batch) where
 
   -- so no node that is placed claims ROOT
   fault_root : (seen : List NodeId) (claimed : List TreeId) (es : List Event) (l : Listed) → fault s b seen claimed es ≡ 0 → Memᴰ (places l) es
-      → claim s b l ≡ some ROOT → ⊥
+      → claim s b l ≡ Some ROOT → ⊥
   fault_root seen claimed [] l e x3 r = elim x3 [ ]
   fault_root seen claimed (names c ∷ es) l e (Memᴰ.head q) r = let z : ◌≡◌ {A = ℕ} 0 1 = cc in omega arith
   fault_root seen claimed (names c ∷ es) l e (Memᴰ.tail i) r = fault_root (c ∷ seen) claimed es l (names_zero seen claimed c es e) i r
@@ -142,15 +141,15 @@ module _ (s : Forest) (b : Batch) where
 
       on : (o : Option NodeData)
           → Memᴰ v (elim o as (λ _. List Event) [
-            | none ↦ namings s b earlier cs
-            | some d ↦ if placed_at_turn s b c then namings s b earlier cs else places (record { id = c; body = d }) ∷ namings s b earlier cs
+            | None ↦ namings s b earlier cs
+            | Some d ↦ if placed_at_turn s b c then namings s b earlier cs else places (record { id = c; body = d }) ∷ namings s b earlier cs
           ])
-      on none = i
-      on (some d) = turn d (placed_at_turn s b c)
+      on None = i
+      on (Some d) = turn d (placed_at_turn s b c)
 
   module _ (l : Listed) (waits : placed_at_turn s b l.id ≡ false) where
     -- a node that was listed and waits is placed when it is named
-    namings_place : (earlier : List Listed) (cs : List NodeId) → listing earlier l.id ≡ some l.body → has same_node cs l.id ≡ true
+    namings_place : (earlier : List Listed) (cs : List NodeId) → listing earlier l.id ≡ Some l.body → has same_node cs l.id ≡ true
         → Memᴰ (places l) (namings s b earlier cs)
     unfolding namings
     namings_place earlier [] e f = absurd (false≢true f)
@@ -164,7 +163,7 @@ module _ (s : Forest) (b : Batch) where
         go false q g h = namings_rest earlier c cs (places l) (h g)
 
     -- so it is when a later node names it
-    events_named : (earlier ls : List Listed) → listing earlier l.id ≡ some l.body → has same_node (named_ids ls) l.id ≡ true
+    events_named : (earlier ls : List Listed) → listing earlier l.id ≡ Some l.body → has same_node (named_ids ls) l.id ≡ true
         → Memᴰ (places l) (events s b earlier ls)
     unfolding events named_ids
     events_named earlier [] e f = absurd (false≢true f)
@@ -181,7 +180,7 @@ module _ (s : Forest) (b : Batch) where
   -- ## Every node that has a place
 
   -- a listed node that has a place is placed at its turn, or later when it is named
-  events_turn : (earlier : List Listed) (l : Listed) (ls : List Listed) → listing earlier l.id ≡ none
+  events_turn : (earlier : List Listed) (l : Listed) (ls : List Listed) → listing earlier l.id ≡ None
       → (placed_at_turn s b l.id || has same_node (named_ids (earlier ++ l ∷ ls)) l.id) ≡ true → Memᴰ (places l) (events s b earlier (l ∷ ls))
   unfolding listing
   events_turn earlier l ls e f = go (placed_at_turn s b l.id || has same_node (named_ids earlier ++ l.body.children) l.id) refl
@@ -190,12 +189,12 @@ module _ (s : Forest) (b : Batch) where
       go true q = events_own earlier l ls (places l) (rw q (Memᴰ.head refl))
       go false q =
           let waits = or_false (placed_at_turn s b l.id) q in
-          let listed : listing (earlier ++ l ∷ []) l.id ≡ some l.body = listing_snoc earlier l l.id true e (same_node_refl l.id) in
+          let listed : listing (earlier ++ l ∷ []) l.id ≡ Some l.body = listing_snoc earlier l l.id true e (same_node_refl l.id) in
           let named-later : has same_node (named_ids ls) l.id ≡ true = rw (waits.0, named_ids_split earlier l ls l.id, waits.1) at f in
           events_later earlier l ls (places l) (events_named l waits.0 (earlier ++ l ∷ []) ls listed named-later)
 
   -- so is every listed node, where none is listed twice
-  pub events_place : (earlier ls : List Listed) (l : Listed) → Memᴰ l ls → distinct same_node (listed_ids ls) ≡ true → listing earlier l.id ≡ none
+  pub events_place : (earlier ls : List Listed) (l : Listed) → Memᴰ l ls → distinct same_node (listed_ids ls) ≡ true → listing earlier l.id ≡ None
       → (placed_at_turn s b l.id || has same_node (named_ids (earlier ++ ls)) l.id) ≡ true → Memᴰ (places l) (events s b earlier ls)
   unfolding listed_ids listing
   events_place earlier [] l x4 d e f = elim x4 [ ]
@@ -213,7 +212,7 @@ module _ (s : Forest) (b : Batch) where
 
   -- after the rows 5 and 9 to 13 no listed node claims ROOT
   pub none_claims_root : distinct same_node (listed_ids b.nodes) ≡ true → pass s b ≡ 0 → any (placeless s b) b.nodes ≡ false
-      → (l : Listed) → Memᴰ l b.nodes → claim s b l ≡ some ROOT → ⊥
+      → (l : Listed) → Memᴰ l b.nodes → claim s b l ≡ Some ROOT → ⊥
   unfolding pass placeless listing
   none_claims_root d e f l i = fault_root [] [] (events s b [] b.nodes) l e (events_place [] b.nodes l i d refl has_place)
     where

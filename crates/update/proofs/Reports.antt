@@ -1,12 +1,11 @@
 -- Laws of the reports: what the four lists hold, that they are sorted, and the lent slice. Assumes nothing.
 use mathlib.Core.Bool.{Bool, true, false, not, ◌||◌, false≢true, true≢false}
 use mathlib.Core.List.{List, [], ◌∷◌}
-use mathlib.Core.Option.{Option, none, some}
 use mathlib.Core.Path.{◌≡◌, refl, sym, ap, ap₂, ◌∙◌}
 use Prim.Native.Nat.{ℕ, ◌≤◌}
 use native.Mathlib.Omega.{arith}
 use lib.ListN.{length, length-append, length-drop}
-use Rattle.std.specs.Prelude.{if◌then◌else◌}
+use Rattle.std.specs.Prelude.{if◌then◌else◌, Option, None, Some}
 use Rattle.base.specs.Tests.{◌and◌, is_some, keep, same_option, has, distinct, all}
 use Rattle.base.proofs.Tests.{both, joined, all_keep, has_keep, all_member}
 use Rattle.base.proofs.Lists.{all_map, any_found}
@@ -99,7 +98,7 @@ module _ (s : Forest) (b : Batch) where
   -- listed with data that differs by value from the node's
   unfoldable pub data_changed : NodeState → Bool
   data_changed n =
-      listed s b n.id and elim (listing b.nodes n.id.node) [ none ↦ false | some d ↦ not (same_data n.body d) ]
+      listed s b n.id and elim (listing b.nodes n.id.node) [ None ↦ false | Some d ↦ not (same_data n.body d) ]
 
   -- with a link afterwards that differs from the one that it records
   unfoldable pub link_changed : NodeState → Bool
@@ -130,15 +129,15 @@ module _ (s : Forest) (b : Batch) where
       new d false q = ap not q
 
       go : (c : Bool) (o : Option NodeData) (l : Bool) → is_some o ≡ l
-          → not (same_data n.body (if c then elim o [ none ↦ n.body | some d ↦ if same_data n.body d then n.body else d ] else n.body))
-          ≡ (c and l and elim o [ none ↦ false | some d ↦ not (same_data n.body d) ])
-      go true none l h = rw (← h) kept
-      go true (some d) l h = rw (← h) (new d (same_data n.body d) refl)
+          → not (same_data n.body (if c then elim o [ None ↦ n.body | Some d ↦ if same_data n.body d then n.body else d ] else n.body))
+          ≡ (c and l and elim o [ None ↦ false | Some d ↦ not (same_data n.body d) ])
+      go true None l h = rw (← h) kept
+      go true (Some d) l h = rw (← h) (new d (same_data n.body d) refl)
       go false o l h = kept
 
   module _ (ordered : ascending s.nodes ≡ true) (once : distinct same_node (listed_ids b.nodes) ≡ true) where
     -- an old node is updated where it does not go and its data or its link changes or it is marked
-    pub updated_is : (n : NodeState) → find n.id s.nodes ≡ some n → fields_ok n.body ≡ true
+    pub updated_is : (n : NodeState) → find n.id s.nodes ≡ Some n → fields_ok n.body ≡ true
         → (marked : FullNodeId → Bool)
         → is_updated s (outcome s b) marked n ≡ (not (gone s b n.id) and (data_changed n || link_changed n || marked n.id))
     unfolding is_updated link_changed node_after ◌and◌
@@ -146,31 +145,31 @@ module _ (s : Forest) (b : Batch) where
       where
         told : Option NodeState → Bool
         told o = elim o [
-          | none ↦ false
-          | some m ↦
+          | None ↦ false
+          | Some m ↦
               not (same_data n.body m.body)
               || (is_some m.parent_and_index and not (same_option same_link n.parent_and_index m.parent_and_index))
               || marked n.id
         ]
 
-        go : (g : Bool) → told (if g then none else some (node_after s b n)) ≡ (not g and (data_changed n || link_changed n || marked n.id))
+        go : (g : Bool) → told (if g then None else Some (node_after s b n)) ≡ (not g and (data_changed n || link_changed n || marked n.id))
         go true = refl
         go false = ap (λ (c : Bool). c || link_changed n || marked n.id) (data_changed_lem n f)
 
     -- an old node is relinked where it does not go and its parent changes
-    pub relinked_is : (n : NodeState) → find n.id s.nodes ≡ some n
+    pub relinked_is : (n : NodeState) → find n.id s.nodes ≡ Some n
         → is_relinked s (outcome s b) n.id
         ≡ (not (gone s b n.id) and not (same_option same_id (parent_of n.parent_and_index) (parent_of (link_after s b n.id n.parent_and_index))))
     unfolding is_relinked present parent_at link_at parent_of node_after ◌and◌
     relinked_is n e = ap₂ told e (find_old_outcome s b ordered once n e) ∙ go (gone s b n.id)
       where
         link : Option NodeState → Option ParentAndIndex
-        link o = elim o [ none ↦ none | some m ↦ m.parent_and_index ]
+        link o = elim o [ None ↦ None | Some m ↦ m.parent_and_index ]
 
         told : Option NodeState → Option NodeState → Bool
         told was new = is_some new and not (same_option same_id (parent_of (link was)) (parent_of (link new)))
 
-        go : (g : Bool) → told (some n) (if g then none else some (node_after s b n))
+        go : (g : Bool) → told (Some n) (if g then None else Some (node_after s b n))
             ≡ (not g and not (same_option same_id (parent_of n.parent_and_index) (parent_of (link_after s b n.id n.parent_and_index))))
         go true = refl
         go false = refl

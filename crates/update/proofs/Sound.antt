@@ -1,14 +1,13 @@
 -- Tables of numbers: what holds where a batch is accepted, that its outcome is sound, and when 20 is answered. Assumes nothing.
 use mathlib.Core.Bool.{Bool, true, false, not, true≢false}
 use mathlib.Core.List.{List, [], ◌∷◌, ◌++◌}
-use mathlib.Core.Option.{Option, none, some}
 use mathlib.Core.Path.{◌≡◌, refl, ap, ◌∙◌}
 use Prim.Native.Nat.{ℕ, suc, ◌≤◌}
 use native.Mathlib.Omega.{arith}
 use lib.Dec.{ltb, leb, eqb}
 use lib.ListN.{length, length-append}
 use borrow.Author.Tests.{leb-true, leb-false, le-leb, ltb-false, eqb-false, ne_eqb}
-use Rattle.std.specs.Prelude.{if◌then◌else◌}
+use Rattle.std.specs.Prelude.{if◌then◌else◌, Option, None, Some}
 use Rattle.base.specs.Tests.{◌and◌, is_none, any, all, distinct, has, given}
 use Rattle.base.proofs.Tests.{not_false}
 use Rattle.ids.specs.Ids.{ROOT, same_tree, same_node}
@@ -121,7 +120,7 @@ length_entries_after s b k [] = refl
 length_entries_after s b k (e ∷ es) = ap suc (length_entries_after s b (suc k) es)
 
 few_trees : (s : Forest) (b : Batch) (c : Bool) → leb (length s.trees) 32 ≡ true → not c and leb 32 (length s.trees) ≡ false
-    → length (entries_after s b 0 s.trees ++ (if c then [] else record { id = b.tree; subtree = subtree_here s b none } ∷ [])) ≤ 32
+    → length (entries_after s b 0 s.trees ++ (if c then [] else record { id = b.tree; subtree = subtree_here s b None } ∷ [])) ≤ 32
 unfolding ◌and◌
 few_trees s b true e q = rw (length-append, length_entries_after s b 0 s.trees) (omega (arith, leb-true (length s.trees) 32 e))
 few_trees s b false e q = rw (length-append, length_entries_after s b 0 s.trees) (omega (arith, leb-false 32 (length s.trees) q))
@@ -143,9 +142,9 @@ module _ (s : Forest) (b : Batch) where
   focus_outcome p = go (effective_focus (outcome s b)) p.row17
     where
       go : (o : Option FullNodeId) → absent (outcome s b).nodes o ≡ false
-          → (elim o as (λ _. Bool) [ none ↦ false | some x ↦ present (outcome s b).nodes x ]) ≡ true
-      go none e = absurd (true≢false e)
-      go (some x) e = not_false e
+          → (elim o as (λ _. Bool) [ None ↦ false | Some x ↦ present (outcome s b).nodes x ]) ≡ true
+      go None e = absurd (true≢false e)
+      go (Some x) e = not_false e
 
   pub outcome_sound : Ground s → all (λ l. fields_ok l.body) b.nodes ≡ true → Passed s b → sound (outcome s b) ≡ true
   outcome_sound g f p =

@@ -1,12 +1,11 @@
 -- Laws of writing: it keeps the order by id, adds at most what is listed, and what is found afterwards is told by what is listed. Assumes nothing.
 use mathlib.Core.Bool.{Bool, true, false, not}
 use mathlib.Core.List.{List, [], ◌∷◌}
-use mathlib.Core.Option.{Option, none, some}
 use mathlib.Core.Path.{◌≡◌, refl, sym, ap, ◌∙◌}
 use Prim.Native.Nat.{suc, ◌+◌, ◌≤◌}
 use native.Mathlib.Omega.{arith}
 use lib.ListN.{length}
-use Rattle.std.specs.Prelude.{if◌then◌else◌}
+use Rattle.std.specs.Prelude.{if◌then◌else◌, Option, None, Some}
 use Rattle.base.specs.Tests.{◌and◌, is_some, all, has, distinct}
 use Rattle.base.proofs.Tests.{both, joined}
 use Rattle.base.proofs.Lists.{first_given_some, any_map, none_of}
@@ -24,7 +23,7 @@ use Rattle.update.specs.Outcome.{renewed, write, write_all}
 
 -- a node that is written where none stood
 abbrev pub fresh : FullNodeId → NodeData → NodeState
-fresh x d = record { id = x; parent_and_index = none; body = d }
+fresh x d = record { id = x; parent_and_index = None; body = d }
 
 -- a node that is written over another
 abbrev pub over : NodeState → NodeData → NodeState
@@ -32,8 +31,8 @@ over n d = record { id = n.id; parent_and_index = n.parent_and_index; body = ren
 
 -- the node of id x after d is written on what was found
 unfoldable pub merged : FullNodeId → NodeData → Option NodeState → NodeState
-merged x d none = fresh x d
-merged x d (some n) = over n d
+merged x d None = fresh x d
+merged x d (Some n) = over n d
 
 -- the three ways to write before the end of a list: over its first node, before it, or after it
 pub write_cases : (P : List NodeState → Type 0) (x : FullNodeId) (d : NodeData) (n : NodeState) (ns : List NodeState) → (same_id x n.id ≡ true → P (over n d ∷ ns))
@@ -94,11 +93,11 @@ length_write_all t (l ∷ ls) ns =
 -- ## What is found
 
 -- the node written
-pub find_write : (x : FullNodeId) (d : NodeData) (ns : List NodeState) → ascending ns ≡ true → find x (write x d ns) ≡ some (merged x d (find x ns))
+pub find_write : (x : FullNodeId) (d : NodeData) (ns : List NodeState) → ascending ns ≡ true → find x (write x d ns) ≡ Some (merged x d (find x ns))
 unfolding write find ascending merged
 find_write x d [] e = rw (same_id_refl x)
 find_write x d (n ∷ ns) e =
-    write_cases (λ l. find x l ≡ some (merged x d (find x (n ∷ ns)))) x d n ns (λ q. rw q)
+    write_cases (λ l. find x l ≡ Some (merged x d (find x (n ∷ ns)))) x d n ns (λ q. rw q)
     (λ q f. rw (same_id_refl x, q, find_none x ns (all_further x n.id ns f (both e).0))) (λ q _. rw q (find_write x d ns (both e).1))
 
 -- another node
@@ -116,12 +115,12 @@ listing_some ls n = first_given_some (λ l. same_node n l.id) (λ l. l.body) ls 
 
 -- the node of x after what is listed of it, if anything, is written on what was found
 abbrev laid : FullNodeId → Option NodeData → Option NodeState → Option NodeState
-laid x o was = elim o [ none ↦ was | some d ↦ some (merged x d was) ]
+laid x o was = elim o [ None ↦ was | Some d ↦ Some (merged x d was) ]
 
 pub find_write_all : (t : TreeIndex) (ls : List Listed) (ns : List NodeState) → ascending ns ≡ true → distinct same_node (listed_ids ls) ≡ true
     → (x : FullNodeId)
     → find x (write_all t ls ns)
-    ≡ (if same_index x.tree t then elim (listing ls x.node) [ none ↦ find x ns | some d ↦ some (merged x d (find x ns)) ] else find x ns)
+    ≡ (if same_index x.tree t then elim (listing ls x.node) [ None ↦ find x ns | Some d ↦ Some (merged x d (find x ns)) ] else find x ns)
 unfolding write_all listing listed_ids same_id
 find_write_all t [] ns e u x = go (same_index x.tree t)
   where
@@ -142,7 +141,7 @@ find_write_all t (l ∷ ls) ns e u x =
 
     go : (c : Bool) → same_index x.tree t ≡ c → (k : Bool) → same_node x.node l.id ≡ k
         → (if c then laid x (listing ls x.node) (find x ns') else find x ns')
-        ≡ (if c then laid x (elim (if k then some l.body else none) as (λ _. Option NodeData) [ none ↦ listing ls x.node | some d ↦ some d ]) (find x ns)
+        ≡ (if c then laid x (elim (if k then Some l.body else None) as (λ _. Option NodeData) [ None ↦ listing ls x.node | Some d ↦ Some d ]) (find x ns)
         else find x ns)
     go false q k f = other (unfold same_id ◌and◌ in rw q)
     go true q false f = ap (laid x (listing ls x.node)) (other (unfold same_id ◌and◌ in rw (q, f)))

@@ -1,7 +1,6 @@
 -- What a start, a batch and a host focus change answer: the number, the state and every other part. Document 01, modules 3 to 5.
 -- Assumes nothing.
-use Rattle.std.specs.Prelude.{Bool, not, List, [], ◌∷◌, ℕ, zero, suc, ltb, length, if◌then◌else◌}
-use Rattle.std.proofs.Math.Option.{Option, none, some}
+use Rattle.std.specs.Prelude.{Bool, not, List, [], ◌∷◌, ℕ, zero, suc, ltb, length, if◌then◌else◌, Option, None, Some}
 use Rattle.base.specs.Tests.{is_none}
 use Rattle.base.specs.Tables.{Row, row, found, first}
 use Rattle.ids.specs.Ids.{ROOT, same_tree}
@@ -36,10 +35,10 @@ refused k s slice = record {
   state = s;
   changes = no_changes;
   lengths = lengths_of no_changes;
-  focus_before = none;
-  focus_after = none;
-  extra_before = none;
-  extra_after = none;
+  focus_before = None;
+  focus_after = None;
+  extra_before = None;
+  extra_after = None;
   slice = slice;
 }
 
@@ -77,21 +76,21 @@ update_number s parsed slice =
     first
     (row 1 (not (sound s.forest))
     ∷ row 2 (is_none parsed)
-    ∷ elim parsed [ none ↦ [] | some b ↦ batch_rows s b slice ])
+    ∷ elim parsed [ None ↦ [] | Some b ↦ batch_rows s b slice ])
 
 -- a batch whose record is well formed
 unfoldable pub update_batch : State → Batch → List ℕ → Answer
 update_batch s b slice =
     let s' : State = record { forest = outcome s.forest b; host_focused = s.host_focused } in
     let a : Answer = accepted s s' (changes_of s.forest b) slice in
-    judged (update_number s (some b) slice) s slice a
+    judged (update_number s (Some b) slice) s slice a
 
 -- any bytes
 unfoldable pub update : State → List ℕ → List ℕ → Answer
 update s bytes slice =
     elim (parse bytes) [
-      | none ↦ refused (update_number s none slice) s slice
-      | some b ↦ update_batch s b slice
+      | None ↦ refused (update_number s None slice) s slice
+      | Some b ↦ update_batch s b slice
     ]
 
 -- ## A start
@@ -102,13 +101,13 @@ seed b = record {
   nodes = [];
   trees = record {
     id = ROOT;
-    subtree = elim b.root [ none ↦ none | some r ↦ some (record { root = r; focus = b.focus }) ];
+    subtree = elim b.root [ None ↦ None | Some r ↦ Some (record { root = r; focus = b.focus }) ];
   } ∷ [];
 }
 
 -- the same batch with its tree data taken
 unfoldable pub without_tree_data : Batch → Batch
-without_tree_data b = record { tree = b.tree; root = none; focus = b.focus; nodes = b.nodes }
+without_tree_data b = record { tree = b.tree; root = None; focus = b.focus; nodes = b.nodes }
 
 -- 3: a start without tree data. 4: a start for a tree other than ROOT
 unfoldable pub start_number : Batch → ℕ
@@ -126,10 +125,10 @@ started s = record {
   state = s;
   changes = no_changes;
   lengths = lengths_of no_changes;
-  focus_before = none;
+  focus_before = None;
   focus_after = state_focus s;
-  extra_before = none;
-  extra_after = none;
+  extra_before = None;
+  extra_after = None;
   slice = [];
 }
 
@@ -142,7 +141,7 @@ start_batch b host_focused =
 
 -- any bytes: 2 where they are no record
 unfoldable pub start : List ℕ → Bool → Answer
-start bytes host_focused = elim (parse bytes) [ none ↦ refused 2 blank [] | some b ↦ start_batch b host_focused ]
+start bytes host_focused = elim (parse bytes) [ None ↦ refused 2 blank [] | Some b ↦ start_batch b host_focused ]
 
 -- ## A host focus change
 

@@ -1,7 +1,6 @@
 -- Document 01's cases 1 to 14. Each compares the whole answer, and none goes through bytes. S is the start of case 1, T a tree id other than ROOT.
 -- Assumes nothing.
-use Rattle.std.specs.Prelude.{List, [], ◌∷◌, map, ℕ}
-use Rattle.std.proofs.Math.Option.{none, some}
+use Rattle.std.specs.Prelude.{List, [], ◌∷◌, map, ℕ, None, Some}
 use Rattle.ids.specs.Ids.{ROOT}
 use Rattle.record.specs.Batch.{Listed, Batch}
 use Rattle.record.specs.ExampleNodes.{T, parent, leaf, labelled, grafts, graft_over, lists, batch_for, batch}
@@ -12,7 +11,7 @@ use Rattle.update.specs.ExampleCalls.{start_with, then, refuses, starts, accepts
 
 -- root 1 with children 2 and 3, focus 2, host focused
 abbrev pub start_s : Batch
-start_s = batch_for ROOT (some 1) 2 (lists 1 (parent (2 ∷ 3 ∷ [])) ∷ lists 2 leaf ∷ lists 3 leaf ∷ [])
+start_s = batch_for ROOT (Some 1) 2 (lists 1 (parent (2 ∷ 3 ∷ [])) ∷ lists 2 leaf ∷ lists 3 leaf ∷ [])
 
 abbrev pub one : NodeState
 one = root 0 1 (parent (2 ∷ 3 ∷ []))
@@ -65,8 +64,8 @@ child_dropped = after_s (lists 1 (parent (2 ∷ [])) ∷ []) gives
       relinked = [];
       focus_before = id 0 2;
       focus_after = id 0 2;
-      extra_before = none;
-      extra_after = none;
+      extra_before = None;
+      extra_after = None;
       slice = 0 ∷ 1 ∷ 0 ∷ 3 ∷ [];
     })
 
@@ -111,13 +110,13 @@ graft_made = after_s (lists 3 (grafts T) ∷ []) gives
       relinked = [];
       focus_before = id 0 2;
       focus_after = id 0 2;
-      extra_before = none;
-      extra_after = none;
+      extra_before = None;
+      extra_after = None;
       slice = 0 ∷ 3 ∷ [];
     })
 
 unfoldable pub pane_started : Case
-pane_started = then with_graft (batch_for T (some 1) 1 (lists 1 leaf ∷ [])) gives
+pane_started = then with_graft (batch_for T (Some 1) 1 (lists 1 leaf ∷ [])) gives
     accepts
     (record {
       state = with_t;
@@ -127,14 +126,14 @@ pane_started = then with_graft (batch_for T (some 1) 1 (lists 1 leaf ∷ [])) gi
       relinked = [];
       focus_before = id 0 2;
       focus_after = id 0 2;
-      extra_before = none;
-      extra_after = none;
+      extra_before = None;
+      extra_after = None;
       slice = 1 ∷ 1 ∷ [];
     })
 
 -- 10. after the first half of 9, T without tree data: 7
 unfoldable pub pane_without_tree_data : Case
-pane_without_tree_data = then with_graft (batch_for T none 1 (lists 1 leaf ∷ [])) gives
+pane_without_tree_data = then with_graft (batch_for T None 1 (lists 1 leaf ∷ [])) gives
     refuses 7 with_graft
 
 -- 11. 2 and 3 both graft T: 12
@@ -159,8 +158,8 @@ graft_moved = then with_t (batch 2 (lists 3 leaf ∷ lists 2 (grafts T) ∷ []))
       relinked = id 1 1 ∷ [];
       focus_before = id 0 2;
       focus_after = id 1 1;
-      extra_before = none;
-      extra_after = none;
+      extra_before = None;
+      extra_after = None;
       slice = 0 ∷ 2 ∷ 0 ∷ 3 ∷ 1 ∷ 1 ∷ 1 ∷ 1 ∷ [];
     })
 

@@ -1,7 +1,6 @@
 -- Calls and answers written short, for worked examples. A call here takes a batch; one that goes through bytes says `start` or `update`.
 -- Assumes nothing.
-use Rattle.std.specs.Prelude.{true, List, [], ◌++◌, ℕ, ◌-◌, length, replicate}
-use Rattle.std.proofs.Math.Option.{Option, none, some}
+use Rattle.std.specs.Prelude.{true, List, [], ◌++◌, ℕ, ◌-◌, length, replicate, Option, None, Some}
 use Rattle.ids.specs.declared.FullNodeId.{FullNodeId}
 use Rattle.record.specs.Batch.{Batch}
 use Rattle.state.specs.State.{State}
@@ -32,10 +31,10 @@ starts s f = record {
   state = s;
   changes = record { added = []; updated = []; removed = []; relinked = [] };
   lengths = record { added = 0; updated = 0; removed = 0; relinked = 0 };
-  focus_before = none;
-  focus_after = some f;
-  extra_before = none;
-  extra_after = none;
+  focus_before = None;
+  focus_after = Some f;
+  extra_before = None;
+  extra_after = None;
   slice = [];
 }
 
@@ -59,8 +58,8 @@ accepts t = record {
   state = t.state;
   changes = record { added = t.added; updated = t.updated; removed = t.removed; relinked = t.relinked };
   lengths = record { added = length t.added; updated = length t.updated; removed = length t.removed; relinked = length t.relinked };
-  focus_before = some t.focus_before;
-  focus_after = some t.focus_after;
+  focus_before = Some t.focus_before;
+  focus_after = Some t.focus_after;
   extra_before = t.extra_before;
   extra_after = t.extra_after;
   slice = filled t.slice;

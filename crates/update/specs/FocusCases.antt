@@ -1,7 +1,6 @@
 -- Worked cases of what is reported of the focus: extra ids, an active descendant, the host. None goes through bytes. S is the start of case 1.
 -- Assumes nothing.
-use Rattle.std.specs.Prelude.{false, List, [], ◌∷◌}
-use Rattle.std.proofs.Math.Option.{none, some}
+use Rattle.std.specs.Prelude.{false, List, [], ◌∷◌, None, Some}
 use Rattle.ids.specs.Ids.{ROOT}
 use Rattle.record.specs.ExampleNodes.{T, leaf, active, lists, batch}
 use Rattle.state.specs.ExampleStates.{id, under, tree, state}
@@ -21,8 +20,8 @@ focus_moves_on = then S (batch 3 []) gives
       relinked = [];
       focus_before = id 0 2;
       focus_after = id 0 3;
-      extra_before = some (id 0 2);
-      extra_after = some (id 0 3);
+      extra_before = Some (id 0 2);
+      extra_after = Some (id 0 3);
       slice = [];
     })
 
@@ -38,8 +37,8 @@ active_descendant_is_graft = then with_t (batch 2 (lists 2 (active 3) ∷ [])) g
       relinked = [];
       focus_before = id 0 2;
       focus_after = id 0 3;
-      extra_before = none;
-      extra_after = some (id 0 3);
+      extra_before = None;
+      extra_after = Some (id 0 3);
       slice = 0 ∷ 2 ∷ [];
     })
 
@@ -51,10 +50,10 @@ host_leaves = host_focus S false gives
       state = record { forest = S.forest; host_focused = false };
       changes = record { added = []; updated = []; removed = []; relinked = [] };
       lengths = record { added = 0; updated = 0; removed = 0; relinked = 0 };
-      focus_before = some (id 0 2);
-      focus_after = none;
-      extra_before = some (id 0 2);
-      extra_after = none;
+      focus_before = Some (id 0 2);
+      focus_after = None;
+      extra_before = Some (id 0 2);
+      extra_after = None;
       slice = [];
     })
 

@@ -1,7 +1,6 @@
 -- Worked cases of grafts: who claims a tree, who holds it, who lets it go. None goes through bytes. S is the start of case 1.
 -- Assumes nothing.
-use Rattle.std.specs.Prelude.{List, [], ◌∷◌}
-use Rattle.std.proofs.Math.Option.{none, some}
+use Rattle.std.specs.Prelude.{List, [], ◌∷◌, None, Some}
 use Rattle.ids.specs.Ids.{ROOT}
 use Rattle.record.specs.ExampleNodes.{T, U, parent, leaf, grafts, graft_over, lists, batch_for, batch}
 use Rattle.state.specs.ExampleStates.{id, root, under, tree, no_tree, state}
@@ -55,8 +54,8 @@ graft_goes_and_claimed = then four_grafts (batch 2 (lists 4 (grafts T) ∷ lists
       relinked = [];
       focus_before = id 0 2;
       focus_after = id 0 2;
-      extra_before = none;
-      extra_after = none;
+      extra_before = None;
+      extra_after = None;
       slice = 0 ∷ 2 ∷ 0 ∷ 3 ∷ 0 ∷ 4 ∷ [];
     })
 
@@ -109,8 +108,8 @@ graft_let_go = then with_t (batch 2 (lists 3 leaf ∷ [])) gives
       relinked = [];
       focus_before = id 0 2;
       focus_after = id 0 2;
-      extra_before = none;
-      extra_after = none;
+      extra_before = None;
+      extra_after = None;
       slice = 0 ∷ 3 ∷ 1 ∷ 1 ∷ [];
     })
 
@@ -125,8 +124,8 @@ graft_unchanged = then with_t (batch 2 (lists 3 (grafts T) ∷ [])) gives
       relinked = [];
       focus_before = id 0 2;
       focus_after = id 0 2;
-      extra_before = none;
-      extra_after = none;
+      extra_before = None;
+      extra_after = None;
       slice = [];
     })
 
@@ -142,13 +141,13 @@ tree_let_go = then with_t (batch 2 (lists 3 (grafts U) ∷ [])) gives
       relinked = [];
       focus_before = id 0 2;
       focus_after = id 0 2;
-      extra_before = none;
-      extra_after = none;
+      extra_before = None;
+      extra_after = None;
       slice = 0 ∷ 3 ∷ 1 ∷ 1 ∷ [];
     })
 
 unfoldable pub other_tree_given : Case
-other_tree_given = then graft_of_u (batch_for U (some 1) 1 (lists 1 leaf ∷ [])) gives
+other_tree_given = then graft_of_u (batch_for U (Some 1) 1 (lists 1 leaf ∷ [])) gives
     accepts
     (record {
       state = with_u;
@@ -158,8 +157,8 @@ other_tree_given = then graft_of_u (batch_for U (some 1) 1 (lists 1 leaf ∷ [])
       relinked = [];
       focus_before = id 0 2;
       focus_after = id 0 2;
-      extra_before = none;
-      extra_after = none;
+      extra_before = None;
+      extra_after = None;
       slice = 2 ∷ 1 ∷ [];
     })
 
@@ -175,13 +174,13 @@ tree_grafted_again = then with_u (batch 2 (lists 3 (grafts T) ∷ [])) gives
       relinked = [];
       focus_before = id 0 2;
       focus_after = id 0 2;
-      extra_before = none;
-      extra_after = none;
+      extra_before = None;
+      extra_after = None;
       slice = 0 ∷ 3 ∷ 2 ∷ 1 ∷ [];
     })
 
 unfoldable pub tree_given_again : Case
-tree_given_again = then graft_again (batch_for T (some 1) 1 (lists 1 leaf ∷ [])) gives
+tree_given_again = then graft_again (batch_for T (Some 1) 1 (lists 1 leaf ∷ [])) gives
     accepts
     (record {
       state = state (one ∷ two ∷ three_grafts ∷ under (id 0 3) 0 (id 1 1) leaf ∷ []) (main ∷ tree T 1 1 ∷ no_tree U ∷ []);
@@ -191,8 +190,8 @@ tree_given_again = then graft_again (batch_for T (some 1) 1 (lists 1 leaf ∷ []
       relinked = [];
       focus_before = id 0 2;
       focus_after = id 0 2;
-      extra_before = none;
-      extra_after = none;
+      extra_before = None;
+      extra_after = None;
       slice = 1 ∷ 1 ∷ [];
     })
 
@@ -208,8 +207,8 @@ nested_tree_moved = then nested (batch 2 (lists 1 (parent (2 ∷ [])) ∷ lists 
       relinked = id 2 1 ∷ [];
       focus_before = id 0 2;
       focus_after = id 2 1;
-      extra_before = none;
-      extra_after = none;
+      extra_before = None;
+      extra_after = None;
       slice = 0 ∷ 1 ∷ 0 ∷ 2 ∷ 2 ∷ 1 ∷ 0 ∷ 3 ∷ 1 ∷ 1 ∷ 1 ∷ 2 ∷ 2 ∷ 1 ∷ [];
     })
 

@@ -1,7 +1,6 @@
 -- The table of numbers that judge a batch on a sound state, 5 to 20: document 01, "Numbers a call can return", in its order,
 -- save that 9 to 12 come as the pass meets them and the clash in 12 with a graft already held comes after 14. Assumes nothing.
-use Rattle.std.specs.Prelude.{Bool, true, false, not, List, [], ◌∷◌, ◌++◌, ℕ, ltb, leb, length}
-use Rattle.std.proofs.Math.Option.{Option, none, some}
+use Rattle.std.specs.Prelude.{Bool, true, false, not, List, [], ◌∷◌, ◌++◌, ℕ, ltb, leb, length, Option, None, Some}
 use Rattle.base.specs.Tests.{◌and◌, is_none, any, distinct}
 use Rattle.base.specs.Tables.{Row, row, found, first}
 use Rattle.ids.specs.Ids.{ROOT, same_tree, same_node}
@@ -19,8 +18,8 @@ use Rattle.update.specs.Outcome.{outcome}
 
 -- absent, or none at all
 unfoldable pub absent : List NodeState → Option FullNodeId → Bool
-absent ns none = true
-absent ns (some x) = not (present ns x)
+absent ns None = true
+absent ns (Some x) = not (present ns x)
 
 module _ (s : Forest) (b : Batch) where
   -- 13: a listed node left without a place
@@ -36,7 +35,7 @@ module _ (s : Forest) (b : Batch) where
   unfoldable pub updated_and_removed : Listed → Bool
   updated_and_removed l =
       gone s b (here s b l.id)
-      and elim (find (here s b l.id) s.nodes) [ none ↦ false | some n ↦ not (same_data n.body l.body) ]
+      and elim (find (here s b l.id) s.nodes) [ None ↦ false | Some n ↦ not (same_data n.body l.body) ]
 
   -- 5 to 8
   unfoldable pub rows_before_pass : List Row

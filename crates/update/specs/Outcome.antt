@@ -1,7 +1,6 @@
 -- The forest after a batch: nodes written and removed, parent links, the table of trees. Document 01, "The update".
 -- Assumes nothing.
-use Rattle.std.specs.Prelude.{Bool, true, not, List, [], ◌∷◌, ◌++◌, map, ℕ, suc, eqb, leb, if◌then◌else◌}
-use Rattle.std.proofs.Math.Option.{Option, none, some}
+use Rattle.std.specs.Prelude.{Bool, true, not, List, [], ◌∷◌, ◌++◌, map, ℕ, suc, eqb, leb, if◌then◌else◌, Option, None, Some}
 use Rattle.base.specs.Tests.{◌and◌, keep}
 use Rattle.ids.specs.Ids.{ROOT, same_tree, same_index, same_id, before}
 use Rattle.ids.specs.declared.TreeIndex.{TreeIndex}
@@ -19,10 +18,10 @@ renewed body new = if same_data body new then body else new
 
 -- a node is written in its place by id, over the data that stood there
 unfoldable pub write : FullNodeId → NodeData → List NodeState → List NodeState
-write x d [] = record { id = x; parent_and_index = none; body = d } ∷ []
+write x d [] = record { id = x; parent_and_index = None; body = d } ∷ []
 write x d (n ∷ ns) =
     if same_id x n.id then record { id = n.id; parent_and_index = n.parent_and_index; body = renewed n.body d } ∷ ns
-    else if before x n.id then record { id = x; parent_and_index = none; body = d } ∷ n ∷ ns
+    else if before x n.id then record { id = x; parent_and_index = None; body = d } ∷ n ∷ ns
     else n ∷ write x d ns
 
 -- all listed nodes, of tree number t
@@ -32,7 +31,7 @@ write_all t (l ∷ ls) ns = write_all t ls (write (record { tree = t; node = l.i
 
 -- the link of a tree's root under its graft holder
 unfoldable pub under_graft : FullNodeId → Option ParentAndIndex
-under_graft g = some (record { parent = g; index = 0 })
+under_graft g = Some (record { parent = g; index = 0 })
 
 module _ (s : Forest) (b : Batch) where
   -- the old nodes and the listed ones
@@ -47,7 +46,7 @@ module _ (s : Forest) (b : Batch) where
 
   -- a link cut at x's turn stays cut: no node names x, or x is old and is named no later than its turn
   unfoldable pub cut_lasts : FullNodeId → Bool
-  cut_lasts x = elim (naming s b x) [ none ↦ true | some l ↦ old s b x and leb (turn s b l.parent) (turn s b x) ]
+  cut_lasts x = elim (naming s b x) [ None ↦ true | Some l ↦ old s b x and leb (turn s b l.parent) (turn s b x) ]
 
   -- ROOT's root, if it is listed: the crate cuts its link at its turn. Where the cut does not last, the root has the link under which
   -- it is named, and is not accepted (18, 19).
@@ -59,16 +58,16 @@ module _ (s : Forest) (b : Batch) where
   -- Any other root that is named has a link to the node that names it. It never shows: the root is met twice, or that node goes (19 at the latest).
   unfoldable pub link_here : FullNodeId → Option ParentAndIndex → Option ParentAndIndex
   link_here x was =
-      if pane_root x then elim (holder s.nodes b.tree) [ none ↦ none | some g ↦ under_graft g ]
-      else if link_is_cut x then none
-      else elim (naming s b x) [ none ↦ was | some l ↦ some l ]
+      if pane_root x then elim (holder s.nodes b.tree) [ None ↦ None | Some g ↦ under_graft g ]
+      else if link_is_cut x then None
+      else elim (naming s b x) [ None ↦ was | Some l ↦ Some l ]
 
   -- A node of another tree: as it was, but the root of a claimed tree stands under the claimer.
   unfoldable pub link_elsewhere : FullNodeId → Option ParentAndIndex → Option ParentAndIndex
-  link_elsewhere x none = none
-  link_elsewhere x (some l) =
-      if same_index l.parent.tree x.tree then some l
-      else elim (claimed_from s b l.parent) [ none ↦ some l | some g ↦ under_graft g ]
+  link_elsewhere x None = None
+  link_elsewhere x (Some l) =
+      if same_index l.parent.tree x.tree then Some l
+      else elim (claimed_from s b l.parent) [ None ↦ Some l | Some g ↦ under_graft g ]
 
   -- of the batch's tree or of another
   unfoldable pub link_after : FullNodeId → Option ParentAndIndex → Option ParentAndIndex
@@ -84,14 +83,14 @@ module _ (s : Forest) (b : Batch) where
   unfoldable pub subtree_here : Option Subtree → Option Subtree
   subtree_here subtree =
       elim b.root [
-        | some r ↦ some (record { root = r; focus = b.focus })
-        | none ↦ elim subtree [ none ↦ none | some u ↦ some (record { root = u.root; focus = b.focus }) ]
+        | Some r ↦ Some (record { root = r; focus = b.focus })
+        | None ↦ elim subtree [ None ↦ None | Some u ↦ Some (record { root = u.root; focus = b.focus }) ]
       ]
 
   -- any other tree, of number k, stays while its root does
   unfoldable pub subtree_elsewhere : ℕ → Option Subtree → Option Subtree
-  subtree_elsewhere k none = none
-  subtree_elsewhere k (some u) = if gone s b (record { tree = record { 0 = k }; node = u.root }) then none else some u
+  subtree_elsewhere k None = None
+  subtree_elsewhere k (Some u) = if gone s b (record { tree = record { 0 = k }; node = u.root }) then None else Some u
 
   -- of the batch's tree or of another; k is the tree's number
   unfoldable pub entry_after : ℕ → TreeEntry → TreeEntry
@@ -105,7 +104,7 @@ module _ (s : Forest) (b : Batch) where
 
   -- a tree id without a number takes the next one
   unfoldable pub new_entry : List TreeEntry
-  new_entry = if known s b then [] else record { id = b.tree; subtree = subtree_here none } ∷ []
+  new_entry = if known s b then [] else record { id = b.tree; subtree = subtree_here None } ∷ []
 
   -- ## The outcome
 

@@ -1,7 +1,6 @@
 -- The crate's pass over the nodes, which meets 9 to 12 in its own order: document 01, "The update".
 -- Assumes nothing.
-use Rattle.std.specs.Prelude.{Bool, not, ◌||◌, List, [], ◌∷◌, ◌++◌, ℕ, if◌then◌else◌}
-use Rattle.std.proofs.Math.Option.{none, some}
+use Rattle.std.specs.Prelude.{Bool, not, ◌||◌, List, [], ◌∷◌, ◌++◌, ℕ, if◌then◌else◌, None, Some}
 use Rattle.base.specs.Tests.{◌and◌, is_some, is_nil, any, has, given}
 use Rattle.base.specs.Tables.{row, found, first}
 use Rattle.ids.specs.Ids.{ROOT, same_tree, same_node}
@@ -27,8 +26,8 @@ module _ (s : Forest) (b : Batch) where
   namings earlier (c ∷ cs) =
       let rest = namings earlier cs in
       names c ∷ elim (listing earlier c) [
-        | none ↦ rest
-        | some d ↦ if placed_at_turn c then rest else places (record { id = c; body = d }) ∷ rest
+        | None ↦ rest
+        | Some d ↦ if placed_at_turn c then rest else places (record { id = c; body = d }) ∷ rest
       ]
 
   -- After its children a node is placed itself, unless it has to wait until it is named.

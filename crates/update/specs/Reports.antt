@@ -1,7 +1,6 @@
 -- Module 5, reports: the four change lists, the extra ids, the lent slice. Document 01, "Change lists".
 -- Assumes nothing.
-use Rattle.std.specs.Prelude.{Bool, true, false, not, ◌||◌, List, [], ◌∷◌, ◌++◌, ℕ, length, drop, if◌then◌else◌}
-use Rattle.std.proofs.Math.Option.{Option, none, some}
+use Rattle.std.specs.Prelude.{Bool, true, false, not, ◌||◌, List, [], ◌∷◌, ◌++◌, ℕ, length, drop, if◌then◌else◌, Option, None, Some}
 use Rattle.base.specs.Tests.{◌and◌, is_some, all, keep, same_option, has}
 use Rattle.ids.specs.Ids.{same_id, before, id_words}
 use Rattle.ids.specs.declared.FullNodeId.{FullNodeId}
@@ -43,8 +42,8 @@ module _ (s s' : Forest) where
   unfoldable pub is_updated : (FullNodeId → Bool) → NodeState → Bool
   is_updated marked n =
       elim (find n.id s'.nodes) [
-        | none ↦ false
-        | some m ↦
+        | None ↦ false
+        | Some m ↦
             not (same_data n.body m.body)
             || (is_some m.parent_and_index and not (same_option same_link n.parent_and_index m.parent_and_index))
             || marked n.id
@@ -96,8 +95,8 @@ slice_after slice c = change_words c ++ drop (length (change_words c)) slice
 
 -- an id, unless it stands in a list
 unfoldable pub unless_in : List FullNodeId → Option FullNodeId → Option FullNodeId
-unless_in xs none = none
-unless_in xs (some x) = if has same_id xs x then none else some x
+unless_in xs None = None
+unless_in xs (Some x) = if has same_id xs x then None else Some x
 
 -- the answers of `TreeState::focus` differ
 unfoldable pub focus_moved : State → State → Bool
@@ -105,8 +104,8 @@ focus_moved s s' = not (same_option same_id (state_focus s) (state_focus s'))
 
 -- the node that lost the focus, unless updated or removed
 unfoldable pub extra_before : State → State → Changes → Option FullNodeId
-extra_before s s' c = if focus_moved s s' then unless_in (c.updated ++ c.removed) (state_focus s) else none
+extra_before s s' c = if focus_moved s s' then unless_in (c.updated ++ c.removed) (state_focus s) else None
 
 -- the node that got it, unless added or updated
 unfoldable pub extra_after : State → State → Changes → Option FullNodeId
-extra_after s s' c = if focus_moved s s' then unless_in (c.added ++ c.updated) (state_focus s') else none
+extra_after s s' c = if focus_moved s s' then unless_in (c.added ++ c.updated) (state_focus s') else None

@@ -1,8 +1,7 @@
 -- A case for each row that no other case has: 1 to 6 and 21. `state_unsound`, `record_broken` and `start_broken` go through bytes, since rows 1 and 2
 -- are asked of these; the others take a batch. S is the start of case 1.
 -- Assumes nothing.
-use Rattle.std.specs.Prelude.{true, List, [], ◌∷◌, ◌++◌, set}
-use Rattle.std.proofs.Math.Option.{some}
+use Rattle.std.specs.Prelude.{true, List, [], ◌∷◌, ◌++◌, set, Some}
 use Rattle.record.specs.Encode.{encode}
 use Rattle.record.specs.ExampleNodes.{T, parent, leaf, lists, batch_for, batch}
 use Rattle.state.specs.ExampleStates.{state}
@@ -13,7 +12,7 @@ use Rattle.update.specs.Cases.{start_s, one, three, main, S, after_s}
 
 -- 6: tree data for a tree that no graft holds; the refused batch takes no tree number
 unfoldable pub tree_without_graft : Case
-tree_without_graft = then S (batch_for T (some 1) 1 (lists 1 leaf ∷ [])) gives
+tree_without_graft = then S (batch_for T (Some 1) 1 (lists 1 leaf ∷ [])) gives
     refuses 6 S
 
 -- 5: a node listed twice
@@ -51,7 +50,7 @@ start_without_tree_data = start_with (batch 2 (lists 1 leaf ∷ [])) gives
     refused 3 blank []
 
 unfoldable pub start_of_pane : Case
-start_of_pane = start_with (batch_for T (some 1) 1 (lists 1 leaf ∷ [])) gives
+start_of_pane = start_with (batch_for T (Some 1) 1 (lists 1 leaf ∷ [])) gives
     refused 4 blank []
 
 abbrev pub row_cases : List Case

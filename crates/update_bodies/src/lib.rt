@@ -99,8 +99,8 @@ pub fn same_body(a: Body, b: Body) -> bool
     let q = b.floats;
     (a.child_count == b.child_count)
         & (a.flags == b.flags)
-        & ids::same_tree(a.graft, b.graft)
-        & (ids::same_node(a.active_descendant, b.active_descendant)
+        & (a.graft == b.graft)
+        & ((a.active_descendant == b.active_descendant)
             & ((a.label_length == b.label_length) & same_words(&x, &y))
             & (a.role == b.role)
             & same_bounds(p, q)
@@ -156,12 +156,10 @@ pub fn same_run<'a>(
 ) -> bool
     ensures { result ≡ same_run a.now from b.now to past count }
 {
-    let mut k = 0usize;
-    while k < count {
+    for k in 0..count {
         if word_in(a, from, k, past) != word_in(b, to, k, past) {
             return false;
         }
-        k += 1;
     }
     true
 }

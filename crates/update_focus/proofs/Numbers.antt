@@ -1,7 +1,7 @@
 -- Laws of rows 15 to 17 of an outcome, by the searches that the code makes. Assumes nothing.
 use mathlib.Core.Bool.{Bool, true, false, not}
 use mathlib.Core.List.{List}
-use mathlib.Core.Option.{Option, none, some}
+use Rattle.std.specs.Prelude.{Option, None, Some}
 use mathlib.Core.Path.{◌≡◌, sym, ap, ◌∙◌}
 use Prim.Native.Nat.{ℕ, ◌≤◌, ◌<◌}
 use native.Mathlib.Decide.{dec_lt}
@@ -15,17 +15,12 @@ use Rattle.base.proofs.Bytes.{length_list_of}
 use Rattle.ids.specs.Ids.{ROOT}
 use Rattle.ids.specs.declared.FullNodeId.{FullNodeId}
 use Rattle.state.specs.State.{subtree_of}
+use Rattle.state.specs.declared.SubtreeState.{SubtreeState}
 use Rattle.state.specs.Down.{root_of}
 use Rattle.state.specs.Focus.{effective_focus}
 use Rattle.state_array.specs.View.{slots_of, node_in, view}
-use Rattle.state_lookup.specs.Lookup.{stands_at, ends_of}
-use Rattle.state_lookup.specs.declared.Ends.{Ends}
-use Rattle.state_lookup.specs.declared.FoundTree.{FoundTree}
-use Rattle.state_lookup.specs.declared.FoundTree.TheVariants as tree
+use Rattle.state_lookup.specs.Lookup.{stands_at}
 use Rattle.state_lookup.proofs.Found.{present_slot}
-use Rattle.state_focus.specs.Focus.{found_of}
-use Rattle.state_focus.specs.declared.FoundNode.{FoundNode}
-use Rattle.state_focus.specs.declared.FoundNode.TheVariants as node
 use Rattle.update.specs.Numbers.{absent}
 use Rattle.update_focus.specs.Numbers.{focus_number}
 
@@ -44,17 +39,16 @@ forest_length state = length_list_of (slots_of state) (node_in state)
 
 -- ## Rows 15 to 17
 
-module _ (state : List ℕ) {r : FoundNode} (way : found_of r ≡ effective_focus (view state).forest) where
+module _ (state : List ℕ) {r : Option FullNodeId} (way : r ≡ effective_focus (view state).forest) where
   -- no focus
-  pub row_unfocused : r ≡ node.Nothing → 15 ≡ focus_number (view state).forest
-  unfolding focus_number first found_of
+  pub row_unfocused : r ≡ None → 15 ≡ focus_number (view state).forest
+  unfolding focus_number first
   row_unfocused q = sym (rw (← way, q))
 
-  module _ {x : FullNodeId} (q : r ≡ node.At x) {v : Bool} (rootless : v ≡ absent (view state).forest.nodes (root_of (view state).forest)) where
+  module _ {x : FullNodeId} (q : r ≡ Some x) {v : Bool} (rootless : v ≡ absent (view state).forest.nodes (root_of (view state).forest)) where
     -- the focus that was found
-    focus_is : effective_focus (view state).forest ≡ some x
-    unfolding found_of
-    focus_is = sym way ∙ ap found_of q
+    focus_is : effective_focus (view state).forest ≡ Some x
+    focus_is = sym way ∙ q
 
     -- ROOT's root is absent
     pub row_rootless : v ≡ true → 16 ≡ focus_number (view state).forest
@@ -71,19 +65,19 @@ module _ (state : List ℕ) {r : FoundNode} (way : found_of r ≡ effective_focu
       unfolding focus_number first absent
       rows_focused l = sym (rw (focus_is, sym rootless ∙ h, present_slot state x k found ∙ lt-ltb k (slots_of state) (rw count at l)))
 
-module _ (state : List ℕ) (r : FoundTree) (ends : ends_of r ≡ subtree_of (view state).forest ROOT) where
+module _ (state : List ℕ) (r : Option SubtreeState) (ends : r ≡ subtree_of (view state).forest ROOT) where
   -- the root that a search found
-  pub root_found : root_of (view state).forest ≡ (elim (ends_of r) as (λ _. Option FullNodeId) [ none ↦ none | some u ↦ some u.root ])
+  pub root_found : root_of (view state).forest ≡ (elim r as (λ _. Option FullNodeId) [ None ↦ None | Some u ↦ Some u.root ])
   unfolding root_of
   root_found = rw ends
 
   -- ROOT does not exist
-  pub root_unborn : r ≡ tree.Nothing → true ≡ absent (view state).forest.nodes (root_of (view state).forest)
-  unfolding ends_of absent
+  pub root_unborn : r ≡ None → true ≡ absent (view state).forest.nodes (root_of (view state).forest)
+  unfolding absent
   root_unborn q = sym (rw (root_found, q))
 
   -- its root is searched for
-  pub root_searched : {e : Ends} {k n : ℕ} → r ≡ tree.At e → First (stands_at state e.root) (slots_of state) k → n ≡ slots_of state
+  pub root_searched : {e : SubtreeState} {k n : ℕ} → r ≡ Some e → First (stands_at state e.root) (slots_of state) k → n ≡ slots_of state
       → leb n k ≡ absent (view state).forest.nodes (root_of (view state).forest)
-  unfolding ends_of absent
+  unfolding absent
   root_searched {e} {k} q h count = sym (rw (root_found, q, count) (ap not (present_slot state e.root k h) ∙ not_below k (slots_of state)))

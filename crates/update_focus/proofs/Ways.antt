@@ -1,7 +1,6 @@
 -- Laws of the way through the grafts: its steps, its nodes by their places, its words. Assumes nothing.
-use mathlib.Core.Bool.{Bool, true, false, not, true≢false, false≢true}
+use mathlib.Core.Bool.{Bool, true, false}
 use mathlib.Core.List.{List, [], ◌∷◌, ◌++◌}
-use mathlib.Core.Option.{Option, none, some}
 use mathlib.Core.Path.{◌≡◌, refl, sym, ap, ◌∙◌}
 use Prim.Native.Nat.{ℕ, zero, suc, ◌+◌, ◌*◌, ◌-◌, ◌/◌, ◌%◌, ◌≤◌, ◌<◌}
 use native.Mathlib.Nat.{zero-add}
@@ -10,7 +9,7 @@ use lib.Dec.{eqb, ltb}
 use lib.ListN.{length, get_or, set, take, drop, replicate, length-drop, length-append, length-replicate, length-take, drop_of_length-le}
 use lib.Seq.{drop-nil, drop-drop, get_or-take, ext_get_or}
 use borrow.Author.Tests.{eq-eqb, ne_eqb}
-use Rattle.std.specs.Prelude.{if◌then◌else◌}
+use Rattle.std.specs.Prelude.{if◌then◌else◌, Option, None, Some, unwrap_or}
 use Rattle.base.specs.Tests.{◌and◌}
 use Rattle.base.specs.Bytes.{bit}
 use Rattle.base.specs.Search.{First}
@@ -25,89 +24,74 @@ use Rattle.ids.specs.declared.FullNodeId.{FullNodeId}
 use Rattle.record.specs.Batch.{graft?}
 use Rattle.reasons_calls.specs.Outcome.{way_through, focus_way, last_graft}
 use Rattle.reasons.specs.Reasons.{last_of}
-use Rattle.reasons_why.specs.Why.{found, first_id, or_root, way_words}
+use Rattle.reasons_why.specs.Why.{first_id, or_root, way_words}
 use Rattle.reasons_why.proofs.Found.{found_none, found_some}
 use Rattle.state.specs.State.{Forest, graft_at, subtree_of}
+use Rattle.state.specs.declared.SubtreeState.{SubtreeState}
 use Rattle.state.specs.Down.{root_of}
 use Rattle.state_array.specs.declared.ShapeRow.{ShapeRow}
 use Rattle.state_array.specs.View.{shape_in, body_in, node_in, entry_in, slots_of, trees_of, view}
-use Rattle.state_focus.specs.declared.FoundNode.{FoundNode}
-use Rattle.state_focus.specs.declared.FoundNode.TheVariants as node
-use Rattle.state_lookup.specs.Lookup.{stands_at, ends_of}
-use Rattle.state_lookup.specs.declared.Ends.{Ends}
-use Rattle.state_lookup.specs.declared.FoundTree.{FoundTree}
-use Rattle.state_lookup.specs.declared.FoundTree.TheVariants as tree
+use Rattle.state_lookup.specs.Lookup.{stands_at}
 use Rattle.state_lookup.proofs.Found.{find_slot}
 use Rattle.update_focus.proofs.Numbers.{root_found}
-use Rattle.update_focus.specs.declared.way.Graft.{Graft}
-use Rattle.update_focus.specs.Ways.{graft_of, focus_of, way_after}
+use Rattle.update_focus.specs.Ways.{focus_of, way_after}
 
 -- ## Steps
 
 -- what x grafts, by its slot and its row
 module _ (s : List ℕ) (x : FullNodeId) {i n : ℕ} (search : First (stands_at s x) (slots_of s) i) (count : n ≡ slots_of s) {d : ShapeRow}
     (is : d ≡ shape_in s i) {g : Bool} (test : g ≡ bit 8 d.flags) where
-  graft_by : graft_at (view s).forest.nodes x ≡ (if ltb i n and g then some d.graft else none)
+  graft_by : graft_at (view s).forest.nodes x ≡ (if ltb i n and g then Some d.graft else None)
   unfolding graft_at node_in body_in graft? ◌and◌
   graft_by = rw (find_slot s x i search, graft_at, count)
       (by_test (ltb i (slots_of s)) (λ l. rw (l, ← is, ← test)) (λ l. rw l))
 
-  pub grafts_one : ltb i n and g ≡ true → record { grafts = true; tree = d.graft } ≡ graft_of (graft_at (view s).forest.nodes x)
-  unfolding graft_of
+  pub grafts_one : ltb i n and g ≡ true → Some d.graft ≡ graft_at (view s).forest.nodes x
   grafts_one e = sym (rw (graft_by, e))
 
-  pub grafts_none : ltb i n and g ≡ false → record { grafts = false; tree = ROOT } ≡ graft_of (graft_at (view s).forest.nodes x)
-  unfolding graft_of
+  pub grafts_none : ltb i n and g ≡ false → None ≡ graft_at (view s).forest.nodes x
   grafts_none e = sym (rw (graft_by, e))
 
 -- the ends of a tree
-module _ (f : Forest) (t : TreeId) (r : FoundTree) (ends : ends_of r ≡ subtree_of f t) where
-  focus_is : focus_of f t ≡ (elim (ends_of r) as (λ _. Option FullNodeId) [ none ↦ none | some u ↦ some u.focus ])
+module _ (f : Forest) (t : TreeId) (r : Option SubtreeState) (ends : r ≡ subtree_of f t) where
+  focus_is : focus_of f t ≡ (elim r as (λ _. Option FullNodeId) [ None ↦ None | Some u ↦ Some u.focus ])
   unfolding focus_of
   focus_is = rw ends
 
-  pub focus_none : r ≡ tree.Nothing → node.Nothing ≡ found (focus_of f t)
-  unfolding found ends_of
+  pub focus_none : r ≡ None → None ≡ focus_of f t
   focus_none q = sym (rw (focus_is, q))
 
-  pub focus_some : {v : Ends} → r ≡ tree.At v → node.At v.focus ≡ found (focus_of f t)
-  unfolding found ends_of
+  pub focus_some : {v : SubtreeState} → r ≡ Some v → Some v.focus ≡ focus_of f t
   focus_some q = sym (rw (focus_is, q))
 
-module _ (s : List ℕ) (r : FoundTree) (ends : ends_of r ≡ subtree_of (view s).forest ROOT) where
-  pub root_none : r ≡ tree.Nothing → node.Nothing ≡ found (root_of (view s).forest)
-  unfolding found ends_of
+module _ (s : List ℕ) (r : Option SubtreeState) (ends : r ≡ subtree_of (view s).forest ROOT) where
+  pub root_none : r ≡ None → None ≡ root_of (view s).forest
   root_none q = sym (rw (root_found s r ends, q))
 
-  pub root_some : {v : Ends} → r ≡ tree.At v → node.At v.root ≡ found (root_of (view s).forest)
-  unfolding found ends_of
+  pub root_some : {v : SubtreeState} → r ≡ Some v → Some v.root ≡ root_of (view s).forest
   root_some q = sym (rw (root_found s r ends, q))
 
 -- the node after x
-module _ (f : Forest) (x : FullNodeId) {g : Graft} (is : g ≡ graft_of (graft_at f.nodes x)) where
-  pub after_none : not g.grafts ≡ true → node.Nothing ≡ found (way_after f x)
-  unfolding graft_of found way_after
-  after_none e =
-      by_option (graft_at f.nodes x) (λ q. let over : way_after f x ≡ none = rw (q, way_after) in sym (ap found over))
-      (λ t q. absurd (false≢true (rw (is, q) at e)))
+module _ (f : Forest) (x : FullNodeId) {g : Option TreeId} (is : g ≡ graft_at f.nodes x) where
+  pub after_none : g ≡ None → None ≡ way_after f x
+  unfolding way_after
+  after_none e = let over : way_after f x ≡ None = rw (sym is ∙ e, way_after) in sym over
 
-  pub after_some : not g.grafts ≡ false → {r : FoundNode} → r ≡ found (focus_of f g.tree) → r ≡ found (way_after f x)
-  unfolding graft_of found way_after
-  after_some e h =
-      by_option (graft_at f.nodes x) (λ q. absurd (true≢false (rw (is, q) at e)))
-      (λ t q. let same : focus_of f g.tree ≡ way_after f x = rw (is, q, way_after) in h ∙ ap found same)
+  pub after_some : {t : TreeId} → g ≡ Some t → {r : Option FullNodeId} → r ≡ focus_of f t → r ≡ way_after f x
+  unfolding way_after
+  after_some {t} e h = let same : focus_of f t ≡ way_after f x = rw (sym is ∙ e, way_after) in h ∙ same
 
 module _ (f : Forest) where
   -- one step, by the node after x
   way_step : (room : ℕ) (x : FullNodeId)
-      → way_through (suc room) f x ≡ x ∷ elim (way_after f x) [ none ↦ [] | some y ↦ way_through room f y ]
+      → way_through (suc room) f x ≡ x ∷ elim (way_after f x) [ None ↦ [] | Some y ↦ way_through room f y ]
   unfolding way_through way_after focus_of
   way_step room x =
       by_option (graft_at f.nodes x) (λ q. rw (q, way_through))
       (λ t q. by_option (subtree_of f t) (λ p. rw (q, way_through, p)) (λ u p. rw (q, way_through, p)))
 
   -- from ROOT's focus on
-  way_from : focus_way f ≡ elim (focus_of f ROOT) [ none ↦ [] | some x ↦ way_through (suc (length f.trees)) f x ]
+  way_from : focus_way f ≡ elim (focus_of f ROOT) [ None ↦ [] | Some x ↦ way_through (suc (length f.trees)) f x ]
   unfolding focus_way focus_of
   way_from = by_option (subtree_of f ROOT) (λ q. rw (q, focus_way)) (λ u q. rw (q, focus_way))
 
@@ -124,7 +108,7 @@ module _ (f : Forest) where
 -- ## Nodes by their places
 
 -- past the last
-no_place : (xs : List FullNodeId) (k : ℕ) → length xs ≤ k → first_id (drop k xs) ≡ none
+no_place : (xs : List FullNodeId) (k : ℕ) → length xs ≤ k → first_id (drop k xs) ≡ None
 unfolding first_id
 no_place xs k h = rw (drop_of_length-le xs h)
 
@@ -158,13 +142,12 @@ module _ (s : List ℕ) where
     pub left : drop i way ≡ way_through (suc (m - i)) (view s).forest at
 
   -- it starts at ROOT's focus, if there is one
-  module _ (k : ℕ) {r : FoundNode} (focus : r ≡ found (focus_of (view s).forest ROOT)) where
-    pub walk_nowhere : r ≡ node.Nothing → node.Nothing ≡ found (first_id (drop k way))
-    unfolding found
+  module _ (k : ℕ) {r : Option FullNodeId} (focus : r ≡ focus_of (view s).forest ROOT) where
+    pub walk_nowhere : r ≡ None → None ≡ first_id (drop k way)
     walk_nowhere q =
-        sym (ap found (no_place way k (rw (way_from (view s).forest, found_none (focus_of (view s).forest ROOT) focus q) (omega arith))))
+        sym (no_place way k (rw (way_from (view s).forest, found_none (focus_of (view s).forest ROOT) focus q) (omega arith)))
 
-    pub walk_starts : {x : FullNodeId} {m : ℕ} → r ≡ node.At x → m ≡ trees_of s → Walking k m 0 x
+    pub walk_starts : {x : FullNodeId} {m : ℕ} → r ≡ Some x → m ≡ trees_of s → Walking k m 0 x
     walk_starts {x} {m} q count = record {
       before = omega arith;
       within = omega arith;
@@ -175,27 +158,26 @@ module _ (s : List ℕ) where
 
   module _ {k m i : ℕ} {at : FullNodeId} (h : Walking k m i at) where
     -- the node at i, and the rest
-    rest : drop i way ≡ at ∷ elim (way_after (view s).forest at) [ none ↦ [] | some y ↦ way_through (m - i) (view s).forest y ]
+    rest : drop i way ≡ at ∷ elim (way_after (view s).forest at) [ None ↦ [] | Some y ↦ way_through (m - i) (view s).forest y ]
     rest = h.left ∙ way_step (view s).forest (m - i) at
 
     -- where nothing is left, node k is none
-    over : i < k → length (drop i way) ≤ 1 → node.Nothing ≡ found (first_id (drop k way))
-    unfolding found
-    over l e = sym (ap found (no_place way k (omega (arith, length-drop i way))))
+    over : i < k → length (drop i way) ≤ 1 → None ≡ first_id (drop k way)
+    over l e = sym (no_place way k (omega (arith, length-drop i way)))
 
     -- no room is left
-    pub walk_spent : i < k → m ≤ i → node.Nothing ≡ found (first_id (drop k way))
+    pub walk_spent : i < k → m ≤ i → None ≡ first_id (drop k way)
     walk_spent l e =
         let none_left : m - i ≡ 0 = omega arith in
         over l (rw h.left (omega (arith, way_short (view s).forest (suc (m - i)) at)))
 
-    module _ {r : FoundNode} (next : r ≡ found (way_after (view s).forest at)) where
+    module _ {r : Option FullNodeId} (next : r ≡ way_after (view s).forest at) where
       -- no node is left
-      pub walk_ends : i < k → r ≡ node.Nothing → node.Nothing ≡ found (first_id (drop k way))
+      pub walk_ends : i < k → r ≡ None → None ≡ first_id (drop k way)
       walk_ends l q = over l (rw (rest, found_none (way_after (view s).forest at) next q) (omega arith))
 
       -- the next one
-      pub walk_goes : {y : FullNodeId} → i < k → i < m → r ≡ node.At y → Walking k m (i + 1) y
+      pub walk_goes : {y : FullNodeId} → i < k → i < m → r ≡ Some y → Walking k m (i + 1) y
       walk_goes {y} l e q = record {
         before = omega arith;
         within = omega arith;
@@ -205,8 +187,8 @@ module _ (s : List ℕ) where
       }
 
     -- node k
-    pub walk_done : k ≤ i → node.At at ≡ found (first_id (drop k way))
-    unfolding found first_id
+    pub walk_done : k ≤ i → Some at ≡ first_id (drop k way)
+    unfolding first_id
     walk_done l = let same : i ≡ k = omega (arith, h.before) in sym (rw (← same, rest))
 
   -- ## Its length
@@ -220,22 +202,22 @@ module _ (s : List ℕ) where
   counting_starts = record { few = omega arith; within = omega arith }
 
   module _ {k : ℕ} (h : Counting k) where
-    module _ {r : FoundNode} (at : r ≡ found (first_id (drop k way))) where
+    module _ {r : Option FullNodeId} (at : r ≡ first_id (drop k way)) where
       -- one more
-      pub counting_goes : {x : FullNodeId} → r ≡ node.At x → k < 34 → Counting (k + 1)
+      pub counting_goes : {x : FullNodeId} → r ≡ Some x → k < 34 → Counting (k + 1)
       counting_goes {x} q l =
           by_order k (length way) (λ m. record { few = omega arith; within = omega arith })
           (λ m. absurd (no_some (sym (no_place way k m) ∙ found_some (first_id (drop k way)) at q)))
         where
-          no_some : ◌≡◌ {A = Option FullNodeId} none (some x) → ⊥
+          no_some : ◌≡◌ {A = Option FullNodeId} None (Some x) → ⊥
           no_some e = let z : ◌≡◌ {A = ℕ} 0 1 = cc in omega arith
 
       -- place k has none
-      pub counting_ends : r ≡ node.Nothing → k ≡ length way
+      pub counting_ends : r ≡ None → k ≡ length way
       unfolding first_id
       counting_ends q = go (drop k way) refl (found_none (first_id (drop k way)) at q)
         where
-          go : (xs : List FullNodeId) → drop k way ≡ xs → first_id xs ≡ none → k ≡ length way
+          go : (xs : List FullNodeId) → drop k way ≡ xs → first_id xs ≡ None → k ≡ length way
           go [] e p = omega (arith, length-drop k way, ap length e, h.within)
           go (x ∷ xs) e p = absurd (let z : ◌≡◌ {A = ℕ} 0 1 = cc in omega arith)
 
@@ -245,28 +227,27 @@ module _ (s : List ℕ) where
 
   -- ## Its last node
 
-  pub last_none : {n : ℕ} → n ≡ length way → n < 1 → node.Nothing ≡ found (last_of way)
-  unfolding found
-  last_none e l = sym (ap found (go way (omega arith)))
+  pub last_none : {n : ℕ} → n ≡ length way → n < 1 → None ≡ last_of way
+  last_none e l = sym (go way (omega arith))
     where
-      go : (xs : List FullNodeId) → length xs < 1 → last_of xs ≡ none
+      go : (xs : List FullNodeId) → length xs < 1 → last_of xs ≡ None
       go [] h = unfold last_of in refl
       go (x ∷ xs) h = absurd (omega arith)
 
-  pub last_some : {n : ℕ} {r : FoundNode} → n ≡ length way → r ≡ found (first_id (drop (n - 1) way)) → r ≡ found (last_of way)
-  last_some e h = h ∙ ap found (rw e (last_place way))
+  pub last_some : {n : ℕ} {r : Option FullNodeId} → n ≡ length way → r ≡ first_id (drop (n - 1) way) → r ≡ last_of way
+  last_some e h = h ∙ rw e (last_place way)
 
   -- the tree that it grafts
-  module _ {r : FoundNode} (last : r ≡ found (last_of way)) where
-    pub graft_nowhere : r ≡ node.Nothing → ROOT ≡ or_root (last_graft (view s).forest way)
+  module _ {r : Option FullNodeId} (last : r ≡ last_of way) where
+    pub graft_nowhere : r ≡ None → ROOT ≡ or_root (last_graft (view s).forest way)
     unfolding last_graft or_root
     graft_nowhere q = sym (rw (found_none (last_of way) last q, last_graft))
 
-    pub graft_last : {x : FullNodeId} {g : Graft} → r ≡ node.At x → g ≡ graft_of (graft_at (view s).forest.nodes x)
-        → g.tree ≡ or_root (last_graft (view s).forest way)
-    unfolding last_graft or_root graft_of
-    graft_last {x} q is =
-        ap (λ (k : Graft). k.tree) is
+    pub graft_last : {x : FullNodeId} {g : Option TreeId} {t : TreeId} → r ≡ Some x → g ≡ graft_at (view s).forest.nodes x
+        → t ≡ unwrap_or g ROOT → t ≡ or_root (last_graft (view s).forest way)
+    unfolding last_graft or_root
+    graft_last {x} q is h =
+        h ∙ ap (λ o. unwrap_or o ROOT) is
         ∙ by_option (graft_at (view s).forest.nodes x) (λ p. rw (found_some (last_of way) last q, last_graft, p))
         (λ t p. rw (found_some (last_of way) last q, last_graft, p))
 
@@ -274,7 +255,7 @@ module _ (s : List ℕ) where
 
 -- word j of some ids, the tree or the node of id k
 words_by : (xs : List FullNodeId) (j k side : ℕ) → j ≡ 2 * k + side → side < 2
-    → get_or (id_words xs) j 0 ≡ elim (first_id (drop k xs)) [ none ↦ 0 | some x ↦ if eqb side 0 then x.tree.0 else x.node.0 ]
+    → get_or (id_words xs) j 0 ≡ elim (first_id (drop k xs)) [ None ↦ 0 | Some x ↦ if eqb side 0 then x.tree.0 else x.node.0 ]
 unfolding id_words first_id
 words_by [] j k side e l = rw (drop-nil {A = FullNodeId} k)
 words_by (x ∷ xs) zero zero side e l = let z : side ≡ 0 = omega arith in rw z
@@ -285,14 +266,14 @@ words_by (x ∷ xs) (suc (suc j)) zero side e l = absurd (omega arith)
 words_by (x ∷ xs) (suc (suc j)) (suc k) side e l = words_by xs j k side (omega arith) l
 
 words_at : (xs : List FullNodeId) (j : ℕ)
-    → get_or (id_words xs) j 0 ≡ elim (first_id (drop (j / 2) xs)) [ none ↦ 0 | some x ↦ if eqb (j % 2) 0 then x.tree.0 else x.node.0 ]
+    → get_or (id_words xs) j 0 ≡ elim (first_id (drop (j / 2) xs)) [ None ↦ 0 | Some x ↦ if eqb (j % 2) 0 then x.tree.0 else x.node.0 ]
 words_at xs j = words_by xs j (j / 2) (j % 2) (omega arith) (omega arith)
 
-module _ (xs : List FullNodeId) (j : ℕ) {r : FoundNode} (at : r ≡ found (first_id (drop (j / 2) xs))) where
-  pub word_none : r ≡ node.Nothing → 0 ≡ get_or (id_words xs) j 0
+module _ (xs : List FullNodeId) (j : ℕ) {r : Option FullNodeId} (at : r ≡ first_id (drop (j / 2) xs)) where
+  pub word_none : r ≡ None → 0 ≡ get_or (id_words xs) j 0
   word_none q = sym (words_at xs j ∙ rw (found_none (first_id (drop (j / 2) xs)) at q))
 
-  module _ {x : FullNodeId} (q : r ≡ node.At x) where
+  module _ {x : FullNodeId} (q : r ≡ Some x) where
     pub word_tree : j % 2 ≡ 0 → x.tree.0 ≡ get_or (id_words xs) j 0
     word_tree e = sym (words_at xs j ∙ rw (found_some (first_id (drop (j / 2) xs)) at q, eq-eqb (j % 2) 0 e))
 

@@ -4,7 +4,6 @@
 mod way;
 
 ghost use Rattle.std.specs.Prelude.{◌≡◌, ltb, length};
-ghost use Rattle.std.proofs.Math.Option.{none};
 ghost use Rattle.reasons.specs.Reasons.{root_absent, too_many, last_of};
 ghost use Rattle.reasons_calls.specs.Outcome.{focus_way, focus_reason};
 ghost use Rattle.reasons_calls.specs.Explain.{reason_if};
@@ -17,14 +16,12 @@ ghost use Rattle.update_focus.specs.Numbers.{focus_number};
 use ids::TreeId;
 use reasons_why::Why;
 use state_array::State;
-use state_focus::FoundNode;
-use state_lookup::FoundTree;
 
 // The number of rows 15 to 17.
 pub fn focus_number(next: &State) -> u8
     ensures { result ≡ focus_number (view next.now).forest }
 {
-    let FoundNode::At(x) = state_focus::effective_focus(next) else {
+    let Some(x) = state_focus::effective_focus(next) else {
         return 15;
     };
     if root_is_absent(next) {
@@ -41,7 +38,7 @@ pub fn focus_number(next: &State) -> u8
 fn root_is_absent(next: &State) -> bool
     ensures { result ≡ absent (view next.now).forest.nodes (root_of (view next.now).forest) }
 {
-    let FoundTree::At(e) = state_lookup::tree_of(next, TreeId { high: 0, low: 0 }) else {
+    let Some(e) = state_lookup::tree_of(next, TreeId { high: 0, low: 0 }) else {
         return true;
     };
     state_array::slots(next) <= state_lookup::find_in(next, e.root)
@@ -68,12 +65,8 @@ pub fn focus_why(next: &State) -> Why
 pub fn write_way<'a, 'b>(next: &'a State, way: &'b mut [u64; 66])
     ensures { way.new ≡ way_words (focus_way (view next.now).forest) }
 {
-    let most = size(way);
-    let mut j = 0usize;
-    while j < most {
-        let word = way::word_at(next, j);
-        way[j] = word;
-        j += 1;
+    for (j, word) in way.iter_mut().enumerate() {
+        *word = way::word_at(next, j);
     }
 }
 
@@ -91,15 +84,15 @@ pub fn too_many(next: &State) -> Why
         place: n,
         other: 0,
         tree: TreeId { high: 0, low: 0 },
-        node: FoundNode::Nothing,
-        by: FoundNode::Nothing,
-        also: FoundNode::Nothing,
+        node: None,
+        by: None,
+        also: None,
     }
 }
 
 // 15 or 17: how long the way is, and its last node.
 fn way_why(next: &State, number: u8, tree: TreeId) -> Why
-    ensures { result ≡ why number 0 (length (focus_way (view next.now).forest)) 0 tree (last_of (focus_way (view next.now).forest)) none none }
+    ensures { result ≡ why number 0 (length (focus_way (view next.now).forest)) 0 tree (last_of (focus_way (view next.now).forest)) None None }
 {
     let place = way::length(next);
     let node = way::last(next);
@@ -110,8 +103,8 @@ fn way_why(next: &State, number: u8, tree: TreeId) -> Why
         other: 0,
         tree,
         node,
-        by: FoundNode::Nothing,
-        also: FoundNode::Nothing,
+        by: None,
+        also: None,
     }
 }
 
@@ -127,15 +120,7 @@ fn root_why(next: &State) -> Why
         other: 0,
         tree: TreeId { high: 0, low: 0 },
         node,
-        by: FoundNode::Nothing,
-        also: FoundNode::Nothing,
+        by: None,
+        also: None,
     }
-}
-
-// How many words a way has room for. Nothing is known of the length behind a `&mut [u64; 66]` on entry: the writer calls this to know it.
-fn size(way: &[u64; 66]) -> usize
-    ensures { (result ≡ 66) × (length way.now ≡ 66) }
-{
-    let words: &[u64] = way;
-    words.len()
 }

@@ -1,7 +1,6 @@
 -- The outcome fits in memory: its data is of bytes and of 64-bit floats, and its tree numbers are of 32 bits. Assumes nothing.
 use mathlib.Core.Bool.{Bool, true, false}
 use mathlib.Core.List.{List, [], ◌∷◌, map, Memᴰ}
-use mathlib.Core.Option.{Option, none, some}
 use mathlib.Core.Path.{◌≡◌, refl, sym, ap, ◌∙◌}
 use Prim.Native.Nat.{ℕ, ◌-◌, ◌≤◌, ◌<◌}
 use native.Mathlib.Omega.{arith}
@@ -10,7 +9,7 @@ use lib.Ieee.{fits, binary64}
 use lib.ListN.{length, get_or, drop, length-map}
 use borrow.Author.Tests.{lt-ltb, ltb-true}
 use Rattle.base.proofs.Cases.{by_test, by_option}
-use Rattle.std.specs.Prelude.{if◌then◌else◌}
+use Rattle.std.specs.Prelude.{if◌then◌else◌, Option, None, Some}
 use Rattle.base.specs.Tests.{◌and◌, all, has, first_given, same_option}
 use Rattle.base.proofs.Tests.{all_member}
 use Rattle.base.proofs.Lists.{all_at, all_index, all_or, all_take, all_drop}
@@ -46,10 +45,10 @@ use Rattle.calls.proofs.Outcome.Room.{entries_few, nodes_few, trees_few}
 module _ {A : Type 0} (p : A → Bool) where
   -- a test of what may be there
   abbrev or_none : Option A → Bool
-  or_none none = true
-  or_none (some x) = p x
+  or_none None = true
+  or_none (Some x) = p x
 
-  or_none_if : (t : Bool) (x : A) → p x ≡ true → or_none (if t then some x else none) ≡ true
+  or_none_if : (t : Bool) (x : A) → p x ≡ true → or_none (if t then Some x else None) ≡ true
   or_none_if true x e = e
   or_none_if false x e = refl
 
@@ -144,35 +143,35 @@ module _ (s : Forest) (b : Batch) (few : length s.trees ≤ 32) (ids : all (λ n
   unfolding holder
   holder_small t =
       or_none_given small _ s.nodes
-      (λ n m. or_none_if small (same_option same_tree (graft? n.body) (some t)) n.id (all_member (λ k. small k.id) s.nodes n ids m))
+      (λ n m. or_none_if small (same_option same_tree (graft? n.body) (Some t)) n.id (all_member (λ k. small k.id) s.nodes n ids m))
 
   claimed_small : (p : FullNodeId) → or_none small (claimed_from s b p) ≡ true
   unfolding claimed_from claimer
   claimed_small p =
       by_option (graft_at s.nodes p) (λ q. rw (q, claimed_from))
       (λ t q. rw (q, claimed_from)
-      (or_none_given small _ b.nodes (λ l m. or_none_if small (same_option same_tree (claim s b l) (some t)) (here s b l.id) (here_small l.id))))
+      (or_none_given small _ b.nodes (λ l m. or_none_if small (same_option same_tree (claim s b l) (Some t)) (here s b l.id) (here_small l.id))))
 
   -- under a holder
   under_small : (o : Option FullNodeId) (l : Option ParentAndIndex) → or_none small o ≡ true → small_link l ≡ true
-      → small_link (elim o as (λ _. Option ParentAndIndex) [ none ↦ l | some g ↦ under_graft g ]) ≡ true
+      → small_link (elim o as (λ _. Option ParentAndIndex) [ None ↦ l | Some g ↦ under_graft g ]) ≡ true
   unfolding under_graft
-  under_small none l e h = h
-  under_small (some g) l e h = e
+  under_small None l e h = h
+  under_small (Some g) l e h = e
 
   here_link : (x : FullNodeId) (was : Option ParentAndIndex) → small_link was ≡ true → small_link (link_here s b x was) ≡ true
   unfolding link_here
   here_link x was h =
-      by_test (pane_root s b x) (λ p. rw p (under_small (holder s.nodes b.tree) none (holder_small b.tree) refl))
+      by_test (pane_root s b x) (λ p. rw p (under_small (holder s.nodes b.tree) None (holder_small b.tree) refl))
       (λ p. by_test (link_is_cut s b x) (λ c. rw (p, c))
       (λ c. by_option (naming s b x) (λ o. rw (p, c, o) h) (λ l o. rw (p, c, o) (rw o at (naming_small x)))))
 
   elsewhere_link : (x : FullNodeId) (was : Option ParentAndIndex) → small_link was ≡ true → small_link (link_elsewhere s b x was) ≡ true
   unfolding link_elsewhere
-  elsewhere_link x none h = refl
-  elsewhere_link x (some l) h =
+  elsewhere_link x None h = refl
+  elsewhere_link x (Some l) h =
       by_test (same_index l.parent.tree x.tree) (λ t. rw t h)
-      (λ t. rw t (under_small (claimed_from s b l.parent) (some l) (claimed_small l.parent) h))
+      (λ t. rw t (under_small (claimed_from s b l.parent) (Some l) (claimed_small l.parent) h))
 
   link_small : (x : FullNodeId) (was : Option ParentAndIndex) → small_link was ≡ true → small_link (link_after s b x was) ≡ true
   unfolding link_after
@@ -214,7 +213,7 @@ module _ (state bytes : List ℕ) (c : Scope) (g : Given state bytes c) (labels 
         let is = code_id_lem (forest state) (asked bytes c) g.kept few g.once r l in
         ltb-true _ 4294967296 (ap small (sym is) ∙ code_small (forest state) (asked bytes c) g.kept.few_trees (view_small state) code)
 
-    pub parent_fits : (k : ParentAndIndex) → (node_at (outcome (forest state) (asked bytes c)) r).parent_and_index ≡ some k → k.parent.tree.0 < 4294967296
+    pub parent_fits : (k : ParentAndIndex) → (node_at (outcome (forest state) (asked bytes c)) r).parent_and_index ≡ Some k → k.parent.tree.0 < 4294967296
     unfolding code
     parent_fits k e =
         let is = code_link_lem (forest state) (asked bytes c) g.kept few g.once r l in

@@ -1,6 +1,6 @@
 -- The outcome's nodes by their codes: their links, and where their data comes from. Assumes nothing.
 use mathlib.Core.Bool.{true, false, not, true≢false}
-use mathlib.Core.Option.{some, some-injective}
+use Rattle.std.proofs.lemmas.Option.{same_Some}
 use mathlib.Core.Path.{◌≡◌, refl, sym, ap, ◌∙◌}
 use Prim.Native.Nat.{ℕ, suc, ◌+◌, ◌-◌, ◌≤◌, ◌<◌}
 use native.Mathlib.Omega.{arith}
@@ -8,7 +8,7 @@ use lib.Dec.{ltb}
 use lib.ListN.{length}
 use borrow.Author.Tests.{lt-ltb, le-ltb}
 use Rattle.base.proofs.Cases.{by_test, by_option, by_order}
-use Rattle.std.specs.Prelude.{if◌then◌else◌}
+use Rattle.std.specs.Prelude.{if◌then◌else◌, Some}
 use Rattle.base.specs.Tests.{◌and◌, is_some, distinct}
 use Rattle.base.proofs.Lists.{none_of}
 use Rattle.ids.specs.Ids.{same_node}
@@ -64,7 +64,7 @@ module _ (s : Forest) (b : Batch) where
   -- ## What is found in the outcome
 
   -- the data of listed node j
-  listing_at : distinct same_node (listed_ids b.nodes) ≡ true → (j : ℕ) → j < length b.nodes → listing b.nodes (here s b (listed_at b j).id).node ≡ some (listed_at b j).body
+  listing_at : distinct same_node (listed_ids b.nodes) ≡ true → (j : ℕ) → j < length b.nodes → listing b.nodes (here s b (listed_at b j).id).node ≡ Some (listed_at b j).body
   unfolding turn_mark
   listing_at u j l =
       let x = here s b (listed_at b j).id in
@@ -74,7 +74,7 @@ module _ (s : Forest) (b : Batch) where
   module _ (kept : KeptForest s) (u : distinct same_node (listed_ids b.nodes) ≡ true) where
     -- what is found of a new node
     find_new : (j : ℕ) → j < length b.nodes → present s.nodes (here s b (listed_at b j).id) ≡ false
-        → find (here s b (listed_at b j).id) (outcome s b).nodes ≡ some (relink s b (new_node j))
+        → find (here s b (listed_at b j).id) (outcome s b).nodes ≡ Some (relink s b (new_node j))
     unfolding found_after found_written merged present
     find_new j l e =
         let x = here s b (listed_at b j).id in
@@ -82,7 +82,7 @@ module _ (s : Forest) (b : Batch) where
         ∙ rw (gone_absent s b x e, here_mine s b (listed_at b j).id, listing_at u j l, none_of (find x s.nodes) (ap not e))
 
     -- what is found of a code's node
-    pub code_found : (c : ℕ) → Coded s b c → find (code_id s b c) (outcome s b).nodes ≡ some (code_node c)
+    pub code_found : (c : ℕ) → Coded s b c → find (code_id s b c) (outcome s b).nodes ≡ Some (code_node c)
     unfolding old
     code_found c h =
         by_order c 320
@@ -110,7 +110,7 @@ module _ (s : Forest) (b : Batch) (n : NodeState) where
     body_listed = rw (ap (mine s b) (sym (turn_here s b n.id t mark)) ∙ here_mine s b (listed_at b t).id, turn_listing s b n.id t mark)
 
     -- and differs by value or not
-    differs_listed : find n.id s.nodes ≡ some n → differs s b (listed_at b t) ≡ not (same_data n.body (listed_at b t).body)
+    differs_listed : find n.id s.nodes ≡ Some n → differs s b (listed_at b t) ≡ not (same_data n.body (listed_at b t).body)
     unfolding differs
     differs_listed f = rw (turn_here s b n.id t mark, f, differs)
 
@@ -145,7 +145,7 @@ module _ (s : Forest) (b : Batch) (kept : KeptForest s) (few : length b.nodes �
   -- the node of its code
   pub code_node_lem : node_at (outcome s b) r ≡ code_node s b (code_of s b (id_at (outcome s b) r))
   code_node_lem =
-      some-injective (node_at (outcome s b) r) (code_node s b (code_of s b x))
+      same_Some (node_at (outcome s b) r) (code_node s b (code_of s b x))
       (sym (find_at (outcome s b) (ascending_outcome s b kept.ascending) r l)
       ∙ ap (λ (y : FullNodeId). find y (outcome s b).nodes) (sym (code_id_lem s b kept few u r l))
       ∙ code_found s b kept u (code_of s b x) (coded s b kept few u r l))

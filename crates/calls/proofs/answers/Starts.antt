@@ -1,10 +1,9 @@
 -- A start: the state that its batch is applied to, and what each way out answers. Assumes nothing.
 use mathlib.Core.Bool.{true≢false}
 use mathlib.Core.List.{List, []}
-use mathlib.Core.Option.{Option, none, some}
 use mathlib.Core.Path.{◌≡◌, refl, sym, ap, ◌∙◌}
 use Prim.Native.Nat.{ℕ}
-use Rattle.std.specs.Prelude.{if◌then◌else◌}
+use Rattle.std.specs.Prelude.{if◌then◌else◌, Option, None, Some}
 use Rattle.base.specs.Tests.{◌and◌, is_none}
 use Rattle.base.specs.Bytes.{list_of}
 use Rattle.base.proofs.Tests.{bit_set}
@@ -56,8 +55,8 @@ unfolding view tree_in entry_in entry list_of puts ◌and◌ seeded seed
 seed_shows bytes host flag root focus passed f r o = go (batch_of bytes).root refl
   where
     go : (p : Option NodeId) → (batch_of bytes).root ≡ p → view (seed_words flag root focus) ≡ seeded bytes host
-    go none e = absurd (true≢false (sym (ap is_none e) ∙ (start_begun bytes passed).rooted))
-    go (some x) e = rw (f, r, o, e, bit_set (is_set host))
+    go None e = absurd (true≢false (sym (ap is_none e) ∙ (start_begun bytes passed).rooted))
+    go (Some x) e = rw (f, r, o, e, bit_set (is_set host))
 
 -- the blank words show the blank state
 pub blank_shows : view blank_words ≡ blank

@@ -1,13 +1,12 @@
 -- A batch that passed rows 1, 2 and 5 to 8: what each way out answers. Assumes nothing.
-use mathlib.Core.Bool.{Bool, true, false, not}
 use mathlib.Core.List.{List}
 use mathlib.Core.Path.{◌≡◌, refl, sym, ap, ◌∙◌}
 use Prim.Native.Nat.{ℕ, zero, suc}
 use native.Mathlib.Omega.{arith}
 use lib.Dec.{ltb}
 use lib.ListN.{length}
-use Rattle.std.specs.Prelude.{if◌then◌else◌}
-use Rattle.base.proofs.Tests.{not_false, not_true}
+use borrow.Author.Tests.{lt-ltb, le-ltb}
+use Rattle.std.specs.Prelude.{Result, Ok, Err}
 use Rattle.record.specs.Parse.{batch_of}
 use Rattle.state_array.specs.Stored.{stored}
 use Rattle.state_array.specs.View.{view}
@@ -20,9 +19,10 @@ use Rattle.calls.specs.Setting.{Scoped, asked, forest, refusal}
 use Rattle.calls.specs.Says.{outcome_state}
 use Rattle.calls.specs.Says.{Written}
 use Rattle.calls.specs.declared.reports.Lists.{Lists}
+use Rattle.calls.specs.declared.reports.TooShort.{TooShort}
 use Rattle.calls.specs.declared.reports.Report as reports
 use Rattle.calls.specs.Outcomes.{changes_in}
-use Rattle.calls.specs.Slice.{ListsWritten}
+use Rattle.calls.specs.Slice.{ListsLent, ListsShort, ListsWritten}
 use Rattle.calls.specs.Reported.{UpdateReported}
 use Rattle.calls.specs.Rows.{first_number, later_rows}
 use Rattle.calls.proofs.rows.Given.{asked_update}
@@ -63,31 +63,33 @@ module _ (s bytes lent : List ℕ) (c : Scope) (none : first_number (view s).for
       refused_answers k.number some (view s) s _ lent refl _
       (update_later (view s) bytes lent none (λ z. some (number ∙ z)) ∙ ap (λ j. definition.refused j (view s) lent) (sym number)) r q
 
-  module _ (zero : k.number ≡ 0) (slice : List ℕ) (l : Lists) (w : ListsWritten (changes_in s bytes c) lent slice l) where
+  module _ (zero : k.number ≡ 0) (slice : List ℕ) (o : Result Lists TooShort) (w : ListsWritten (changes_in s bytes c) lent slice o) where
     clear : later_rows (view s).forest (batch_of bytes) ≡ 0
     clear = sym number ∙ zero
 
     changes : changes_in s bytes c ≡ changes_of (view s).forest (batch_of bytes)
     changes = ap (changes_of (view s).forest) is
 
-    short : l.fit ≡ not (too_short (view s) bytes lent)
-    short = w.fit_is ∙ ap (λ (d : Changes). not (ltb (length lent) (length (change_words d)))) changes
+    short : ltb (length lent) (length (change_words (changes_in s bytes c))) ≡ too_short (view s) bytes lent
+    short = ap (λ (d : Changes). ltb (length lent) (length (change_words d))) changes
 
     -- row 21
-    pub full_refused : l.fit ≡ false → (r : Reply) → r ≡ refused_reply 21 → Updates s bytes lent s r slice
-    full_refused f r q =
-        let kept : slice ≡ lent = w.slice_is ∙ ap (λ (t : Bool). if t then slice_after lent (changes_in s bytes c) else lent) f in
-        rw kept (refused_answers 21 (λ z. omega arith) (view s) s _ lent refl _ (update_full (view s) bytes lent none clear (not_false (sym short ∙ f))) r q)
+    pub full_refused : {e : TooShort} → o ≡ Err e → (r : Reply) → r ≡ refused_reply 21 → Updates s bytes lent s r slice
+    unfolding ListsWritten
+    full_refused {e} f r q =
+        let t : ListsShort (changes_in s bytes c) lent slice e = rw f at w in
+        rw t.slice_is (refused_answers 21 (λ z. omega arith) (view s) s _ lent refl _ (update_full (view s) bytes lent none clear (sym short ∙ lt-ltb (length lent) (length (change_words (changes_in s bytes c))) t.short)) r q)
 
     -- no number
-    pub update_accepted : l.fit ≡ true → (notes next : List ℕ) → Written s bytes c notes next → (p : reports.Report) → UpdateReported s bytes c p
+    pub update_accepted : {l : Lists} → o ≡ Ok l → (notes next : List ℕ) → Written s bytes c notes next → (p : reports.Report) → UpdateReported s bytes c p
         → (r : Reply) → r ≡ accepted_reply (lengths_are l.added l.updated l.removed l.relinked) p → Updates s bytes lent next r slice
-    unfolding definition.accepted
-    update_accepted f notes next o p said r q =
-        let d = update_done (view s) bytes lent none clear (not_true (sym short ∙ f)) in
+    unfolding definition.accepted ListsWritten
+    update_accepted {l} f notes next o p said r q =
+        let t : ListsLent (changes_in s bytes c) lent slice l = rw f at w in
+        let d = update_done (view s) bytes lent none clear (sym short ∙ le-ltb (length lent) (length (change_words (changes_in s bytes c))) t.room) in
         let after : outcome_state s bytes c ≡ update_state (view s) bytes lent = λ z. record { forest = outcome (view s).forest (is z); host_focused = (view s).host_focused } in
         accepted_answers (view s) (update_state (view s) bytes lent) (changes_of (view s).forest (batch_of bytes)) lent s _ next
         (o.words ∙ ap stored (after ∙ sym (ap (λ (a : definition.Answer). a.state) d)))
         (o.shows ∙ after) _ d p (rw is at said) _
-        (rw (w.added_is, w.updated_is, w.removed_is, w.relinked_is, is)) r q slice
-        (w.slice_is ∙ rw (f, changes))
+        (rw (t.added_is, t.updated_is, t.removed_is, t.relinked_is, is)) r q slice
+        (t.slice_is ∙ ap (slice_after lent) changes)

@@ -9,7 +9,10 @@ use Rattle.state_array.specs.View.{view}
 use Rattle.state_array.proofs.Viewed.{view_stored}
 use Rattle.calls.specs.declared.notes.Refusal.{Refusal}
 use Rattle.calls.specs.declared.notes.Scope.{Scope}
-use Rattle.calls.specs.Setting.{asked, forest, refusal}
+use Rattle.calls.specs.Setting.{asked, forest}
+use Rattle.std.specs.Prelude.{Result, Ok, Err}
+use Rattle.calls.specs.Refusals.{verdict}
+use Rattle.calls.proofs.notes.Verdicts.{verdict_some, verdict_zero}
 use Rattle.calls.specs.Says.{Told, PLANNED}
 use Rattle.calls.proofs.Outcome.Fits.{outcome_fits, asked_labels}
 use Rattle.calls.specs.Rows.{last_number, clashes}
@@ -29,17 +32,17 @@ module _ (state bytes : List ℕ) (c : Scope) (notes next : List ℕ) where
   }
 
   -- a batch that rows 9 to 14 refuse
-  pub applied_early : (r : Refusal) → r ≡ refusal (pass_number (forest state) (asked bytes c)) → (r.number ≡ 0 → ⊥) → Applied state bytes c notes next r
-  applied_early r e some =
-      let wrong : pass_number (forest state) (asked bytes c) ≡ 0 → ⊥ = λ z. some (ap (λ (q : Refusal). q.number) e ∙ z) in
-      record { number = e ∙ ap refusal (sym (later_early (forest state) (asked bytes c) wrong)); written = λ z. absurd (wrong z) }
+  pub applied_early : (o : Result (Unit {0}) Refusal) {r : Refusal} → o ≡ verdict (pass_number (forest state) (asked bytes c)) → o ≡ Err r → Applied state bytes c notes next (Err r)
+  applied_early o e q =
+      let wrong = verdict_some (pass_number (forest state) (asked bytes c)) e q in
+      record { number = sym q ∙ e ∙ ap verdict (sym (later_early (forest state) (asked bytes c) wrong)); written = λ z. absurd (wrong z) }
 
   -- one that they let pass
-  pub applied_last : (early r : Refusal) → early ≡ refusal (pass_number (forest state) (asked bytes c)) → early.number ≡ 0 → Written state bytes c notes next
-      → r ≡ refusal (last_number (view next).forest (clashes state bytes c)) → Applied state bytes c notes next r
+  pub applied_last : (early r : Result (Unit {0}) Refusal) {u : Unit {0}} → early ≡ verdict (pass_number (forest state) (asked bytes c)) → early ≡ Ok u → Written state bytes c notes next
+      → r ≡ verdict (last_number (view next).forest (clashes state bytes c)) → Applied state bytes c notes next r
   applied_last early r e none w q =
-      let zero = sym (ap (λ (x : Refusal). x.number) e) ∙ none in
+      let zero = verdict_zero (pass_number (forest state) (asked bytes c)) e none in
       record {
-        number = q ∙ ap (λ (a : State). refusal (last_number a.forest (clashes state bytes c))) w.shows ∙ ap refusal (sym (later_last (forest state) (asked bytes c) zero));
+        number = q ∙ ap (λ (a : State). verdict (last_number a.forest (clashes state bytes c))) w.shows ∙ ap verdict (sym (later_last (forest state) (asked bytes c) zero));
         written = λ _. w;
       }

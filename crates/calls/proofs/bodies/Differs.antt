@@ -1,7 +1,6 @@
 -- Laws of the column DIFFERS: a listed node and the node in its slot, and the children of both. Assumes nothing.
 use mathlib.Core.Bool.{Bool, true, false, not}
 use mathlib.Core.List.{List}
-use mathlib.Core.Option.{none, some}
 use mathlib.Core.Path.{◌≡◌, refl, sym, ap, ap₂, ◌∙◌}
 use Prim.Native.Nat.{ℕ, ◌+◌, ◌-◌, min, ◌≤◌, ◌<◌}
 use native.Mathlib.Omega.{arith}
@@ -9,7 +8,7 @@ use lib.Dec.{eqb, ltb}
 use lib.ListN.{length, get_or}
 use borrow.Author.Tests.{ltb-true, lt-ltb, le-ltb}
 use Rattle.base.proofs.Tests.{call_true, call_false}
-use Rattle.std.specs.Prelude.{if◌then◌else◌}
+use Rattle.std.specs.Prelude.{if◌then◌else◌, None, Some}
 use Rattle.base.specs.Tests.{◌and◌, same_list}
 use Rattle.base.proofs.Bytes.{all_below_at, length_list_of}
 use Rattle.base.proofs.Indexed.{all_below_cong, all_indexed}
@@ -113,16 +112,16 @@ module _ {state bytes : List ℕ} {c : Scope} {notes : List ℕ} (told : Told GO
   differ_is : (slot : ℕ) → slot ≡ get_or notes (LISTED_SLOTS + i) 0
       → differ_word state bytes c i ≡ flag (ltb slot (slots_of state) and not (same_data (node_in state slot).body (listed_at (batch_of bytes) i).body))
   unfolding differ_word differs listed_slot ◌and◌
-  differ_is slot e = ap (λ (t : Bool). flag t) (ap (λ o. elim o as (λ _. Bool) [ none ↦ false | some k ↦ not (same_data k.body (listed_at (asked bytes c) i).body) ]) found ∙ sym (go (ltb slot (slots_of state)) refl))
+  differ_is slot e = ap (λ (t : Bool). flag t) (ap (λ o. elim o as (λ _. Bool) [ None ↦ false | Some k ↦ not (same_data k.body (listed_at (asked bytes c) i).body) ]) found ∙ sym (go (ltb slot (slots_of state)) refl))
     where
-      found : find (here (forest state) (asked bytes c) (listed_at (asked bytes c) i).id) (forest state).nodes ≡ (if ltb slot (slots_of state) then some (node_at (forest state) slot) else none)
+      found : find (here (forest state) (asked bytes c) (listed_at (asked bytes c) i).id) (forest state).nodes ≡ (if ltb slot (slots_of state) then Some (node_at (forest state) slot) else None)
       found =
           slot_found (forest state) (here (forest state) (asked bytes c) (listed_at (asked bytes c) i).id)
-          ∙ ap₂ (λ r k. if ltb r k then some (node_at (forest state) r) else none) (sym (e ∙ told.written 3 (omega arith) i h)) (forest_length state)
+          ∙ ap₂ (λ r k. if ltb r k then Some (node_at (forest state) r) else None) (sym (e ∙ told.written 3 (omega arith) i h)) (forest_length state)
 
       go : (t : Bool) → ltb slot (slots_of state) ≡ t
           → (t and not (same_data (node_in state slot).body (listed_at (batch_of bytes) i).body))
-          ≡ (elim (if t then some (node_at (forest state) slot) else none) as (λ _. Bool) [ none ↦ false | some k ↦ not (same_data k.body (listed_at (asked bytes c) i).body) ])
+          ≡ (elim (if t then Some (node_at (forest state) slot) else None) as (λ _. Bool) [ None ↦ false | Some k ↦ not (same_data k.body (listed_at (asked bytes c) i).body) ])
       go true q =
           ap₂ (λ d f. not (same_data d f)) (sym (ap (λ (k : NodeState). k.body) (forest_node state slot (ltb-true slot (slots_of state) q))))
           (ap (λ l. l.body) (batched_at bytes (asked bytes c) (batched state bytes c told.given) i))

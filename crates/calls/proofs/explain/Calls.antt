@@ -1,7 +1,7 @@
 -- The reason of a call is that of the first row that holds, in the order in which the code asks them. Assumes nothing.
 use mathlib.Core.Bool.{true, not}
 use mathlib.Core.List.{List, [], ◌∷◌, ◌++◌}
-use mathlib.Core.Option.{Option, none, some}
+use Rattle.std.specs.Prelude.{Option, None, Some}
 use mathlib.Core.Path.{◌≡◌, refl, sym, ap, ◌∙◌}
 use Prim.Native.Nat.{ℕ, ◌<◌}
 use native.Mathlib.Omega.{arith}
@@ -47,10 +47,10 @@ use Rattle.calls.proofs.explain.Explained.{no_way_lem, Wayless, wayless_of, wayl
 -- ## Reasons in a row
 
 module _ (xs ys : List (Option Reason)) where
-  append_found : (r : Reason) → first_reason xs ≡ some r → first_reason (xs ++ ys) ≡ some r
+  append_found : (r : Reason) → first_reason xs ≡ Some r → first_reason (xs ++ ys) ≡ Some r
   append_found r e = first_given_append (λ o. o) xs ys ∙ rw e
 
-  append_passed : first_reason xs ≡ none → first_reason (xs ++ ys) ≡ first_reason ys
+  append_passed : first_reason xs ≡ None → first_reason (xs ++ ys) ≡ first_reason ys
   append_passed e = first_given_append (λ o. o) xs ys ∙ rw e
 
   -- a reason of the first part
@@ -60,13 +60,13 @@ module _ (xs ys : List (Option Reason)) where
       (λ z q. rw (append_found z q) (rw q at h))
 
   -- none of it, and the second part
-  pub row_passed : {r : Why} {way : List ℕ} → first_reason xs ≡ none → ExplainsFor (first_reason ys) r way → ExplainsFor (first_reason (xs ++ ys)) r way
+  pub row_passed : {r : Why} {way : List ℕ} → first_reason xs ≡ None → ExplainsFor (first_reason ys) r way → ExplainsFor (first_reason (xs ++ ys)) r way
   row_passed e h = rw (append_passed e) h
 
 -- no number, no reason
-pub none_told : (o : Option Reason) (n : ℕ) → Tells o n → n ≡ 0 → o ≡ none
-none_told none n h z = refl
-none_told (some r) n h z = absurd (omega (arith, h.1, z))
+pub none_told : (o : Option Reason) (n : ℕ) → Tells o n → n ≡ 0 → o ≡ None
+none_told None n h z = refl
+none_told (Some r) n h z = absurd (omega (arith, h.1, z))
 
 -- no reason, no way
 pub none_way : (o : Option Reason) {r : Why} {way : List ℕ} → Proper o → ExplainsFor o r way → r.number ≡ 0 → way ≡ no_way
@@ -84,7 +84,7 @@ placing_wayless : (s : Forest) (b : Batch) (placed : List Listed) (l : Listed) �
 unfolding placing way_of
 placing_wayless s b placed l =
     says_else (λ r. way_of r ≡ []) (is_some (graft? l.body) and not (is_nil l.body.children)) (graftOverChildren (here s b l.id)) _ (λ _. refl)
-    (λ _. says_else (λ r. way_of r ≡ []) (same_option same_tree (claim s b l) (some ROOT)) (graftOfRoot (here s b l.id)) (second_claim s b placed l) (λ _. refl) (λ _. second_wayless s b placed l))
+    (λ _. says_else (λ r. way_of r ≡ []) (same_option same_tree (claim s b l) (Some ROOT)) (graftOfRoot (here s b l.id)) (second_claim s b placed l) (λ _. refl) (λ _. second_wayless s b placed l))
 
 pass_wayless : (s : Forest) (b : Batch) (seen : List NodeId) (placed : List Listed) (es : List Event) → Wayless (pass_reason s b seen placed es)
 unfolding pass_reason way_of
@@ -137,7 +137,7 @@ module _ (bytes : List ℕ) (small : (i : ℕ) → get_or bytes i 0 < 256) where
   broken_formed : is_some (record_fault bytes) ≡ not (well_formed bytes)
   broken_formed = sym (not_not (is_some (record_fault bytes))) ∙ ap not (fault_none bytes small)
 
-  well : record_fault bytes ≡ none → parse bytes ≡ some (batch_of bytes)
+  well : record_fault bytes ≡ None → parse bytes ≡ Some (batch_of bytes)
   unfolding batch_of
   well e = parse_well bytes (not_false (sym broken_formed ∙ ap is_some e))
 
@@ -207,7 +207,7 @@ module _ (bytes : List ℕ) (small : (i : ℕ) → get_or bytes i 0 < 256) where
     slice_wayless f b = wayless_if (ltb room (length (change_words (changes_of f b)))) (slice_too_short (length (change_words (changes_of f b))) room) refl
 
     module _ (passed : first_number s.forest bytes ≡ 0) where
-      clear : first_reason (first_reasons s.forest bytes) ≡ none
+      clear : first_reason (first_reasons s.forest bytes) ≡ None
       clear = none_told (first_reason (first_reasons s.forest bytes)) _ (first_tells s.forest) passed
 
       -- a batch that rows 9 to 20 refuse

@@ -1,7 +1,7 @@
 -- How the reasons of the parts make the reason of a call, each with its way. Assumes nothing.
 use mathlib.Core.Bool.{Bool, true, false}
 use mathlib.Core.List.{List, [], ◌∷◌}
-use mathlib.Core.Option.{Option, none, some}
+use Rattle.std.specs.Prelude.{Option, None, Some}
 use mathlib.Core.Path.{◌≡◌, refl, sym, ap, ◌∙◌}
 use Prim.Native.Nat.{ℕ}
 use native.Mathlib.Omega.{arith}
@@ -55,8 +55,8 @@ no_way_lem = refl
 
 pub explains_plain : (o : Option Reason) {r : Why} {way : List ℕ} → Wayless o → r ≡ why_for o → way ≡ no_way → ExplainsFor o r way
 unfolding way_for
-explains_plain none h e z = record { why_is = e; way_is = z ∙ sym no_way_lem }
-explains_plain (some q) h e z = record { why_is = e; way_is = z ∙ sym (ap way_words h ∙ no_way_lem) }
+explains_plain None h e z = record { why_is = e; way_is = z ∙ sym no_way_lem }
+explains_plain (Some q) h e z = record { why_is = e; way_is = z ∙ sym (ap way_words h ∙ no_way_lem) }
 
 -- ## The first reason of some
 
@@ -67,8 +67,8 @@ module _ (o : Option Reason) (os : List (Option Reason)) {r : Why} {way : List �
   explains_found h some? = go o h
     where
       go : (p : Option Reason) → ExplainsFor p r way → ExplainsFor (first_reason (p ∷ os)) r way
-      go none k = absurd (some? (ap (λ (v : Why). v.number) k.why_is))
-      go (some q) k = record { why_is = k.why_is; way_is = k.way_is }
+      go None k = absurd (some? (ap (λ (v : Why). v.number) k.why_is))
+      go (Some q) k = record { why_is = k.why_is; way_is = k.way_is }
 
   -- there is none, and the rest goes on
   pub explains_passed : {v : Why} → Proper o → v ≡ why_for o → v.number ≡ 0 → ExplainsFor (first_reason os) r way → ExplainsFor (first_reason (o ∷ os)) r way
@@ -77,20 +77,20 @@ module _ (o : Option Reason) (os : List (Option Reason)) {r : Why} {way : List �
 -- the reason of a call
 pub explains_whole : (o : Option Reason) {r : Why} {way : List ℕ} → ExplainsFor o r way → Explains (or_accepted o) r way
 unfolding or_accepted why_for way_for way_of
-explains_whole none h = record { why_is = h.why_is; way_is = h.way_is }
-explains_whole (some q) h = record { why_is = h.why_is; way_is = h.way_is }
+explains_whole None h = record { why_is = h.why_is; way_is = h.way_is }
+explains_whole (Some q) h = record { why_is = h.why_is; way_is = h.way_is }
 
 -- ## Which rows have a way
 
 -- a reason of a number but 15 and 17
 pub wayless_of : (o : Option Reason) (k : ℕ) → (k ≡ 15 → ⊥) → (k ≡ 17 → ⊥) → IfSome (λ r. number_of r ≡ k) o → Wayless o
-wayless_of none k f g h = tt
-wayless_of (some r) k f g h = wayless r (λ e. f (sym h ∙ e)) (λ e. g (sym h ∙ e))
+wayless_of None k f g h = tt
+wayless_of (Some r) k f g h = wayless r (λ e. f (sym h ∙ e)) (λ e. g (sym h ∙ e))
 
 -- a reason that tells a number is proper
 pub proper_tells : (o : Option Reason) (k : ℕ) → Tells o k → Proper o
-proper_tells none k h = tt
-proper_tells (some r) k h = omega (arith, h.0, h.1)
+proper_tells None k h = tt
+proper_tells (Some r) k h = omega (arith, h.0, h.1)
 
 -- a reason where a test holds
 pub wayless_if : (t : Bool) (r : Reason) → way_of r ≡ [] → Wayless (reason_if t r)
@@ -99,8 +99,8 @@ wayless_if false r h = tt
 
 -- the only reason
 pub alone : (o : Option Reason) → first_reason (o ∷ []) ≡ o
-alone none = refl
-alone (some r) = refl
+alone None = refl
+alone (Some r) = refl
 
 pub explains_alone : (o : Option Reason) {r : Why} {way : List ℕ} → ExplainsFor o r way → ExplainsFor (first_reason (o ∷ [])) r way
 explains_alone o h = rw (alone o) h
@@ -108,5 +108,5 @@ explains_alone o h = rw (alone o) h
 -- a reason that tells a number has it
 pub told_number : (o : Option Reason) {n : ℕ} {r : Why} → Tells o n → r ≡ why_for o → r.number ≡ n
 unfolding why_for why_of
-told_number none h e = ap (λ (v : Why). v.number) e ∙ sym h
-told_number (some q) h e = ap (λ (v : Why). v.number) e ∙ why_number q ∙ h.0
+told_number None h e = ap (λ (v : Why). v.number) e ∙ sym h
+told_number (Some q) h e = ap (λ (v : Why). v.number) e ∙ why_number q ∙ h.0

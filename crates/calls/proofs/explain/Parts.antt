@@ -1,28 +1,25 @@
 -- What the functions answer, by the facts that each has. Assumes nothing.
 use mathlib.Core.Bool.{Bool, true, false, not, ◌||◌, true≢false, false≢true}
 use mathlib.Core.List.{List, [], ◌∷◌}
-use mathlib.Core.Option.{Option, none, some}
+use Rattle.std.specs.Prelude.{Option, None, Some}
 use mathlib.Core.Path.{◌≡◌, refl, sym, ap, ◌∙◌}
 use Prim.Native.Nat.{ℕ, ◌<◌}
 use native.Mathlib.Omega.{arith}
 use lib.Dec.{eqb, ltb}
 use lib.ListN.{get_or, length}
-use borrow.Author.Tests.{eq-eqb}
 use Rattle.base.specs.Tests.{is_some, is_none}
-use Rattle.base.proofs.Cases.{by_test, by_option}
+use Rattle.base.proofs.Cases.{by_test}
 use Rattle.ids.specs.Ids.{ROOT, same_tree}
 use Rattle.ids.specs.declared.TreeId.{TreeId}
 use Rattle.record.specs.Batch.{Batch, listed_ids}
 use Rattle.record.specs.Parse.{well_formed, batch_of}
-use Rattle.record_layout.specs.declared.found.Offence as layout
-use Rattle.record_layout.specs.Noted.{plain_offence}
+use Rattle.record_rules.specs.declared.Offence.{Offence}
 use Rattle.record_rules.specs.Rules.{record_fault}
-use Rattle.record_rules.proofs.Rules.{numbered, fault_numbered, fault_none}
+use Rattle.record_rules.proofs.Rules.{fault_none}
 use Rattle.state.specs.State.{Forest}
 use Rattle.state.specs.Down.{root_of}
 use Rattle.state.specs.Focus.{effective_focus}
 use Rattle.state.specs.Sound.{sound, sound_shape}
-use Rattle.state_focus.specs.Focus.{found_of}
 use Rattle.update.specs.Calls.{seed, without_tree_data}
 use Rattle.update.specs.Numbers.{absent}
 use Rattle.state_array.specs.Layout.{blank_words}
@@ -46,7 +43,7 @@ use Rattle.update.specs.Words.{tree_number}
 
 -- ## Plain numbers
 
-pub plain_is : (w : Why) {n b a : OptionalId} → n ≡ plain_id (found_of w.node) → b ≡ plain_id (found_of w.by) → a ≡ plain_id (found_of w.also)
+pub plain_is : (w : Why) {n b a : OptionalId} → n ≡ plain_id w.node → b ≡ plain_id w.by → a ≡ plain_id w.also
     → record { place = w.place; other = w.other; tree = w.tree; node = n; by = b; also = a; rule = w.rule; number = w.number } ≡ plain_why w
 unfolding plain_why
 plain_is w p q s = rw (p, q, s)
@@ -65,57 +62,49 @@ seed_number : (b : Batch) → same_tree b.tree ROOT ≡ true → record { 0 = 0 
 unfolding tree_number seed without_tree_data
 seed_number b e = rw e
 
-module _ (bytes : List ℕ) {o : layout.Offence} (is : o ≡ plain_offence (record_fault bytes)) where
-  pub offence_found : (os : List (Option Reason)) {r : Why} → (o.rule ≡ 0 → ⊥) → r ≡ offence_why o → r ≡ why_for (first_reason (record_reason (record_fault bytes) ∷ os))
-  unfolding plain_offence offence_why why_for why_of
-  offence_found os some? e =
-      by_option (record_fault bytes) (λ q. absurd (some? (ap (λ (x : layout.Offence). x.rule) (is ∙ ap plain_offence q))))
-      (λ x q. e ∙ ap offence_why (is ∙ ap plain_offence q) ∙ ap (λ f. why_for (first_reason (record_reason f ∷ os))) (sym q))
+module _ (bytes : List ℕ) {o : Option Offence} (is : o ≡ record_fault bytes) where
+  pub offence_found : (os : List (Option Reason)) {x : Offence} {r : Why} → o ≡ Some x → r ≡ offence_why x → r ≡ why_for (first_reason (record_reason (record_fault bytes) ∷ os))
+  unfolding offence_why why_for why_of
+  offence_found os some e = rw (sym is ∙ some) e
 
-  pub offence_none : o.rule ≡ 0 → record_fault bytes ≡ none
-  unfolding plain_offence numbered
-  offence_none z =
-      by_option (record_fault bytes) (λ q. q)
-      (λ x q.
-      let zero : x.rule ≡ 0 = sym (ap (λ (y : layout.Offence). y.rule) (is ∙ ap plain_offence q)) ∙ z in
-      let wrong : not (eqb x.rule 0) ≡ true = sym (ap numbered q) ∙ fault_numbered bytes in
-      absurd (false≢true (sym (ap not (eq-eqb x.rule 0 zero)) ∙ wrong)))
+  pub offence_none : o ≡ None → record_fault bytes ≡ None
+  offence_none none = sym is ∙ none
 
-  pub offence_formed : ((i : ℕ) → get_or bytes i 0 < 256) → o.rule ≡ 0 → well_formed bytes ≡ true
-  offence_formed small z = sym (fault_none bytes small) ∙ ap is_none (offence_none z)
+  pub offence_formed : ((i : ℕ) → get_or bytes i 0 < 256) → o ≡ None → well_formed bytes ≡ true
+  offence_formed small none = sym (fault_none bytes small) ∙ ap is_none (offence_none none)
 
   -- ## Rows 1, 2 and 5 to 8
 
   module _ (s : Forest) {t : Bool} (sound-is : t ≡ sound s) where
-    pub first_offence : {r : Why} → t ≡ true → (o.rule ≡ 0 → ⊥) → r ≡ offence_why o → r ≡ why_for (first_reason (first_reasons s bytes))
+    pub first_offence : {x : Offence} {r : Why} → t ≡ true → o ≡ Some x → r ≡ offence_why x → r ≡ why_for (first_reason (first_reasons s bytes))
     unfolding first_reasons
-    first_offence l some? e = rw (sym sound-is ∙ l) (offence_found (reasons_before_pass s (batch_of bytes)) some? e)
+    first_offence l some e = rw (sym sound-is ∙ l) (offence_found (reasons_before_pass s (batch_of bytes)) some e)
 
-    pub first_rest : {r : Why} → t ≡ true → o.rule ≡ 0 → r ≡ why_for (first_reason (reasons_before_pass s (batch_of bytes))) → r ≡ why_for (first_reason (first_reasons s bytes))
+    pub first_rest : {r : Why} → t ≡ true → o ≡ None → r ≡ why_for (first_reason (reasons_before_pass s (batch_of bytes))) → r ≡ why_for (first_reason (first_reasons s bytes))
     unfolding first_reasons
-    first_rest l z e = rw (sym sound-is ∙ l, offence_none z) e
+    first_rest l none e = rw (sym sound-is ∙ l, offence_none none) e
 
   -- ## Rows 2 to 5 of a start
 
-  pub start_offence : {r : Why} → (o.rule ≡ 0 → ⊥) → r ≡ offence_why o → r ≡ why_for (first_reason (start_reasons bytes))
+  pub start_offence : {x : Offence} {r : Why} → o ≡ Some x → r ≡ offence_why x → r ≡ why_for (first_reason (start_reasons bytes))
   unfolding start_reasons
-  start_offence some? e =
+  start_offence some e =
       offence_found
       (reason_if (is_none (batch_of bytes).root) no_tree_data
       ∷ reason_if (not (same_tree (batch_of bytes).tree ROOT)) (not_root (batch_of bytes).tree)
       ∷ repeated_after (seed (batch_of bytes)) (without_tree_data (batch_of bytes)) [] (listed_ids (batch_of bytes).nodes)
       ∷ [])
-      some? e
+      some e
 
-  module _ (z : o.rule ≡ 0) {d : Bool} (rooted : d ≡ is_some (batch_of bytes).root) where
+  module _ (none : o ≡ None) {d : Bool} (rooted : d ≡ is_some (batch_of bytes).root) where
     pub start_unrooted : {r : Why} → d ≡ false → r ≡ of_tree 3 ROOT → r ≡ why_for (first_reason (start_reasons bytes))
     unfolding start_reasons why_for why_of
-    start_unrooted l e = rw (offence_none z, ap not (sym rooted ∙ l)) e
+    start_unrooted l e = rw (offence_none none, ap not (sym rooted ∙ l)) e
 
     module _ (l : d ≡ true) {t : TreeId} (tree : t ≡ (batch_of bytes).tree) {q : Bool} (root : q ≡ same_tree t ROOT) where
       pub start_pane : {r : Why} → q ≡ false → r ≡ of_tree 4 t → r ≡ why_for (first_reason (start_reasons bytes))
       unfolding start_reasons why_for why_of
-      start_pane k e = rw (offence_none z, ap not (sym rooted ∙ l), ← tree, ap not (sym root ∙ k)) e
+      start_pane k e = rw (offence_none none, ap not (sym rooted ∙ l), ← tree, ap not (sym root ∙ k)) e
 
       pub start_again : {r : Why} → q ≡ true → AgainIs bytes (record { 0 = 0 }) r → r ≡ why_for (first_reason (start_reasons bytes))
       unfolding start_reasons without_tree_data
@@ -123,7 +112,7 @@ module _ (bytes : List ℕ) {o : layout.Offence} (is : o ≡ plain_offence (reco
           let is_the_root : same_tree (batch_of bytes).tree ROOT ≡ true = rw (← tree) (sym root ∙ k) in
           let number : record { 0 = 0 } ≡ tree_number (seed (batch_of bytes)) (without_tree_data (batch_of bytes)) = seed_number (batch_of bytes) is_the_root in
           let again = e.says (seed (batch_of bytes)) (without_tree_data (batch_of bytes)) refl number in
-          rw (offence_none z, ap not (sym rooted ∙ l), is_the_root) (again ∙ ap why_for (sym (alone _)))
+          rw (offence_none none, ap not (sym rooted ∙ l), is_the_root) (again ∙ ap why_for (sym (alone _)))
 
 pub first_unsound : (bytes : List ℕ) (s : Forest) {t : Bool} {r : Why} → t ≡ sound s → t ≡ false → r ≡ why_broken 1 (broken_state s) → r ≡ why_for (first_reason (first_reasons s bytes))
 unfolding first_reasons why_for why_of
@@ -157,7 +146,7 @@ module _ (o : Forest) {r : Why} {way : List ℕ} where
   unsound_explains : sound_shape o ≡ false → r ≡ why_broken 19 (broken_shape o) → way ≡ no_way
       → ExplainsFor (first_reason (after_removed o)) r way
   unfolding outcome_reason why_for why_of way_of
-  unsound_explains f e z = rw f (explains_plain (some (unsound_outcome (broken_shape o))) refl e z)
+  unsound_explains f e z = rw f (explains_plain (Some (unsound_outcome (broken_shape o))) refl e z)
 
   many_explains : sound_shape o ≡ true → r ≡ why_for (many o) → way ≡ no_way
       → ExplainsFor (first_reason (after_removed o)) r way

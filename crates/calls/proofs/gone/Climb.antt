@@ -1,9 +1,9 @@
 -- Laws of the climb that tells whether a node goes, and of what the notes remember of it. Assumes nothing.
 use mathlib.Core.Bool.{Bool, true, false}
 use mathlib.Core.List.{List}
-use mathlib.Core.Option.{Option, none, some}
+use Rattle.std.specs.Prelude.{Option, None, Some}
 use mathlib.Core.Path.{◌≡◌, refl, sym, ap, ◌∙◌}
-use Prim.Native.Nat.{ℕ, suc, ◌-◌, ◌≤◌, ◌<◌, ◌+◌}
+use Prim.Native.Nat.{ℕ, suc, ◌≤◌, ◌<◌, ◌+◌}
 use native.Mathlib.Omega.{arith}
 use lib.ListN.{length, get_or, set}
 use Rattle.ids.specs.declared.FullNodeId.{FullNodeId}
@@ -68,20 +68,20 @@ pub record Climbing (state bytes : List ℕ) (c : Scope) (i room at : ℕ) : Typ
 
 module _ (state bytes : List ℕ) (c : Scope) where
   -- where it begins
-  pub climb_start : (i : ℕ) → i < slots_of state → Climbing state bytes c i (slots_of state) i
+  pub climb_start : {i n : ℕ} → n ≡ slots_of state → i < slots_of state → Climbing state bytes c i n i
   unfolding gone
-  climb_start i h =
-      record { there = h; fares_as = refl; fares_within = ap (λ n. gone_within (forest state) (asked bytes c) n (id_at (forest state) i)) (forest_length state) }
+  climb_start {i} e h =
+      rw e (record { there = h; fares_as = refl; fares_within = ap (λ n. gone_within (forest state) (asked bytes c) n (id_at (forest state) i)) (forest_length state) })
 
   -- out of room
-  pub climb_left : (i room at : ℕ) → Climbing state bytes c i room at → room ≤ 0 → 0 ≡ goes_word state bytes c i
+  pub climb_left : {i room at : ℕ} → Climbing state bytes c i room at → room ≡ 0 → 0 ≡ goes_word state bytes c i
   unfolding gone_within goes_word
-  climb_left i room at climb h = let none : room ≡ 0 = omega arith in rw (climb.fares_within, none)
+  climb_left climb out = rw (climb.fares_within, out)
 
   -- what is told of the slot that it has come to is told of slot i
-  pub climb_same : (i room at : ℕ) → Climbing state bytes c i room at → goes_word state bytes c at ≡ goes_word state bytes c i
+  pub climb_same : {i room at : ℕ} → Climbing state bytes c i room at → goes_word state bytes c at ≡ goes_word state bytes c i
   unfolding goes_word
-  climb_same i room at climb = ap (λ (t : Bool). flag t) (sym climb.fares_as)
+  climb_same climb = ap (λ (t : Bool). flag t) (sym climb.fares_as)
 
   module _ (kept : KeptForest (forest state)) where
     -- a node whose fate is settled
@@ -94,18 +94,18 @@ module _ (state bytes : List ℕ) (c : Scope) where
 
         go : (o : Option ParentAndIndex) → link_at (forest state).nodes x ≡ o → (fate_code (fate_by (forest state) (asked bytes c) x o) ≡ 2 → ⊥)
             → fate_code (fate_by (forest state) (asked bytes c) x o) ≡ flag (gone (forest state) (asked bytes c) x)
-        go none q k =
+        go None q k =
             goes_if_code (replaced (forest state) (asked bytes c) x)
             ∙ ap (λ (t : Bool). flag t) (sym (gone_top (forest state) (asked bytes c) x (present_at (forest state) at (omega (arith, forest_length state))) q))
-        go (some l) q k =
+        go (Some l) q k =
             settled (fate (forest state) (asked bytes c) x l) (gone (forest state) (asked bytes c) l.parent) k
             ∙ ap (λ (t : Bool). flag t) (sym (kept.gone_parent (asked bytes c) x l q))
 
     -- one step up
-    pub climb_step : (i room at : ℕ) → Climbing state bytes c i room at → fate_word state bytes c at ≡ 2 → 0 < room
-        → Climbing state bytes c i (room - 1) (above_word state bytes c at)
+    pub climb_step : {i room left at : ℕ} → Climbing state bytes c i room at → fate_word state bytes c at ≡ 2 → room ≡ suc left
+        → Climbing state bytes c i left (above_word state bytes c at)
     unfolding fate_word fate_mark fate_by above_word slot_above
-    climb_step i room at climb e r = rw (← link_at_lem (forest state) kept.ascending at within) (go (link_at (forest state).nodes x) refl e)
+    climb_step {i} {room} {left} {at} climb e more = rw (← link_at_lem (forest state) kept.ascending at within) (go (link_at (forest state).nodes x) refl e)
       where
         x : FullNodeId
         x = id_at (forest state) at
@@ -114,12 +114,11 @@ module _ (state bytes : List ℕ) (c : Scope) where
         within = omega (arith, forest_length state, climb.there)
 
         go : (o : Option ParentAndIndex) → link_at (forest state).nodes x ≡ o → fate_code (fate_by (forest state) (asked bytes c) x o) ≡ 2
-            → Climbing state bytes c i (room - 1) (slot_above state o)
-        go none q k =
+            → Climbing state bytes c i left (slot_above state o)
+        go None q k =
             absurd (flag_not_two (replaced (forest state) (asked bytes c) x) (sym (goes_if_code (replaced (forest state) (asked bytes c) x)) ∙ k))
-        go (some l) q k =
+        go (Some l) q k =
             let stands = slot_stands (forest state) l.parent (kept.parent_present x l q) in
-            let more : room ≡ suc (room - 1) = omega arith in
             record {
               there = omega (arith, forest_length state, stands.0);
               fares_as =
@@ -127,7 +126,7 @@ module _ (state bytes : List ℕ) (c : Scope) where
               fares_within =
                   rw stands.1 (climb.fares_within
                   ∙ ap (λ k. gone_within (forest state) (asked bytes c) k x) more
-                  ∙ within_parent (forest state) (asked bytes c) (room - 1) x l q
+                  ∙ within_parent (forest state) (asked bytes c) left x l q
                   ∙ as_parent_fares (fate (forest state) (asked bytes c) x l) _ k);
             }
 
@@ -162,11 +161,11 @@ module _ (state bytes : List ℕ) (c : Scope) where
         go (inr e) = e.2
 
     -- one step up, by what stands in the notes
-    pub memo_step : (i room at : ℕ) → Climbing state bytes c i room at → get_or notes (FATES + at) 0 ≡ 2 → 0 < room
-        → Climbing state bytes c i (room - 1) (get_or notes (ABOVE + at) 0)
-    memo_step i room at climb e r =
+    pub memo_step : {i room left at : ℕ} → Climbing state bytes c i room at → get_or notes (FATES + at) 0 ≡ 2 → room ≡ suc left
+        → Climbing state bytes c i left (get_or notes (ABOVE + at) 0)
+    memo_step {at = at} climb e more =
         rw (f.told.written 8 (omega arith) at climb.there)
-        (climb_step state bytes c f.told.given.kept i room at climb (memo_fate at climb.there e) r)
+        (climb_step state bytes c f.told.given.kept climb (memo_fate at climb.there e) more)
 
     -- a slot is told
     module _ (at v : ℕ) (h : at < slots_of state) (e : v ≡ goes_word state bytes c at) where

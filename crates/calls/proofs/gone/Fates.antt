@@ -1,14 +1,13 @@
 -- Laws of the fate of a node: a law for each way out of the code's tests. Assumes nothing.
 use mathlib.Core.Bool as bool
 use mathlib.Core.Bool.{Bool, true, false, not}
-use mathlib.Core.Option.{Option, some}
 use mathlib.Core.Path.{◌≡◌, sym, ap, ap₂, ◌∙◌}
 use Prim.Native.Nat.{ℕ, suc, ◌≤◌, ◌<◌}
 use native.Mathlib.Decide.{dec_lt}
 use native.Mathlib.Omega.{arith}
 use lib.Dec.{eqb, ltb, leb}
 use borrow.Author.Tests.{eq-eqb, ne_eqb, lt-ltb, le-ltb, le-leb, lt-leb}
-use Rattle.std.specs.Prelude.{if◌then◌else◌}
+use Rattle.std.specs.Prelude.{if◌then◌else◌, Option, Some}
 use Rattle.base.specs.Tests.{◌and◌, same_option}
 use Rattle.ids.specs.Ids.{same_index, same_id}
 use Rattle.ids.specs.declared.TreeIndex.{TreeIndex}
@@ -58,12 +57,12 @@ module _ (s : Forest) (b : Batch) (scope : Scope) (scoped : Scoped s b scope) (x
   mine_false h = sym mine_is ∙ ne_eqb x.tree.0 scope.tree.0 h
 
   -- whether x is the root as the batch leaves it
-  root_is : same_option same_id (root_in scope) (some x) ≡ is_root s b x
+  root_is : same_option same_id (root_in scope) (Some x) ≡ is_root s b x
   unfolding is_root
-  root_is = ap (λ (o : Option FullNodeId). same_option same_id o (some x)) scoped.root
+  root_is = ap (λ (o : Option FullNodeId). same_option same_id o (Some x)) scoped.root
 
 -- whether x is a root that is replaced
-pub replaced_is : (scope : Scope) (x : FullNodeId) {turn naming : ℕ} {r : Bool} → r ≡ same_option same_id (root_in scope) (some x)
+pub replaced_is : (scope : Scope) (x : FullNodeId) {turn naming : ℕ} {r : Bool} → r ≡ same_option same_id (root_in scope) (Some x)
     → ReplacedIs scope x turn naming (eqb x.tree.0 scope.tree.0 and scope.with_tree_data and not r and eqb turn 0 and eqb naming 0)
 unfolding replaced
 replaced_is scope x e s b scoped p q =
@@ -92,7 +91,7 @@ module _ (s : Forest) (b : Batch) (x : FullNodeId) {mark : ℕ} (none : mark ≤
   not_listed e = turn_listed s b x ∙ rw (← e) (le-ltb 0 mark none)
 
 -- whether tree data names x
-as_root : (s : Forest) (b : Batch) (scope : Scope) → Scoped s b scope → (x : FullNodeId) {r v : Bool} → r ≡ same_option same_id (root_in scope) (some x)
+as_root : (s : Forest) (b : Batch) (scope : Scope) → Scoped s b scope → (x : FullNodeId) {r v : Bool} → r ≡ same_option same_id (root_in scope) (Some x)
     → bool.◌&&◌ scope.with_tree_data r ≡ v → (with_tree_data s b and is_root s b x) ≡ v
 unfolding ◌and◌
 as_root s b scope scoped x root e = ap₂ bool.◌&&◌ (sym scoped.tree_data) (sym (root ∙ root_is s b scope scoped x)) ∙ e
@@ -118,7 +117,7 @@ module _ (scope : Scope) (x p : FullNodeId) {turn naming parentTurn : ℕ} where
           let parent_listed : listed s b p ≡ true = turn_listed s b p ∙ rw (← parent) (lt-ltb 0 parentTurn h) in
           e ∙ rw (mine_true s b scope scoped p inside, not_named s b x unnamed name, parent_listed, own, parent, not_later s b x p parent_listed)
 
-      module _ (unlisted : parentTurn ≤ 0) {r : Bool} (root : r ≡ same_option same_id (root_in scope) (some x)) where
+      module _ (unlisted : parentTurn ≤ 0) {r : Bool} (root : r ≡ same_option same_id (root_in scope) (Some x)) where
         -- tree data names x, or not
         pub here_root : bool.◌&&◌ scope.with_tree_data r ≡ true → FateHereIs scope x p turn naming parentTurn 0
         unfolding fate_here fate_code

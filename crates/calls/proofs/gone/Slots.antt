@@ -33,7 +33,7 @@ use Rattle.calls.proofs.notes.Setting.{batched_at}
 use Rattle.calls.proofs.notes.Told.{batched}
 use Rattle.calls.specs.Fates.{fate_code, fate_by, fate_mark, fate_word, ReplacedIs, FateHereIs, FateUnderIs, ABOVE_TOLD}
 use Rattle.calls.proofs.gone.Fates.{same_index_lem, other_index, mine_true, mine_false}
-use mathlib.Core.Option.{Option, none, some}
+use Rattle.std.specs.Prelude.{Option, None, Some}
 use Rattle.state.specs.Sound.{ascending}
 use Rattle.state_lookup.specs.Lookup.{in_slot, SlotOf}
 use Rattle.state_lookup.proofs.Order.{slot_here, slot_of_place}
@@ -44,7 +44,7 @@ module _ (s : Forest) where
   -- the link of the node in a slot
   pub link_at_lem : ascending s.nodes ≡ true → (i : ℕ) → i < length s.nodes → link_at s.nodes (id_at s i) ≡ (node_at s i).parent_and_index
   unfolding link_at
-  link_at_lem up i h = ap (λ (o : Option NodeState). elim o as (λ _. Option ParentAndIndex) [ none ↦ none | some n ↦ n.parent_and_index ]) (find_at s up i h)
+  link_at_lem up i h = ap (λ (o : Option NodeState). elim o as (λ _. Option ParentAndIndex) [ None ↦ None | Some n ↦ n.parent_and_index ]) (find_at s up i h)
 
   -- an id that is present stands in its slot
   pub slot_stands : (x : FullNodeId) → present s.nodes x ≡ true → (slot_at s x < length s.nodes) × (id_at s (slot_at s x) ≡ x)
@@ -54,12 +54,12 @@ module _ (s : Forest) where
 
 module _ (l : LinkRow) where
   -- a row without a link
-  pub no_link : l.linked ≡ 0 → link_of l ≡ none
+  pub no_link : l.linked ≡ 0 → link_of l ≡ None
   unfolding link_of
   no_link e = rw (eq-eqb l.linked 0 e)
 
   -- a row with one
-  pub a_link : (l.linked ≡ 0 → ⊥) → link_of l ≡ some (record { parent = l.parent; index = l.index })
+  pub a_link : (l.linked ≡ 0 → ⊥) → link_of l ≡ Some (record { parent = l.parent; index = l.index })
   unfolding link_of
   a_link h = rw (ne_eqb l.linked 0 h)
 

@@ -2,13 +2,12 @@
 use Rattle.calls.specs.Links.{LinkElsewhereIs, cut_mark, LinkHereIs, old_row}
 use mathlib.Core.Bool.{Bool, true, false, ◌||◌, true≢false}
 use mathlib.Core.List.{List}
-use mathlib.Core.Option.{Option, none, some}
 use mathlib.Core.Path.{◌≡◌, refl, ap, ◌∙◌, sym}
 use Prim.Native.Nat.{ℕ, ◌≤◌, ◌<◌, ◌+◌}
 use native.Mathlib.Omega.{arith}
 use lib.Dec.{eqb, ltb}
 use borrow.Author.Tests.{eq-eqb, ne_eqb, lt-ltb, le-ltb}
-use Rattle.std.specs.Prelude.{if◌then◌else◌}
+use Rattle.std.specs.Prelude.{if◌then◌else◌, Option, None, Some}
 use Rattle.ids.specs.Ids.{same_index}
 use Rattle.ids.specs.declared.FullNodeId.{FullNodeId}
 use Rattle.record.specs.Parse.{batch_of}
@@ -38,12 +37,12 @@ use Rattle.update_focus.proofs.Numbers.{forest_length}
 
 module _ (l : LinkRow) {r : LinkRow} where
   -- without a link
-  pub no_link : l.linked ≡ 0 → r ≡ link_row none → r ≡ link_row (link_of l)
+  pub no_link : l.linked ≡ 0 → r ≡ link_row None → r ≡ link_row (link_of l)
   unfolding link_of
   no_link e q = q ∙ rw (eq-eqb l.linked 0 e)
 
   -- with one
-  pub a_link : (l.linked ≡ 0 → ⊥) → r ≡ link_row (some (record { parent = l.parent; index = l.index })) → r ≡ link_row (link_of l)
+  pub a_link : (l.linked ≡ 0 → ⊥) → r ≡ link_row (Some (record { parent = l.parent; index = l.index })) → r ≡ link_row (link_of l)
   unfolding link_of
   a_link h q = q ∙ rw (ne_eqb l.linked 0 h)
 
@@ -58,8 +57,8 @@ module _ (x : FullNodeId) {was : LinkRow} where
   link_elsewhere_own : (s : Forest) (b : Batch) (o : Option ParentAndIndex) → was ≡ link_row o → own_test x was ≡ true
       → was ≡ link_row (link_elsewhere s b x o)
   unfolding link_elsewhere link_row same_index
-  link_elsewhere_own s b none e own = e
-  link_elsewhere_own s b (some l) e own = let same : eqb l.parent.tree.0 x.tree.0 ≡ true = rw e at own in rw same e
+  link_elsewhere_own s b None e own = e
+  link_elsewhere_own s b (Some l) e own = let same : eqb l.parent.tree.0 x.tree.0 ≡ true = rw e at own in rw same e
 
   module _ {state bytes : List ℕ} {c : Scope} {notes : List ℕ} (told : Told COMPARED state bytes c notes) where
     -- any other stands under the claimer of the tree that its parent grafted
@@ -69,8 +68,8 @@ module _ (x : FullNodeId) {was : LinkRow} where
         → (if t then under_graft (here (forest state) (asked bytes c) (listed_at (asked bytes c) r).id) else o)
         ≡ link_elsewhere (forest state) (asked bytes c) x o
     unfolding link_elsewhere link_row same_index slot_above claim_word
-    link_elsewhere_claimed found none e at other is = absurd (true≢false (rw e at other))
-    link_elsewhere_claimed {slot} {r} found (some l) e at other {t} is =
+    link_elsewhere_claimed found None e at other is = absurd (true≢false (rw e at other))
+    link_elsewhere_claimed {slot} {r} found (Some l) e at other {t} is =
         let apart : eqb l.parent.tree.0 x.tree.0 ≡ false = rw e at other in
         rw (
           apart,
@@ -84,9 +83,9 @@ module _ (x : FullNodeId) {was : LinkRow} where
         g = here (forest state) (asked bytes c) (listed_at (asked bytes c) r).id
 
         claimed : Bool → Option FullNodeId
-        claimed t = if t then some g else none
+        claimed t = if t then Some g else None
 
-        go : (t : Bool) → (if t then under_graft g else some l) ≡ elim (claimed t) as (λ _. Option ParentAndIndex) [ none ↦ some l | some y ↦ under_graft y ]
+        go : (t : Bool) → (if t then under_graft g else Some l) ≡ elim (claimed t) as (λ _. Option ParentAndIndex) [ None ↦ Some l | Some y ↦ under_graft y ]
         go true = refl
         go false = refl
 
@@ -103,7 +102,7 @@ module _ {state bytes : List ℕ} {c : Scope} {notes : List ℕ} (told : Told CO
 
     -- under the claimer
     pub elsewhere_claimed : {g : FullNodeId} {r : LinkRow} → i < c.listed → g ≡ id_noted c notes (LISTED + i)
-        → r ≡ link_row (some (record { parent = g; index = 0 })) → LinkElsewhereIs state bytes c slot x was r
+        → r ≡ link_row (Some (record { parent = g; index = 0 })) → LinkElsewhereIs state bytes c slot x was r
     unfolding under_graft
     elsewhere_claimed h id q o e above =
         q ∙ ap (λ (g : FullNodeId). link_row (under_graft g)) (id ∙ listed_noted (omega arith) told h) ∙ ap link_row (link_elsewhere_claimed x told found o e above other (lt-ltb i c.listed h))
@@ -114,7 +113,7 @@ module _ {state bytes : List ℕ} {c : Scope} {notes : List ℕ} (told : Told CO
   unfolding old
   is_old = present_at (forest state) i (omega (arith, forest_length state))
 
-  old_at : (o : Option ParentAndIndex) → old (forest state) (asked bytes c) (id_at (forest state) i) ≡ false → o ≡ none
+  old_at : (o : Option ParentAndIndex) → old (forest state) (asked bytes c) (id_at (forest state) i) ≡ false → o ≡ None
   old_at o e = absurd (true≢false (sym is_old ∙ e))
 
   -- its marks

@@ -3,14 +3,13 @@ use Rattle.state_array.specs.declared.LinkRow.{LinkRow}
 use mathlib.Core.Bool.{Bool, true, false, not}
 use mathlib.Core.Bool as bool
 use mathlib.Core.List.{List, [], ◌∷◌}
-use mathlib.Core.Option.{Option, none, some}
 use mathlib.Core.Path.{◌≡◌, refl, sym, ap, ap₂, ◌∙◌}
 use Prim.Native.Nat.{ℕ, suc, ◌+◌, ◌≤◌, ◌<◌, ◌-◌, zero}
 use native.Mathlib.Omega.{arith}
 use lib.Dec.{eqb, ltb, leb, leb-suc-suc}
 use lib.ListN.{length, get_or, take, length-append}
 use borrow.Author.Tests.{eqb-true, eq-eqb, ne_eqb, lt-ltb, le-ltb, ltb-true, ltb-false}
-use Rattle.std.specs.Prelude.{if◌then◌else◌}
+use Rattle.std.specs.Prelude.{if◌then◌else◌, Option, None, Some}
 use Rattle.base.specs.Tests.{◌and◌, same_option, distinct, position, has}
 use Rattle.base.specs.Search.{First}
 use Rattle.base.proofs.Tests.{iff, both, at_position}
@@ -79,13 +78,13 @@ module _ (b : Batch) where
 
   -- so a node with a mark is named by that one
   named_first : (s : Forest) (x : FullNodeId) (j r k : ℕ) → k ≡ length b.nodes → naming_mark s b x ≡ suc j
-      → First (λ i. ltb j (named_before b (i + 1))) k r → Owns b r j × (naming s b x ≡ some (named_link s b r j))
+      → First (λ i. ltb j (named_before b (i + 1))) k r → Owns b r j × (naming s b x ≡ Some (named_link s b r j))
   unfolding naming_mark named_link
   named_first s x j r k count e first = go (mine s b x and has same_node (named_ids b.nodes) x.node) refl e
     where
       go : (c : Bool) → (mine s b x and has same_node (named_ids b.nodes) x.node) ≡ c
           → (if c then suc (position same_node (named_ids b.nodes) x.node) else 0) ≡ suc j
-          → Owns b r j × (naming s b x ≡ some (named_link s b r j))
+          → Owns b r j × (naming s b x ≡ Some (named_link s b r j))
       go true q f =
           let own = owner_is j r k count (omega (arith, (at_position same_node (named_ids b.nodes) x.node x.node (both q).1).0)) first in
           (own.0, naming_link s b x j r e own.0.listed own.0.start own.1)
@@ -109,7 +108,7 @@ module _ {state bytes : List ℕ} {c : Scope} {notes : List ℕ} (told : Told CO
   module _ (x : FullNodeId) {count owner : ℕ} (mark : count ≡ naming_mark (forest state) (asked bytes c) x) (some-mark : 1 ≤ count)
       (first : First (λ i. ltb (count - 1) (get_or notes (ENDS + i) 0)) c.listed owner) where
     owner_there : Owns (asked bytes c) owner (count - 1)
-        × (naming (forest state) (asked bytes c) x ≡ some (named_link (forest state) (asked bytes c) owner (count - 1)))
+        × (naming (forest state) (asked bytes c) x ≡ Some (named_link (forest state) (asked bytes c) owner (count - 1)))
     unfolding end_word
     owner_there =
         named_first (asked bytes c) (forest state) x (count - 1) owner c.listed told.given.scoped.listed (omega arith)
@@ -118,7 +117,7 @@ module _ {state bytes : List ℕ} {c : Scope} {notes : List ℕ} (told : Told CO
     pub owner_owns : Owns (asked bytes c) owner (count - 1)
     owner_owns = owner_there.0
 
-    pub owner_names : naming (forest state) (asked bytes c) x ≡ some (named_link (forest state) (asked bytes c) owner (count - 1))
+    pub owner_names : naming (forest state) (asked bytes c) x ≡ Some (named_link (forest state) (asked bytes c) owner (count - 1))
     owner_names = owner_there.1
 
   -- the words of the link of child j of listed node i
@@ -136,22 +135,22 @@ module _ {state bytes : List ℕ} {c : Scope} {notes : List ℕ} (told : Told CO
         (omega (arith, own.listed, told.given.scoped.listed, few_listed state bytes c told.given), omega (arith, start_noted_lem, own.start))
 
     -- and they are the definition's
-    pub named_noted : {r : LinkRow} → r ≡ link_row (some (record { parent = id_noted c notes (LISTED + i); index = j - start_noted notes i })) → r ≡ named_row state bytes c i j
+    pub named_noted : {r : LinkRow} → r ≡ link_row (Some (record { parent = id_noted c notes (LISTED + i); index = j - start_noted notes i })) → r ≡ named_row state bytes c i j
     unfolding named_link
     named_noted e =
-        e ∙ ap₂ (λ (q : FullNodeId) (k : ℕ). link_row (some (record { parent = q; index = j - k })))
+        e ∙ ap₂ (λ (q : FullNodeId) (k : ℕ). link_row (Some (record { parent = q; index = j - k })))
         (listed_noted (omega arith) told (omega (arith, own.listed, told.given.scoped.listed))) start_noted_lem
 
 -- the words of a link whose place is counted from where the children of listed node i start
 module _ (notes : List ℕ) {i : ℕ} (j : ℕ) (p : FullNodeId) {r : LinkRow} where
   -- of the first node
-  pub under_first : i < 1 → r ≡ link_row (some (record { parent = p; index = j })) → r ≡ link_row (some (record { parent = p; index = j - start_noted notes i }))
+  pub under_first : i < 1 → r ≡ link_row (Some (record { parent = p; index = j })) → r ≡ link_row (Some (record { parent = p; index = j - start_noted notes i }))
   unfolding start_noted
   under_first h e = let all : j ≡ j - 0 = omega arith in rw (lt-ltb i 1 h, ← all) e
 
   -- of another
-  pub under_later : 1 ≤ i → r ≡ link_row (some (record { parent = p; index = j - get_or notes (ENDS + (i - 1)) 0 }))
-      → r ≡ link_row (some (record { parent = p; index = j - start_noted notes i }))
+  pub under_later : 1 ≤ i → r ≡ link_row (Some (record { parent = p; index = j - get_or notes (ENDS + (i - 1)) 0 }))
+      → r ≡ link_row (Some (record { parent = p; index = j - start_noted notes i }))
   unfolding start_noted
   under_later h e = rw (le-ltb i 1 h) e
 
@@ -167,9 +166,9 @@ abbrev pub pane_test : Scope → Bool → Bool
 pane_test c root = bool.◌&&◌ (bool.◌&&◌ root c.with_tree_data) (not c.is_root_tree)
 
 -- a node that is listed and not named is cut by its mark; a new one has no link before
-cut_unnamed : (k : ℕ) (p z l u : Bool) (o : Option ParentAndIndex) → (u ≡ false → o ≡ none)
-    → (if p and z and l and true then none else o)
-    ≡ (if bool.◌&&◌ (bool.◌&&◌ p z) (ltb 0 (if u then (if l then suc k else 0) else 0)) then none else o)
+cut_unnamed : (k : ℕ) (p z l u : Bool) (o : Option ParentAndIndex) → (u ≡ false → o ≡ None)
+    → (if p and z and l and true then None else o)
+    ≡ (if bool.◌&&◌ (bool.◌&&◌ p z) (ltb 0 (if u then (if l then suc k else 0) else 0)) then None else o)
 unfolding ◌and◌
 cut_unnamed k false z l u o new = refl
 cut_unnamed k true false l u o new = refl
@@ -189,11 +188,11 @@ cut_sides k r true true false true = sym (le-ltb r 0 (omega arith))
 cut_sides k r true true true false = sym (le-ltb r 0 (omega arith))
 cut_sides k r true true true true = sym (leb-suc-suc r k)
 
-module _ {s : Forest} {b : Batch} {c : Scope} (scoped : Scoped s b c) (x : FullNodeId) {root : Bool} (root_is : root ≡ same_option same_id (root_in c) (some x)) where
+module _ {s : Forest} {b : Batch} {c : Scope} (scoped : Scoped s b c) (x : FullNodeId) {root : Bool} (root_is : root ≡ same_option same_id (root_in c) (Some x)) where
   -- the root test of the scope is the batch's
   is_the_root : root ≡ is_root s b x
   unfolding is_root
-  is_the_root = root_is ∙ ap (λ (o : Option FullNodeId). same_option same_id o (some x)) scoped.root
+  is_the_root = root_is ∙ ap (λ (o : Option FullNodeId). same_option same_id o (Some x)) scoped.root
 
   -- and so is the test for a pane's root
   pane_is : pane_test c root ≡ pane_root s b x
@@ -208,9 +207,9 @@ module _ {s : Forest} {b : Batch} {c : Scope} (scoped : Scoped s b c) (x : FullN
 
     module _ (e : pane_test c root ≡ false) {mark : ℕ} (q : mark ≡ cut_mark s b x) where
       -- a node that is not named: where it stood, if it is not cut
-      link_here_unnamed : (old s b x ≡ false → o ≡ none) → naming_mark s b x ≡ 0 → {t : Bool}
+      link_here_unnamed : (old s b x ≡ false → o ≡ None) → naming_mark s b x ≡ 0 → {t : Bool}
           → bool.◌&&◌ (bool.◌&&◌ root c.is_root_tree) (ltb 0 mark) ≡ t
-          → (if t then none else o) ≡ link_here s b x o
+          → (if t then None else o) ≡ link_here s b x o
       unfolding link_here cut_lasts link_is_cut cut_mark turn_mark
       link_here_unnamed new f is =
           rw (
@@ -227,9 +226,9 @@ module _ {s : Forest} {b : Batch} {c : Scope} (scoped : Scoped s b c) (x : FullN
 
       -- a node that is named: under that name, if it is not cut after that
       link_here_named : distinct same_node (listed_ids b.nodes) ≡ true → (r j : ℕ) → r < length b.nodes
-          → naming s b x ≡ some (named_link s b r j) → {t : Bool}
+          → naming s b x ≡ Some (named_link s b r j) → {t : Bool}
           → bool.◌&&◌ (bool.◌&&◌ root c.is_root_tree) (ltb r mark) ≡ t
-          → (if t then none else some (named_link s b r j)) ≡ link_here s b x o
+          → (if t then None else Some (named_link s b r j)) ≡ link_here s b x o
       unfolding link_here cut_lasts link_is_cut cut_mark turn_mark named_link
       link_here_named once r j h f is =
           rw (
@@ -249,24 +248,24 @@ module _ {s : Forest} {b : Batch} {c : Scope} (scoped : Scoped s b c) (x : FullN
 
 module _ (state : List ℕ) (t : TreeId) {slot : ℕ} (held : HolderIs state t slot) where
   -- the first slot that grafts a tree has its holder
-  holder_is : holder (forest state).nodes t ≡ (if ltb slot (slots_of state) then some (id_at (forest state) slot) else none)
+  holder_is : holder (forest state).nodes t ≡ (if ltb slot (slots_of state) then Some (id_at (forest state) slot) else None)
   unfolding holder node_in body_in graft? graft_in
   holder_is =
       let s = forest state in
-      let test : (i : ℕ) → i < slots_of state → same_option same_tree (graft_in state i) (some t) ≡ same_option same_tree (graft? (node_at s i).body) (some t) =
-      λ i l. ap (λ (k : NodeState). same_option same_tree (graft? k.body) (some t)) (sym (forest_node state i l)) in
-      first_given_at (λ k. same_option same_tree (graft? k.body) (some t)) (λ k. k.id) no_state s.nodes slot
+      let test : (i : ℕ) → i < slots_of state → same_option same_tree (graft_in state i) (Some t) ≡ same_option same_tree (graft? (node_at s i).body) (Some t) =
+      λ i l. ap (λ (k : NodeState). same_option same_tree (graft? k.body) (Some t)) (sym (forest_node state i l)) in
+      first_given_at (λ k. same_option same_tree (graft? k.body) (Some t)) (λ k. k.id) no_state s.nodes slot
       (rw (forest_length state) (first_cong _ _ (slots_of state) slot test held))
       ∙ rw (forest_length state)
 
   module _ {n : ℕ} (count : n ≡ slots_of state) {r : LinkRow} where
     -- no node grafts the tree
-    pub graft_link_none : n ≤ slot → r ≡ link_row none → r ≡ link_row (graft_link (forest state) t)
+    pub graft_link_none : n ≤ slot → r ≡ link_row None → r ≡ link_row (graft_link (forest state) t)
     unfolding graft_link
     graft_link_none h e = e ∙ ap link_row (rw (holder_is, graft_link, le-ltb slot (slots_of state) (rw count at h)))
 
     -- the first that does
-    pub graft_link_some : {g : FullNodeId} → slot < n → g ≡ id_in state slot → r ≡ link_row (some (record { parent = g; index = 0 })) → r ≡ link_row (graft_link (forest state) t)
+    pub graft_link_some : {g : FullNodeId} → slot < n → g ≡ id_in state slot → r ≡ link_row (Some (record { parent = g; index = 0 })) → r ≡ link_row (graft_link (forest state) t)
     unfolding graft_link under_graft
     graft_link_some h id e =
         let there : slot < slots_of state = rw count at h in
@@ -275,7 +274,7 @@ module _ (state : List ℕ) (t : TreeId) {slot : ℕ} (held : HolderIs state t s
 -- ## As the code finds it
 
 module _ {state bytes : List ℕ} {c : Scope} {notes : List ℕ} (told : Told COMPARED state bytes c notes) (x : FullNodeId) {was : LinkRow} {turn : ℕ} {root : Bool}
-    (root_is : root ≡ same_option same_id (root_in c) (some x)) where
+    (root_is : root ≡ same_option same_id (root_in c) (Some x)) where
   -- the root that tree data gives a pane
   pub here_pane : {t : TreeId} {r : LinkRow} → pane_test c root ≡ true → t ≡ (batch_of bytes).tree → r ≡ link_row (graft_link (forest state) t)
       → LinkHereIs state bytes c x was turn r
@@ -285,7 +284,7 @@ module _ {state bytes : List ℕ} {c : Scope} {notes : List ℕ} (told : Told CO
 
   module _ (e : pane_test c root ≡ false) {naming : ℕ} (mark : naming ≡ naming_mark (forest state) (asked bytes c) x) where
     -- a node that is not named: cut, or as it was
-    pub here_cut : {r : LinkRow} → naming < 1 → bool.◌&&◌ (bool.◌&&◌ root c.is_root_tree) (ltb 0 turn) ≡ true → r ≡ link_row none
+    pub here_cut : {r : LinkRow} → naming < 1 → bool.◌&&◌ (bool.◌&&◌ root c.is_root_tree) (ltb 0 turn) ≡ true → r ≡ link_row None
         → LinkHereIs state bytes c x was turn r
     here_cut h t q o is cut new = q ∙ ap link_row (link_here_unnamed told.given.scoped x root_is o e cut new (omega arith) t)
 
@@ -294,12 +293,12 @@ module _ {state bytes : List ℕ} {c : Scope} {notes : List ℕ} (told : Told CO
 
     -- a node that is: cut after that, or under that name
     module _ (h : 1 ≤ naming) {owner : ℕ} (first : First (λ i. ltb (naming - 1) (get_or notes (ENDS + i) 0)) c.listed owner) {r : LinkRow} where
-      pub here_cut_after : bool.◌&&◌ (bool.◌&&◌ root c.is_root_tree) (ltb owner turn) ≡ true → r ≡ link_row none → LinkHereIs state bytes c x was turn r
+      pub here_cut_after : bool.◌&&◌ (bool.◌&&◌ root c.is_root_tree) (ltb owner turn) ≡ true → r ≡ link_row None → LinkHereIs state bytes c x was turn r
       here_cut_after t q o is cut new =
           q ∙ ap link_row (link_here_named told.given.scoped x root_is o e cut told.given.once owner (naming - 1) (owner_owns told x mark h first).listed (owner_names told x mark h first) t)
 
       pub here_named : bool.◌&&◌ (bool.◌&&◌ root c.is_root_tree) (ltb owner turn) ≡ false
-          → r ≡ link_row (some (record { parent = id_noted c notes (LISTED + owner); index = naming - 1 - start_noted notes owner }))
+          → r ≡ link_row (Some (record { parent = id_noted c notes (LISTED + owner); index = naming - 1 - start_noted notes owner }))
           → LinkHereIs state bytes c x was turn r
       here_named t q o is cut new =
           named_noted told (owner_owns told x mark h first) q ∙ ap link_row (link_here_named told.given.scoped x root_is o e cut told.given.once owner (naming - 1) (owner_owns told x mark h first).listed (owner_names told x mark h first) t)
@@ -358,8 +357,8 @@ module _ {state bytes : List ℕ} {c : Scope} {notes : List ℕ} (told : Told CO
     new_naming {j} found e = e ∙ rw id (naming_is (listed_at (asked bytes c) i).id j (rw id at found))
 
     -- its link
-    pub new_row_lem : {was r : LinkRow} → was ≡ link_row none → LinkHereIs state bytes c x was 0 r → r ≡ new_row state bytes c i
+    pub new_row_lem : {was r : LinkRow} → was ≡ link_row None → LinkHereIs state bytes c x was 0 r → r ≡ new_row state bytes c i
     unfolding here cut_mark
     new_row_lem none_before f =
-        (rw id at f) none none_before (rw new.new) (λ _. refl)
-        ∙ ap link_row (link_after_here told.given.scoped _ none (ap (λ (t : TreeIndex). t.0) (sym told.given.scoped.tree)))
+        (rw id at f) None none_before (rw new.new) (λ _. refl)
+        ∙ ap link_row (link_after_here told.given.scoped _ None (ap (λ (t : TreeIndex). t.0) (sym told.given.scoped.tree)))

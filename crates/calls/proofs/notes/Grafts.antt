@@ -1,14 +1,13 @@
 -- What the rows of a state say of grafts. Assumes nothing.
 use mathlib.Core.Bool.{Bool, true, false, not}
 use mathlib.Core.List.{List}
-use mathlib.Core.Option.{Option, none, some}
 use mathlib.Core.Path.{◌≡◌, refl, sym, ap, ◌∙◌}
 use Prim.Native.Nat.{ℕ, suc, ◌+◌, ◌<◌}
 use native.Mathlib.Omega.{arith}
 use lib.Dec.{eqb, ltb}
 use lib.ListN.{length, get_or}
 use borrow.Author.Tests.{lt-ltb, le-ltb}
-use Rattle.std.specs.Prelude.{if◌then◌else◌}
+use Rattle.std.specs.Prelude.{if◌then◌else◌, Option, None, Some}
 use Rattle.base.specs.Tests.{◌and◌, is_some, same_option}
 use Rattle.base.specs.Bytes.{bit}
 use Rattle.base.proofs.Cases.{by_test, by_option, by_order}
@@ -38,9 +37,9 @@ use Rattle.calls.proofs.notes.Setting.{batched_at}
 -- ## Options
 
 -- none agrees with an option that has no value
-same_none : {A : Type 0} (same : A → A → Bool) (o : Option A) → not (is_some o) ≡ same_option same none o
-same_none same none = refl
-same_none same (some x) = refl
+same_none : {A : Type 0} (same : A → A → Bool) (o : Option A) → not (is_some o) ≡ same_option same None o
+same_none same None = refl
+same_none same (Some x) = refl
 
 -- ## A listed node's graft
 
@@ -50,7 +49,7 @@ unfolding graft?
 graft_flag d = sym (is_some_if (bit 8 d.flags) d.graft)
 
 -- the tree that it grafts
-pub graft_given : (d : NodeData) → is_some (graft? d) ≡ true → graft? d ≡ some d.graft
+pub graft_given : (d : NodeData) → is_some (graft? d) ≡ true → graft? d ≡ Some d.graft
 unfolding graft?
 graft_given d e = rw (graft_flag d ∙ e)
 
@@ -64,7 +63,7 @@ claim_read b i t w is test e = rw (← is, ← test) e
 module _ (state : List ℕ) (i : ℕ) where
   -- whether it is a tree's, by its row
   pub graft_test : (t : TreeId) {d : ShapeRow} {g z b : Bool} → d ≡ shape_in state i → g ≡ bit 8 d.flags → z ≡ same_tree d.graft t → g and z ≡ b
-      → same_option same_tree (graft_in state i) (some t) ≡ b
+      → same_option same_tree (graft_in state i) (Some t) ≡ b
   unfolding graft_in ◌and◌
   graft_test t {d} {g} is e f q = rw (← is, ← e) (by_test g (λ h. rw h (sym f ∙ rw h at q)) (λ h. rw h (rw h at q)))
 
@@ -74,7 +73,7 @@ module _ (state : List ℕ) (i : ℕ) where
   graft_below_some = by_test (ltb i (slots_of state)) (λ c. by_test (bit 8 (shape_in state i).flags) (λ d. rw (c, d)) (λ d. rw (c, d))) (λ c. rw c)
 
   -- the tree that it grafts
-  graft_below_given : is_some (graft_below state i) ≡ true → graft_below state i ≡ some (shape_in state i).graft
+  graft_below_given : is_some (graft_below state i) ≡ true → graft_below state i ≡ Some (shape_in state i).graft
   unfolding graft_below graft_in
   graft_below_given e = let there = both (graft_below_some ∙ e) in rw (there.0, there.1)
 
@@ -126,7 +125,7 @@ graft_slot state x =
 
 module _ (s : Forest) (b : Batch) where
   -- a node claims t if it claims a tree and grafts t
-  claim_test : (l : Listed) (t : TreeId) → (eqb (flag (is_some (claim s b l))) 1 and same_tree l.body.graft t) ≡ same_option same_tree (claim s b l) (some t)
+  claim_test : (l : Listed) (t : TreeId) → (eqb (flag (is_some (claim s b l))) 1 and same_tree l.body.graft t) ≡ same_option same_tree (claim s b l) (Some t)
   unfolding claim graft? ◌and◌
   claim_test l t =
       by_test (same_option same_tree (graft? l.body) (graft_at s.nodes (here s b l.id))) (λ c. rw c)
@@ -144,18 +143,18 @@ module _ (s : Forest) (b : Batch) where
       (say : Holds notes CLAIMS k (λ i. flag (is_some (claim s b (listed_at b i))))) where
     -- the listed node that claims a tree
     pub claimer_is : (t : TreeId) (r : ℕ) → ClaimerIs (batch_of bytes) notes k t r
-        → claimer s b t ≡ (if ltb r k then some (here s b (listed_at b r).id) else none)
+        → claimer s b t ≡ (if ltb r k then Some (here s b (listed_at b r).id) else None)
     unfolding claimer listed_at
     claimer_is t r h =
         let test : (i : ℕ) → i < k
-        → (eqb (get_or notes (CLAIMS + i) 0) 1 and same_tree (listed_at (batch_of bytes) i).body.graft t) ≡ same_option same_tree (claim s b (listed_at b i)) (some t) =
+        → (eqb (get_or notes (CLAIMS + i) 0) 1 and same_tree (listed_at (batch_of bytes) i).body.graft t) ≡ same_option same_tree (claim s b (listed_at b i)) (Some t) =
         λ i l. rw (batched_at bytes b batched i, say i l) (claim_test (listed_at b i) t) in
-        first_given_at (λ l. same_option same_tree (claim s b l) (some t)) (λ l. here s b l.id) no_listed b.nodes r (rw (← count) (first_cong _ _ k r test h))
+        first_given_at (λ l. same_option same_tree (claim s b l) (Some t)) (λ l. here s b l.id) no_listed b.nodes r (rw (← count) (first_cong _ _ k r test h))
         ∙ rw (← count)
 
     -- the listed node that claims the tree that p grafted
     pub claimed_from_is : (p : FullNodeId) (r : ℕ) → ClaimedFromIs (batch_of bytes) notes k (graft_at s.nodes p) r
-        → claimed_from s b p ≡ (if ltb r k then some (here s b (listed_at b r).id) else none)
+        → claimed_from s b p ≡ (if ltb r k then Some (here s b (listed_at b r).id) else None)
     unfolding claimed_from
     claimed_from_is p r h =
         by_option (graft_at s.nodes p) (λ q. rw (q, claimed_from, le-ltb r k (omega (arith, h.ungrafted q))))

@@ -1,7 +1,6 @@
 -- Laws of marks: what a node's turn and its naming say of it, and which slot a key marks. Assumes nothing.
 use mathlib.Core.Bool.{Bool, true, false, not, false≢true}
 use mathlib.Core.List.{List, [], ◌∷◌, ◌++◌}
-use mathlib.Core.Option.{Option, none, some}
 use mathlib.Core.Path.{◌≡◌, refl, sym, ap, ◌∙◌}
 use Prim.Native.Nat.{ℕ, zero, suc, ◌+◌, ◌-◌, ◌≤◌, ◌<◌}
 use native.Mathlib.Numerals.{add-one}
@@ -9,7 +8,7 @@ use native.Mathlib.Omega.{arith}
 use lib.Dec.{eqb, ltb}
 use lib.ListN.{length, get_or, take, length-append}
 use borrow.Author.Tests.{eqb-true, eq-eqb, lt-ltb, le-ltb, ltb-true}
-use Rattle.std.specs.Prelude.{if◌then◌else◌}
+use Rattle.std.specs.Prelude.{if◌then◌else◌, Option, None, Some}
 use Rattle.base.specs.Tests.{◌and◌, any, has, distinct, position, first_given}
 use Rattle.base.specs.Search.{First}
 use Rattle.base.proofs.Cases.{by_test, by_order}
@@ -98,7 +97,7 @@ module _ (s : Forest) (b : Batch) where
       turn_here = ap (here s b) (sym turn_node) ∙ mine_here x (both (mark_is (listed s b x) (turn s b x) k e).0).0
 
       -- and it is listed with the data that stands there
-      pub turn_listing : listing b.nodes x.node ≡ some (listed_at b k).body
+      pub turn_listing : listing b.nodes x.node ≡ Some (listed_at b k).body
       unfolding listing listed_at
       turn_listing =
           let first = rw (turn_is k e) at (turn_first x) in
@@ -131,7 +130,7 @@ module _ (s : Forest) (b : Batch) (x : FullNodeId) where
 
   -- the first listed node of those that name x
   abbrev namer : List Listed → Option ParentAndIndex
-  namer ls = first_given (λ l. if has same_node l.body.children x.node then some (named_by l) else none) ls
+  namer ls = first_given (λ l. if has same_node l.body.children x.node then Some (named_by l) else None) ls
 
   -- a node is named where it is of the batch's tree and its number is
   pub named_is : named s b x ≡ (mine s b x and has same_node (named_ids b.nodes) x.node)
@@ -145,14 +144,14 @@ module _ (s : Forest) (b : Batch) (x : FullNodeId) where
   naming_named =
       named_is ∙ mark_test (mine s b x and has same_node (named_ids b.nodes) x.node) (position same_node (named_ids b.nodes) x.node)
 
-  pub naming_none : naming_mark s b x ≡ 0 → naming s b x ≡ none
+  pub naming_none : naming_mark s b x ≡ 0 → naming s b x ≡ None
   unfolding named
   naming_none e = none_of (naming s b x) (ap not (naming_named ∙ ap (ltb 0) e))
 
   -- a number that stands among the children of listed node i, and of none before it, is named by it
   namer_at : (ls : List Listed) (i : ℕ) → i < length ls → length (named_ids (take i ls)) ≤ position same_node (named_ids ls) x.node
       → position same_node (named_ids ls) x.node < length (named_ids (take (suc i) ls))
-      → namer ls ≡ some (record { parent = here s b (get_or ls i no_listed).id; index = position same_node (named_ids ls) x.node - length (named_ids (take i ls)) })
+      → namer ls ≡ Some (record { parent = here s b (get_or ls i no_listed).id; index = position same_node (named_ids ls) x.node - length (named_ids (take i ls)) })
   unfolding named_ids
   namer_at [] i h l m = absurd (omega arith)
   namer_at (k ∷ ks) zero h l m =
@@ -176,7 +175,7 @@ module _ (s : Forest) (b : Batch) (x : FullNodeId) where
   -- the link of a node that is first named at entry j, which is among the children of listed node i
   pub naming_link : (j i : ℕ) → naming_mark s b x ≡ suc j → i < length b.nodes → length (named_ids (take i b.nodes)) ≤ j
       → j < length (named_ids (take (i + 1) b.nodes))
-      → naming s b x ≡ some (record { parent = here s b (listed_at b i).id; index = j - length (named_ids (take i b.nodes)) })
+      → naming s b x ≡ Some (record { parent = here s b (listed_at b i).id; index = j - length (named_ids (take i b.nodes)) })
   unfolding naming_mark naming listed_at
   naming_link j i e h l m =
       let is = mark_is (mine s b x and has same_node (named_ids b.nodes) x.node) (position same_node (named_ids b.nodes) x.node) j e in

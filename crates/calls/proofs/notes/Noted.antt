@@ -1,4 +1,5 @@
 -- Laws of what functions answer by the notes alone, and what it means for a state and a batch of which the notes tell. Assumes nothing.
+use Rattle.std.specs.Prelude.{None, Some}
 use mathlib.Core.Bool.{false}
 use mathlib.Core.List.{List}
 use mathlib.Core.Path.{◌≡◌, sym, ap₂}
@@ -13,7 +14,6 @@ use Rattle.ids.specs.declared.FullNodeId.{FullNodeId}
 use Rattle.record_reader.specs.Reader.{listed_at}
 use Rattle.state_array.specs.View.{id_in}
 use Rattle.update.specs.Words.{here}
-use Rattle.state_focus.specs.declared.FoundNode.TheVariants as node
 use Rattle.calls.specs.Layout.{LISTED, LISTED_SLOTS, TURNS, ABOVE, FATES, DIFFERS}
 use Rattle.calls.specs.declared.notes.Scope.{Scope}
 use Rattle.calls.specs.Setting.{asked, forest}
@@ -63,12 +63,12 @@ module _ (notes : List ℕ) (i : ℕ) where
 
 module _ (notes : List ℕ) (at : ℕ) (p : FullNodeId) where
   -- a parent that is not listed
-  pub parent_none : get_or notes (TURNS + get_or notes (ABOVE + at) 0) 0 ≡ 0 → node.Nothing ≡ parent_noted notes at p
+  pub parent_none : get_or notes (TURNS + get_or notes (ABOVE + at) 0) 0 ≡ 0 → None ≡ parent_noted notes at p
   unfolding parent_noted
   parent_none h = rw (eq-eqb _ 0 h)
 
   -- one that is
-  pub parent_some : (get_or notes (TURNS + get_or notes (ABOVE + at) 0) 0 ≡ 0 → ⊥) → node.At p ≡ parent_noted notes at p
+  pub parent_some : (get_or notes (TURNS + get_or notes (ABOVE + at) 0) 0 ≡ 0 → ⊥) → Some p ≡ parent_noted notes at p
   unfolding parent_noted
   parent_some h = rw (ne_eqb _ 0 h)
 

@@ -1,14 +1,13 @@
 -- Laws of slots: the forest that columns show, and what the slot of an id says. Assumes nothing.
 use mathlib.Core.Bool.{true}
 use mathlib.Core.List.{List, [], ◌∷◌}
-use mathlib.Core.Option.{none, some}
 use mathlib.Core.Path.{◌≡◌, refl, sym, ap, ◌∙◌}
 use Prim.Native.Nat.{ℕ, zero, suc, ◌<◌}
 use native.Mathlib.Omega.{arith}
 use lib.Dec.{ltb}
 use lib.ListN.{length, get_or, length-map, get_or-map}
 use borrow.Author.Tests.{lt-ltb}
-use Rattle.std.specs.Prelude.{if◌then◌else◌}
+use Rattle.std.specs.Prelude.{if◌then◌else◌, None, Some}
 use Rattle.base.specs.Tests.{is_some, position}
 use Rattle.base.specs.Search.{First}
 use Rattle.base.proofs.Cases.{by_test, by_order}
@@ -32,7 +31,7 @@ use Rattle.calls.proofs.notes.Positions.{first_unique, first_cong, position_firs
 -- ## Lists of nodes
 
 -- the node found is the one at its position
-find_position : (ns : List NodeState) (x : FullNodeId) → find x ns ≡ (if ltb (position same_id (ids_of ns) x) (length ns) then some (get_or ns (position same_id (ids_of ns) x) no_state) else none)
+find_position : (ns : List NodeState) (x : FullNodeId) → find x ns ≡ (if ltb (position same_id (ids_of ns) x) (length ns) then Some (get_or ns (position same_id (ids_of ns) x) no_state) else None)
 unfolding find ids_of
 find_position [] x = refl
 find_position (n ∷ ns) x =
@@ -54,10 +53,10 @@ module _ (s : Forest) (x : FullNodeId) where
   slot_search r h = first_unique (λ i. same_id x (id_at s i)) (length s.nodes) r (slot_at s x) h slot_first
 
   -- the node found
-  pub slot_found : find x s.nodes ≡ (if ltb (slot_at s x) (length s.nodes) then some (node_at s (slot_at s x)) else none)
+  pub slot_found : find x s.nodes ≡ (if ltb (slot_at s x) (length s.nodes) then Some (node_at s (slot_at s x)) else None)
   slot_found = find_position s.nodes x
 
-  pub slot_find : slot_at s x < length s.nodes → find x s.nodes ≡ some (node_at s (slot_at s x))
+  pub slot_find : slot_at s x < length s.nodes → find x s.nodes ≡ Some (node_at s (slot_at s x))
   slot_find h = slot_found ∙ rw (lt-ltb (slot_at s x) (length s.nodes) h)
 
   -- a node is present if it has a slot
@@ -88,8 +87,8 @@ module _ (s : Forest) (up : ascending s.nodes ≡ true) (i : ℕ) (h : i < lengt
       pair (n ∷ ns) e (suc k) (suc j) l m = pair ns (both e).1 k j (omega arith) (omega arith)
 
   -- so the node in a slot is found by its id
-  pub find_at : find (id_at s i) s.nodes ≡ some (node_at s i)
-  find_at = slot_find s (id_at s i) (rw slot_self h) ∙ ap (λ j. some (node_at s j)) slot_self
+  pub find_at : find (id_at s i) s.nodes ≡ Some (node_at s i)
+  find_at = slot_find s (id_at s i) (rw slot_self h) ∙ ap (λ j. Some (node_at s j)) slot_self
 
 -- an id that stands in a slot is present
 pub present_at : (s : Forest) (i : ℕ) → i < length s.nodes → present s.nodes (id_at s i) ≡ true

@@ -1,6 +1,5 @@
 -- Laws of causes: their numbers, the first row that holds, and the nodes that name a child by its entries. Assumes nothing.
 use mathlib.Core.List.{List, [], ◌∷◌, ◌++◌, map}
-use mathlib.Core.Option.{Option, none, some}
 use mathlib.Core.Path.{◌≡◌, refl, sym, ap, ◌∙◌}
 use Prim.Native.Nat.{ℕ, zero, suc, ◌+◌, ◌≤◌, ◌<◌}
 use native.Mathlib.Nat.{zero-add, add-zero}
@@ -8,10 +7,10 @@ use native.Mathlib.Omega.{arith}
 use lib.Dec.{ltb}
 use lib.ListN.{length, get_or, length-map, get_or-map}
 use borrow.Author.Tests.{lt-ltb, le-ltb}
-use Rattle.std.specs.Prelude.{if◌then◌else◌}
+use Rattle.std.specs.Prelude.{if◌then◌else◌, Option, None, Some, option_map}
 use Rattle.base.specs.Tests.{first_given}
 use Rattle.base.specs.Search.{First}
-use Rattle.base.proofs.Cases.{by_test, by_option}
+use Rattle.base.proofs.Cases.{by_test}
 use Rattle.base.proofs.Search.{first_later, ltb_suc}
 use Rattle.ids.specs.declared.NodeId.{NodeId}
 use Rattle.record.specs.Batch.{Listed, Batch, named_ids}
@@ -26,7 +25,7 @@ use Rattle.reasons_calls.specs.Explain.{or_accepted}
 use Rattle.reasons_calls.proofs.Numbers.{told_none, told_row, told_found, tells_number, pass_tells, placeless_some, placeless_number, nowhere_some, nowhere_number}
 use Rattle.calls.proofs.notes.Positions.{first_cong, first_given_at}
 use Rattle.calls.specs.declared.pass.Cause.{Cause}
-use Rattle.calls.specs.declared.pass.Cause.TheVariants.{Nothing, NamedTwice, GraftOverChildren, GraftOfRoot, ClaimedTwice, WithoutPlace, ChildNowhere}
+use Rattle.calls.specs.declared.pass.Cause.TheVariants.{NamedTwice, GraftOverChildren, GraftOfRoot, ClaimedTwice, WithoutPlace, ChildNowhere}
 use Rattle.calls.specs.Causes.{Entry, entries, no_entry, cause_reason, cause_number, Within, Explains}
 use Rattle.calls.specs.Pass.{pass_number, row_reason}
 
@@ -34,9 +33,8 @@ use Rattle.calls.specs.Pass.{pass_number, row_reason}
 
 module _ (s : Forest) (b : Batch) where
   -- of a cause's reason
-  cause_number_lem : (r : Cause) → number_of (or_accepted (cause_reason s b r)) ≡ cause_number r
-  unfolding cause_reason or_accepted number_of cause_number
-  cause_number_lem Nothing = refl
+  cause_number_lem : (r : Cause) → number_of (cause_reason s b r) ≡ cause_number r
+  unfolding cause_reason number_of cause_number
   cause_number_lem (NamedTwice j) = refl
   cause_number_lem (GraftOverChildren i) = refl
   cause_number_lem (GraftOfRoot i) = refl
@@ -53,9 +51,15 @@ module _ (s : Forest) (b : Batch) where
       (told_row (placeless_from s b 0 b.nodes) 13 (omega arith) (placeless_some s b 0 b.nodes) (placeless_number s b 0 b.nodes)
       (told_row (nowhere_fault s b) 14 (omega arith) (nowhere_some s b b.nodes) (nowhere_number s b) told_none))).tells
 
--- a cause that explains the rows has their number
-pub explains_number : {s : Forest} {b : Batch} {r : Cause} → Explains s b (row_reason s b) r → cause_number r ≡ pass_number s b
-explains_number {s} {b} {r} e = sym (cause_number_lem s b r) ∙ ap (λ o. number_of (or_accepted o)) (sym e.is) ∙ rows_number s b
+-- a cause that explains the rows has their number; without one it is 0
+pub explains_number : {s : Forest} {b : Batch} {o : Option Cause} {r : Cause} → Explains s b (row_reason s b) o → o ≡ Some r → cause_number r ≡ pass_number s b
+unfolding or_accepted
+explains_number {s} {b} {r = r} e q =
+    sym (cause_number_lem s b r) ∙ ap (λ o. number_of (or_accepted (option_map (cause_reason s b) o))) (sym q) ∙ ap (λ o. number_of (or_accepted o)) (sym e.is) ∙ rows_number s b
+
+pub explains_zero : {s : Forest} {b : Batch} {o : Option Cause} → Explains s b (row_reason s b) o → o ≡ None → 0 ≡ pass_number s b
+unfolding or_accepted number_of
+explains_zero {s} {b} e q = ap (λ o. number_of (or_accepted (option_map (cause_reason s b) o))) (sym q) ∙ ap (λ o. number_of (or_accepted o)) (sym e.is) ∙ rows_number s b
 
 -- ## Entries
 
@@ -81,20 +85,9 @@ entry_child ls j = sym (get_or-map (λ (e : Entry). e.child) (entries ls) j no_e
 
 -- ## The first row that holds
 
--- a cause without a number is none
-cause_none : (s : Forest) (b : Batch) (r : Cause) → cause_number r ≡ 0 → cause_reason s b r ≡ none
-unfolding cause_reason cause_number
-cause_none s b Nothing e = refl
-cause_none s b (NamedTwice j) e = absurd (omega arith)
-cause_none s b (GraftOverChildren i) e = absurd (omega arith)
-cause_none s b (GraftOfRoot i) e = absurd (omega arith)
-cause_none s b (ClaimedTwice i m) e = absurd (omega arith)
-cause_none s b (WithoutPlace i) e = absurd (omega arith)
-cause_none s b (ChildNowhere j) e = absurd (omega arith)
-
 -- listed nodes left without a place, from place i on
 placeless_first : (s : Forest) (b : Batch) (i : ℕ) (ls : List Listed) (r : ℕ) → First (λ m. placeless s b (get_or ls m no_listed)) (length ls) r
-    → placeless_from s b i ls ≡ (if ltb r (length ls) then some (without_place (here s b (get_or ls r no_listed).id) (i + r)) else none)
+    → placeless_from s b i ls ≡ (if ltb r (length ls) then Some (without_place (here s b (get_or ls r no_listed).id) (i + r)) else None)
 unfolding placeless_from
 placeless_first s b i [] r h = rw (le-ltb r 0 (omega arith))
 placeless_first s b i (l ∷ ls) zero h = rw (h.hit (omega arith), lt-ltb 0 (suc (length ls)) (omega arith), add-zero)
@@ -105,7 +98,7 @@ placeless_first s b i (l ∷ ls) (suc r) h =
 
 module _ (s : Forest) (b : Batch) where
   abbrev nowhere_in : Entry → Option Reason
-  nowhere_in e = if nowhere s b e.child then some (child_nowhere (here s b e.by) (here s b e.child)) else none
+  nowhere_in e = if nowhere s b e.child then Some (child_nowhere (here s b e.by) (here s b e.child)) else None
 
   -- children that are nowhere, by their entries
   nowhere_are : (ls : List Listed) → first_given (nowhere_under s b) ls ≡ first_given nowhere_in (entries ls)
@@ -117,7 +110,7 @@ module _ (s : Forest) (b : Batch) where
       later = first_given (nowhere_under s b) ls
 
       own : (cs : List NodeId) → later ≡ first_given nowhere_in (entries ls)
-          → ◌≡◌ {A = Option Reason} (elim (first_given (λ c. if nowhere s b c then some (child_nowhere (here s b l.id) (here s b c)) else none) cs) [ none ↦ later | some y ↦ some y ])
+          → ◌≡◌ {A = Option Reason} (elim (first_given (λ c. if nowhere s b c then Some (child_nowhere (here s b l.id) (here s b c)) else None) cs) [ None ↦ later | Some y ↦ Some y ])
           (first_given nowhere_in (map (entry_of l) cs ++ entries ls))
       own [] h = h
       own (c ∷ cs) h = by_test (nowhere s b c) (λ t. rw (t, first_given)) (λ t. rw (t, first_given) (own cs h))
@@ -125,7 +118,7 @@ module _ (s : Forest) (b : Batch) where
   nowhere_first_entry : (r : ℕ) → First (λ m. nowhere s b (get_or (named_ids b.nodes) m no_node)) (length (named_ids b.nodes)) r
       → nowhere_fault s b
       ≡ (if ltb r (length (named_ids b.nodes))
-      then some (child_nowhere (here s b (get_or (entries b.nodes) r no_entry).by) (here s b (get_or (named_ids b.nodes) r no_node))) else none)
+      then Some (child_nowhere (here s b (get_or (entries b.nodes) r no_entry).by) (here s b (get_or (named_ids b.nodes) r no_node))) else None)
   unfolding nowhere_fault
   nowhere_first_entry r f =
       let es = entries b.nodes in
@@ -136,38 +129,35 @@ module _ (s : Forest) (b : Batch) where
       ∙ rw (entries_length b.nodes, entry_child b.nodes r)
 
 -- the rows in their order, as the code asks them
-module _ {s : Forest} {b : Batch} {met : Cause} (e : Explains s b (pass_fault s b) met) {n : ℕ} (number : n ≡ cause_number met) where
+module _ {s : Forest} {b : Batch} {o : Option Cause} (e : Explains s b (pass_fault s b) o) where
   -- one of 9 to 12
-  pub row_met : (n ≡ 0 → ⊥) → Explains s b (row_reason s b) met
-  unfolding or_accepted number_of
-  row_met Some-number = record {
-    within = e.within;
-    is = by_option (pass_fault s b)
-        (λ q. absurd (Some-number (number ∙ sym (cause_number_lem s b met) ∙ ap (λ o. number_of (or_accepted o)) (sym e.is ∙ q))))
-        (λ x q. rw (q, first_given) (sym q ∙ e.is));
+  pub row_met : {met : Cause} → o ≡ Some met → Explains s b (row_reason s b) (Some met)
+  row_met {met} q = record {
+    within = rw q at e.within;
+    is = let found : pass_fault s b ≡ Some (cause_reason s b met) = e.is ∙ ap (option_map (cause_reason s b)) q in rw (found, first_given);
   }
 
-  module _ (zero_number : n ≡ 0) {k i : ℕ} (count : k ≡ length b.nodes) (f : First (λ m. placeless s b (listed_at b m)) k i) where
-    none_met : pass_fault s b ≡ none
-    none_met = e.is ∙ cause_none s b met (sym number ∙ zero_number)
+  module _ (none : o ≡ None) {k i : ℕ} (count : k ≡ length b.nodes) (f : First (λ m. placeless s b (listed_at b m)) k i) where
+    none_met : pass_fault s b ≡ None
+    none_met = e.is ∙ ap (option_map (cause_reason s b)) none
 
-    first_placeless : placeless_from s b 0 b.nodes ≡ (if ltb i (length b.nodes) then some (without_place (here s b (listed_at b i).id) i) else none)
+    first_placeless : placeless_from s b 0 b.nodes ≡ (if ltb i (length b.nodes) then Some (without_place (here s b (listed_at b i).id) i) else None)
     unfolding listed_at
     first_placeless = placeless_first s b 0 b.nodes i (rw count at f) ∙ rw zero-add
 
     -- 13
-    pub row_placeless : i < k → Explains s b (row_reason s b) (WithoutPlace i)
+    pub row_placeless : i < k → Explains s b (row_reason s b) (Some (WithoutPlace i))
     unfolding Within cause_reason
     row_placeless h =
         let inside : i < length b.nodes = omega arith in
         record { within = inside; is = rw (none_met, first_given, first_placeless, lt-ltb i (length b.nodes) inside) }
 
     module _ (past : k ≤ i) {m j : ℕ} (named : m ≡ length (named_ids b.nodes)) (g : First (λ m. nowhere s b (get_or (named_ids b.nodes) m no_node)) m j) where
-      none_placeless : placeless_from s b 0 b.nodes ≡ none
+      none_placeless : placeless_from s b 0 b.nodes ≡ None
       none_placeless = first_placeless ∙ rw (le-ltb i (length b.nodes) (omega arith))
 
       -- 14
-      pub row_nowhere : j < m → Explains s b (row_reason s b) (ChildNowhere j)
+      pub row_nowhere : j < m → Explains s b (row_reason s b) (Some (ChildNowhere j))
       unfolding Within cause_reason
       row_nowhere h =
           let inside : j < length (named_ids b.nodes) = omega arith in
@@ -177,8 +167,7 @@ module _ {s : Forest} {b : Batch} {met : Cause} (e : Explains s b (pass_fault s 
           }
 
       -- none
-      pub row_none : m ≤ j → Explains s b (row_reason s b) Nothing
-      unfolding Within cause_reason
+      pub row_none : m ≤ j → Explains s b (row_reason s b) None
       row_none h = record {
         within = tt;
         is = rw (none_met, first_given, none_placeless, first_given, nowhere_first_entry s b j (rw named at g), le-ltb j (length (named_ids b.nodes)) (omega arith));

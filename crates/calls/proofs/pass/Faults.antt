@@ -1,7 +1,7 @@
 -- Laws of what the pass meets: at a child that is named, and at a node that is placed. Assumes nothing.
 use mathlib.Core.Bool.{Bool, true, false, not, ◌||◌, false≢true, true≢false}
 use mathlib.Core.List.{List, [], ◌∷◌}
-use mathlib.Core.Option.{none, some, none-ne-some}
+use Rattle.std.proofs.lemmas.Option.{none-some}
 use mathlib.Core.Path.{◌≡◌, refl, sym, ap, ◌∙◌, ap₂}
 use Prim.Native.Nat.{ℕ, zero, suc, ◌+◌, ◌≤◌, ◌<◌}
 use native.Mathlib.Numerals.{add-one}
@@ -9,13 +9,13 @@ use native.Mathlib.Omega.{arith}
 use lib.Dec.{eqb, ltb}
 use lib.ListN.{length, get_or, take, set}
 use lib.Seq.{take-suc, get_or-set_same, get_or-set_other}
-use borrow.Author.Tests.{eqb-true, eqb-false, lt-ltb, le-ltb, eq-eqb, ne_eqb}
-use Rattle.std.specs.Prelude.{if◌then◌else◌}
+use borrow.Author.Tests.{eqb-true, eqb-false, lt-ltb, eq-eqb, ne_eqb}
+use Rattle.std.specs.Prelude.{if◌then◌else◌, None, Some, option_map}
 use Rattle.base.specs.Tests.{◌and◌, is_some, same_option, has, is_nil}
 use Rattle.base.proofs.Tests.{and_false}
 use Rattle.base.proofs.Lists.{any_append, none_of}
 use Rattle.base.specs.Search.{First}
-use Rattle.base.proofs.Loops.{Passing, passing_hit, passing_ends}
+use Rattle.base.proofs.Search.{first_here, first_end}
 use Rattle.base.proofs.Cases.{by_test}
 use Rattle.ids.specs.Ids.{same_tree, same_node, ROOT}
 use Rattle.ids.proofs.Ids.{same_tree→≡}
@@ -36,8 +36,8 @@ use Rattle.calls.specs.declared.notes.Scope.{Scope}
 use Rattle.calls.specs.Setting.{asked, forest}
 use Rattle.calls.specs.Says.{Told, READ}
 use Rattle.calls.specs.declared.pass.Cause.{Cause}
-use Rattle.calls.specs.declared.pass.Cause.TheVariants.{Nothing, GraftOverChildren, GraftOfRoot, ClaimedTwice}
-use Rattle.calls.specs.Causes.{cause_reason, cause_number, Within}
+use Rattle.calls.specs.declared.pass.Cause.TheVariants.{GraftOverChildren, GraftOfRoot, ClaimedTwice}
+use Rattle.calls.specs.Causes.{cause_reason, Within}
 use Rattle.calls.specs.Steps.{seen, is_taken, placing, Claimed, GoesOn, PlacedIs}
 use mathlib.Core.Bool as bool
 use Rattle.calls.proofs.notes.Setting.{batched_at}
@@ -73,20 +73,15 @@ module _ (b : Batch) (i : ℕ) where
   unfolding placing
   placing_here h = rw (lt-ltb i (length b.nodes) h)
 
-  -- past the last
-  pub placing_past : length b.nodes ≤ i → placing b i ≡ []
-  unfolding placing
-  placing_past h = rw (le-ltb i (length b.nodes) h)
-
 -- ## The trees that are claimed
 
 -- a claim is the node's graft
-pub claim_given : (s : Forest) (b : Batch) (l : Listed) → is_some (claim s b l) ≡ true → claim s b l ≡ some l.body.graft
+pub claim_given : (s : Forest) (b : Batch) (l : Listed) → is_some (claim s b l) ≡ true → claim s b l ≡ Some l.body.graft
 unfolding claim graft?
 claim_given s b l e = go (same_option same_tree (graft? l.body) (graft_at s.nodes (here s b l.id))) (has_graft l.body) e
   where
-    go : (c d : Bool) → is_some (if c then none else (if d then some l.body.graft else none)) ≡ true
-        → (if c then none else (if d then some l.body.graft else none)) ≡ some l.body.graft
+    go : (c d : Bool) → is_some (if c then None else (if d then Some l.body.graft else None)) ≡ true
+        → (if c then None else (if d then Some l.body.graft else None)) ≡ Some l.body.graft
     go true d e = absurd (false≢true e)
     go false true e = refl
     go false false e = absurd (false≢true e)
@@ -137,8 +132,8 @@ module _ {s : Forest} {b : Batch} {notes done : List ℕ} {placed : List Listed}
           (λ q. taken_other b notes done i t m (eqb-false m i q))
 
   -- it is the first to claim a tree
-  claimed_more : (t : TreeId) → i < length b.nodes → i < length done → eqb (get_or notes (CLAIMS + i) 0) 1 ≡ true → claim s b (listed_at b i) ≡ some t
-      → (listed_at b i).body.graft ≡ t → claimer_among s b placed t ≡ none → Claimed s b notes (set done i 1) (listed_at b i ∷ placed)
+  claimed_more : (t : TreeId) → i < length b.nodes → i < length done → eqb (get_or notes (CLAIMS + i) 0) 1 ≡ true → claim s b (listed_at b i) ≡ Some t
+      → (listed_at b i).body.graft ≡ t → claimer_among s b placed t ≡ None → Claimed s b notes (set done i 1) (listed_at b i ∷ placed)
   claimed_more t h k e c g first = record { free = free; held = held }
     where
       self : (x : TreeId) → is_taken b notes (set done i 1) x i ≡ same_tree t x
@@ -147,33 +142,33 @@ module _ {s : Forest} {b : Batch} {notes done : List ℕ} {placed : List Listed}
       others : (x : TreeId) → same_tree t x ≡ false → claimer_among s b (listed_at b i ∷ placed) x ≡ claimer_among s b placed x
       others x q = claimer_before s b placed (listed_at b i) x (rw c q)
 
-      free : (x : TreeId) → ((m : ℕ) → m < length b.nodes → is_taken b notes (set done i 1) x m ≡ false) → claimer_among s b (listed_at b i ∷ placed) x ≡ none
+      free : (x : TreeId) → ((m : ℕ) → m < length b.nodes → is_taken b notes (set done i 1) x m ≡ false) → claimer_among s b (listed_at b i ∷ placed) x ≡ None
       free x f =
           let apart = sym (self x) ∙ f i h in
           others x apart ∙ before.free x (λ m l. by_test (eqb m i)
           (λ q. let n : m ≡ i = eqb-true m i q in taken_apart b notes done i x done m (rw (n, g) apart))
           (λ q. sym (taken_other b notes done i x m (eqb-false m i q)) ∙ f m l))
 
-      held : (x : TreeId) (m : ℕ) → m < length b.nodes → is_taken b notes (set done i 1) x m ≡ true → claimer_among s b (listed_at b i ∷ placed) x ≡ some (listed_at b m)
+      held : (x : TreeId) (m : ℕ) → m < length b.nodes → is_taken b notes (set done i 1) x m ≡ true → claimer_among s b (listed_at b i ∷ placed) x ≡ Some (listed_at b m)
       held x m l v =
           by_test (eqb m i)
           (λ q. let n : m ≡ i = eqb-true m i q in
-          claimer_last s b placed (listed_at b i) x (rw c (sym (self x) ∙ rw n at v)) ∙ ap (λ y. some (listed_at b y)) (sym n))
+          claimer_last s b placed (listed_at b i) x (rw c (sym (self x) ∙ rw n at v)) ∙ ap (λ y. Some (listed_at b y)) (sym n))
           (λ q. let was = sym (taken_other b notes done i x m (eqb-false m i q)) ∙ v in
           by_test (same_tree t x)
-          (λ y. absurd (none-ne-some (listed_at b m) (sym first ∙ ap (claimer_among s b placed) (same_tree→≡ t x y) ∙ before.held x m l was)))
+          (λ y. absurd (none-some (listed_at b m) (sym first ∙ ap (claimer_among s b placed) (same_tree→≡ t x y) ∙ before.held x m l was)))
           (λ y. others x y ∙ before.held x m l was))
 
 -- the search for it, as the code makes it
 module _ {state bytes : List ℕ} {c : Scope} {notes : List ℕ} {i : ℕ} (told : Told READ state bytes c notes) (done : List ℕ) (t : TreeId)
-    (g : Passing (is_taken (batch_of bytes) notes done t) c.listed i) where
+    (none_passed : (m : ℕ) → m < i → is_taken (batch_of bytes) notes done t m ≡ false) where
   pub claimer_found : {r : Bool} → i < c.listed → r ≡ is_taken (batch_of bytes) notes done t i → r ≡ true → First (is_taken (asked bytes c) notes done t) c.listed i
   unfolding is_taken listed_at asked
-  claimer_found h e q = passing_hit g h (sym e ∙ q)
+  claimer_found h e q = first_here _ c.listed i none_passed h (sym e ∙ q)
 
   pub claimer_none : c.listed ≤ i → First (is_taken (asked bytes c) notes done t) c.listed c.listed
   unfolding is_taken listed_at asked
-  claimer_none h = passing_ends g h
+  claimer_none h = first_end _ c.listed i none_passed h
 
 -- a graft node with children, as the code asks it
 crowded_is : (d : NodeData) {g v : Bool} {n : ℕ} → g ≡ is_some (graft? d) → n ≡ length d.children → bool.◌&&◌ g (ltb 0 n) ≡ v → crowded d ≡ v
@@ -206,19 +201,8 @@ module _ {state bytes : List ℕ} {c : Scope} {notes : List ℕ} {i : ℕ} (told
   -- no row holds, and the pass goes on
   goes_on : (done : List ℕ)
       → ((placed : List Listed) → i < length done → Claimed (forest state) (asked bytes c) notes done placed → GoesOn (forest state) (asked bytes c) notes done i placed)
-      → PlacedIs (forest state) (asked bytes c) notes done i Nothing
-  unfolding Within cause_number
-  goes_on done f = record { within = tt; goes = λ _ k placed. f placed k; meets = λ z. absurd (z refl) }
-
-  -- nothing is placed
-  pub placed_past : {done : List ℕ} → c.listed ≤ i → PlacedIs (forest state) (asked bytes c) notes done i Nothing
-  placed_past {done} h =
-      let past : length (asked bytes c).nodes ≤ i = omega (arith, told.given.scoped.listed) in
-      goes_on done (λ placed _ before. record {
-        after = placed;
-        claimed_after = claimed_still before i placed (λ m n e. absurd (omega arith)) (λ t. refl);
-        left = λ seen es. rw (placing_past (asked bytes c) i past);
-      })
+      → PlacedIs (forest state) (asked bytes c) notes done i None
+  goes_on done f = record { within = tt; goes = λ _ k placed. f placed k; meets = λ met q. absurd (none-some met q) }
 
   -- a listed node, as the record says whether it is a graft node and how many children it has
   module _ (h : i < c.listed) {g : Bool} {n : ℕ} (grafts : g ≡ is_some (graft? (listed_at (batch_of bytes) i).body))
@@ -233,28 +217,28 @@ module _ {state bytes : List ℕ} {c : Scope} {notes : List ℕ} {i : ℕ} (told
     crowded_at e = rw same_node_lem at (crowded_is (listed_at (batch_of bytes) i).body grafts count e)
 
     -- a row holds
-    stops : {done : List ℕ} (r : Cause) (x : Reason) → Within (asked bytes c) r → (cause_number r ≡ 0 → ⊥) → cause_reason (forest state) (asked bytes c) r ≡ some x
-        → ((placed : List Listed) → Claimed (forest state) (asked bytes c) notes done placed → reasons.placing (forest state) (asked bytes c) placed (listed_at (asked bytes c) i) ≡ some x)
-        → PlacedIs (forest state) (asked bytes c) notes done i r
-    stops r x inside real is e = record {
+    stops : {done : List ℕ} (r : Cause) (x : Reason) → Within (asked bytes c) r → cause_reason (forest state) (asked bytes c) r ≡ x
+        → ((placed : List Listed) → Claimed (forest state) (asked bytes c) notes done placed → reasons.placing (forest state) (asked bytes c) placed (listed_at (asked bytes c) i) ≡ Some x)
+        → PlacedIs (forest state) (asked bytes c) notes done i (Some r)
+    stops r x inside is e = record {
       within = inside;
-      goes = λ z. absurd (real z);
-      meets = λ _ placed before seen es. rw (placing_here (asked bytes c) i is_here)
-          (places_stops (forest state) (asked bytes c) seen placed es (listed_at (asked bytes c) i) x (e placed before) ∙ sym is);
+      goes = λ z. absurd (none-some r (sym z));
+      meets = λ met q placed before seen es. rw (placing_here (asked bytes c) i is_here)
+          (places_stops (forest state) (asked bytes c) seen placed es (listed_at (asked bytes c) i) x (e placed before) ∙ ap Some (sym is) ∙ ap (option_map (cause_reason (forest state) (asked bytes c))) q);
     }
 
     -- row 10
-    pub placed_crowded : {done : List ℕ} → bool.◌&&◌ g (ltb 0 n) ≡ true → PlacedIs (forest state) (asked bytes c) notes done i (GraftOverChildren i)
-    unfolding Within cause_reason cause_number
+    pub placed_crowded : {done : List ℕ} → bool.◌&&◌ g (ltb 0 n) ≡ true → PlacedIs (forest state) (asked bytes c) notes done i (Some (GraftOverChildren i))
+    unfolding Within cause_reason
     placed_crowded e =
-        stops (GraftOverChildren i) _ is_here (λ z. omega arith) refl (λ placed before. placing_crowded (forest state) (asked bytes c) placed (listed_at (asked bytes c) i) (crowded_at e))
+        stops (GraftOverChildren i) _ is_here refl (λ placed before. placing_crowded (forest state) (asked bytes c) placed (listed_at (asked bytes c) i) (crowded_at e))
 
     module _ (few : bool.◌&&◌ g (ltb 0 n) ≡ false) where
       -- none does
       goes_here : {done : List ℕ}
           → ((placed : List Listed) → i < length done → Claimed (forest state) (asked bytes c) notes done placed
-          → Claimed (forest state) (asked bytes c) notes (set done i 1) (listed_at (asked bytes c) i ∷ placed) × (reasons.placing (forest state) (asked bytes c) placed (listed_at (asked bytes c) i) ≡ none))
-          → PlacedIs (forest state) (asked bytes c) notes done i Nothing
+          → Claimed (forest state) (asked bytes c) notes (set done i 1) (listed_at (asked bytes c) i ∷ placed) × (reasons.placing (forest state) (asked bytes c) placed (listed_at (asked bytes c) i) ≡ None))
+          → PlacedIs (forest state) (asked bytes c) notes done i None
       goes_here {done} f = goes_on done (λ placed k before. record {
         after = listed_at (asked bytes c) i ∷ placed;
         claimed_after = (f placed k before).0;
@@ -263,7 +247,7 @@ module _ {state bytes : List ℕ} {c : Scope} {notes : List ℕ} {i : ℕ} (told
       })
 
       -- a node without a claim
-      pub placed_claimless : {done : List ℕ} → (get_or notes (CLAIMS + i) 0 ≡ 1 → ⊥) → PlacedIs (forest state) (asked bytes c) notes done i Nothing
+      pub placed_claimless : {done : List ℕ} → (get_or notes (CLAIMS + i) 0 ≡ 1 → ⊥) → PlacedIs (forest state) (asked bytes c) notes done i None
       placed_claimless e =
           let none-claimed = ne_eqb (get_or notes (CLAIMS + i) 0) 1 e in
           let l = listed_at (asked bytes c) i in
@@ -279,29 +263,29 @@ module _ {state bytes : List ℕ} {c : Scope} {notes : List ℕ} {i : ℕ} (told
         graft_at_lem : (listed_at (asked bytes c) i).body.graft ≡ t
         graft_at_lem = sym (rw same_node_lem at graft)
 
-        claims_graft : claim (forest state) (asked bytes c) (listed_at (asked bytes c) i) ≡ some t
+        claims_graft : claim (forest state) (asked bytes c) (listed_at (asked bytes c) i) ≡ Some t
         claims_graft =
-            claim_given (forest state) (asked bytes c) (listed_at (asked bytes c) i) (sym (claim_listed told i h) ∙ eq-eqb _ _ claims) ∙ ap some graft_at_lem
+            claim_given (forest state) (asked bytes c) (listed_at (asked bytes c) i) (sym (claim_listed told i h) ∙ eq-eqb _ _ claims) ∙ ap Some graft_at_lem
 
         -- row 11
-        pub placed_root : {done : List ℕ} → r ≡ true → PlacedIs (forest state) (asked bytes c) notes done i (GraftOfRoot i)
-        unfolding Within cause_reason cause_number
+        pub placed_root : {done : List ℕ} → r ≡ true → PlacedIs (forest state) (asked bytes c) notes done i (Some (GraftOfRoot i))
+        unfolding Within cause_reason
         placed_root e =
-            stops (GraftOfRoot i) _ is_here (λ z. omega arith) refl
+            stops (GraftOfRoot i) _ is_here refl
             (λ placed before. placing_root (forest state) (asked bytes c) placed (listed_at (asked bytes c) i) (crowded_at few) claims_graft (sym root ∙ e))
 
         module _ (other : r ≡ false) {done : List ℕ} {m : ℕ} (search : First (is_taken (asked bytes c) notes done t) c.listed m) where
           -- row 12
-          pub placed_claimed : m < c.listed → PlacedIs (forest state) (asked bytes c) notes done i (ClaimedTwice i m)
-          unfolding Within cause_reason cause_number
+          pub placed_claimed : m < c.listed → PlacedIs (forest state) (asked bytes c) notes done i (Some (ClaimedTwice i m))
+          unfolding Within cause_reason
           placed_claimed e =
               let there : m < length (asked bytes c).nodes = omega (arith, told.given.scoped.listed) in
-              stops (ClaimedTwice i m) _ (is_here, there) (λ z. omega arith) (rw graft_at_lem)
+              stops (ClaimedTwice i m) _ (is_here, there) (rw graft_at_lem)
               (λ placed before. placing_claimed (forest state) (asked bytes c) placed (listed_at (asked bytes c) i) (crowded_at few) claims_graft (sym root ∙ other)
               (listed_at (asked bytes c) m) (before.held t m there (search.hit e)))
 
           -- a node that claims a tree first
-          pub placed_claim : c.listed ≤ m → PlacedIs (forest state) (asked bytes c) notes done i Nothing
+          pub placed_claim : c.listed ≤ m → PlacedIs (forest state) (asked bytes c) notes done i None
           placed_claim e =
               goes_here (λ placed k before.
               let first = before.free t (λ j l. search.passed j (omega (arith, told.given.scoped.listed))) in (

@@ -5,7 +5,7 @@ use mathlib.Core.Path.{◌≡◌, sym, ap, ◌∙◌, refl}
 use Prim.Native.Nat.{ℕ, ◌+◌, ◌≤◌, ◌<◌, suc, ◌-◌}
 use native.Mathlib.Omega.{arith}
 use lib.ListN.{length, replicate, set, get_or-replicate, length-set, length-replicate, get_or, take, drop, take-append-drop, length-append, length-take, drop_of_length-le}
-use Rattle.std.specs.Prelude.{if◌then◌else◌}
+use Rattle.std.specs.Prelude.{if◌then◌else◌, Option, None, Some}
 use Rattle.base.specs.Tests.{◌and◌, has}
 use Rattle.base.proofs.Tests.{clash}
 use Rattle.ids.specs.declared.TreeId.{TreeId}
@@ -19,10 +19,9 @@ use Rattle.calls.specs.Says.{Told, READ}
 use Rattle.calls.proofs.notes.Told.{few_listed, few_named}
 use Rattle.calls.specs.declared.pass.Step.{Step}
 use Rattle.calls.specs.declared.pass.Cause.{Cause}
-use Rattle.calls.specs.declared.pass.Cause.TheVariants.{Nothing, NamedTwice}
-use Rattle.calls.specs.Causes.{cause_reason, cause_number, Within, Explains}
-use Rattle.calls.specs.Steps.{At, seen, rest, placing, Moves, is_taken, Claimed, PlacedIs, entries_before, rest_over, waits}
-use mathlib.Core.Option.{Option, none, some}
+use Rattle.calls.specs.declared.pass.Cause.TheVariants.{NamedTwice}
+use Rattle.calls.specs.Causes.{Within, Explains}
+use Rattle.calls.specs.Steps.{At, seen, rest, placing, placing_if, Moves, is_taken, Claimed, PlacedIs, entries_before, rest_over, waits}
 use native.Mathlib.Numerals.{add-one}
 use lib.Seq.{take-suc, drop-cons, take-append_seam}
 use Rattle.ids.specs.Ids.{same_node}
@@ -80,10 +79,10 @@ module _ (s : Forest) (b : Batch) where
       turn v false = refl
 
       on : (o : Option NodeData)
-          → (elim o as (λ _. List Event) [ none ↦ later | some d ↦ if placed_at_turn s b c then later else places (record { id = c; body = d }) ∷ later ])
-          ≡ (elim o as (λ _. List Event) [ none ↦ [] | some d ↦ if placed_at_turn s b c then [] else places (record { id = c; body = d }) ∷ [] ]) ++ later
-      on none = refl
-      on (some d) = turn (places (record { id = c; body = d })) (placed_at_turn s b c)
+          → (elim o as (λ _. List Event) [ None ↦ later | Some d ↦ if placed_at_turn s b c then later else places (record { id = c; body = d }) ∷ later ])
+          ≡ (elim o as (λ _. List Event) [ None ↦ [] | Some d ↦ if placed_at_turn s b c then [] else places (record { id = c; body = d }) ∷ [] ]) ++ later
+      on None = refl
+      on (Some d) = turn (places (record { id = c; body = d })) (placed_at_turn s b c)
 
   -- all of it, at the first child of the first node
   over_all : (earlier ls : List Listed) → rest_over s b earlier 0 ls ≡ events s b earlier ls
@@ -155,18 +154,19 @@ pub record Going (s : Forest) (b : Batch) (notes done : List ℕ) (i j : ℕ) : 
   pub placed : List Listed
   pub claimed : Claimed s b notes done placed
   pub left : pass_reason s b (seen (named_ids b.nodes) j) placed (rest s b i j) ≡ pass_fault s b
-  pub long : length done ≡ 65
+  pub few : length b.nodes ≤ 64
+  pub long : length done ≡ 64
 
 -- no node is done yet
-none_done : (s : Forest) (b : Batch) (notes : List ℕ) → length b.nodes ≤ 64 → Claimed s b notes (replicate 65 0) []
+none_done : (s : Forest) (b : Batch) (notes : List ℕ) → length b.nodes ≤ 64 → Claimed s b notes (replicate 64 0) []
 unfolding claimer_among
 none_done s b notes few = record { free = λ t f. refl; held = λ t m l e. absurd (clash (free t m l) e) }
   where
-    free : (t : TreeId) (m : ℕ) → m < length b.nodes → is_taken b notes (replicate 65 0) t m ≡ false
-    free t m l = unfold is_taken ◌and◌ in (rw (get_or-replicate {A = ℕ} 65 m 0 0 (omega arith)))
+    free : (t : TreeId) (m : ℕ) → m < length b.nodes → is_taken b notes (replicate 64 0) t m ≡ false
+    free t m l = unfold is_taken ◌and◌ in (rw (get_or-replicate {A = ℕ} 64 m 0 0 (omega arith)))
 
 -- at the first child entry
-pub begins : {state bytes : List ℕ} {c : Scope} {notes : List ℕ} → Told READ state bytes c notes → Going (forest state) (asked bytes c) notes (replicate 65 0) 0 0
+pub begins : {state bytes : List ℕ} {c : Scope} {notes : List ℕ} → Told READ state bytes c notes → Going (forest state) (asked bytes c) notes (replicate 64 0) 0 0
 unfolding named_ids seen pass_fault
 begins {state} {bytes} {c} {notes} told =
     let few : length (asked bytes c).nodes ≤ 64 = omega (arith, told.given.scoped.listed, few_listed state bytes c told.given) in
@@ -176,13 +176,14 @@ begins {state} {bytes} {c} {notes} told =
       placed = [];
       claimed = none_done (forest state) (asked bytes c) notes few;
       left = ap (pass_reason (forest state) (asked bytes c) [] []) (rest_all (forest state) (asked bytes c));
-      long = length-replicate {A = ℕ} 65 0;
+      few = few;
+      long = length-replicate {A = ℕ} 64 0;
     }
 
 -- past the last node
 pub ends : {state bytes : List ℕ} {c : Scope} {notes done : List ℕ} {i j : ℕ} → Told READ state bytes c notes → Going (forest state) (asked bytes c) notes done i j
-    → c.listed ≤ i → Explains (forest state) (asked bytes c) (pass_fault (forest state) (asked bytes c)) Nothing
-unfolding pass_reason Within cause_reason
+    → c.listed ≤ i → Explains (forest state) (asked bytes c) (pass_fault (forest state) (asked bytes c)) None
+unfolding pass_reason
 ends {i = i} {j} told g h = record {
   within = tt;
   is = sym g.left ∙ ap (pass_reason _ _ _ g.placed) (rest_end _ _ i j (omega (arith, told.given.scoped.listed)));
@@ -190,33 +191,54 @@ ends {i = i} {j} told g h = record {
 
 module _ {s : Forest} {b : Batch} {notes done : List ℕ} {i j : ℕ} (g : Going s b notes done i j) {r : Step} (m : Moves s b i j r) where
   -- at a child named before
-  pub stops_twice : r.twice ≡ true → Explains s b (pass_fault s b) (NamedTwice j)
+  pub stops_twice : r.twice ≡ true → Explains s b (pass_fault s b) (Some (NamedTwice j))
   unfolding Within
   stops_twice e = record { within = m.entry e; is = sym g.left ∙ m.twice g.placed e }
 
-  module _ (e : r.twice ≡ false) {met : Cause} (placed : PlacedIs s b notes done r.at met) where
+  module _ (e : r.twice ≡ false) where
     -- what is left after the step
-    after_step : pass_reason s b (seen (named_ids b.nodes) r.j) g.placed (placing b r.at ++ rest s b r.i r.j) ≡ pass_fault s b
+    after_step : pass_reason s b (seen (named_ids b.nodes) r.j) g.placed (placing_if b r.at ++ rest s b r.i r.j) ≡ pass_fault s b
     after_step = sym (m.once g.placed e) ∙ g.left
 
+    -- no node is placed, and it goes on
+    pub goes_unplaced : r.at ≡ None → Going s b notes done r.i r.j
+    goes_unplaced q = record {
+      here = m.there;
+      listed = m.listed;
+      placed = g.placed;
+      claimed = g.claimed;
+      left = rw q at after_step;
+      few = g.few;
+      long = g.long;
+    }
+
+  module _ (e : r.twice ≡ false) {p : ℕ} (at : r.at ≡ Some p) {o : Option Cause} (placed : PlacedIs s b notes done p o) where
+    after_placed : pass_reason s b (seen (named_ids b.nodes) r.j) g.placed (placing b p ++ rest s b r.i r.j) ≡ pass_fault s b
+    after_placed = rw at at after_step e
+
+    -- the node is listed
+    node_within : p < length b.nodes
+    node_within = rw at at m.at_within
+
     -- at a node whose placing meets a row
-    pub stops : {n : ℕ} → n ≡ cause_number met → (n ≡ 0 → ⊥) → Explains s b (pass_fault s b) met
-    stops c q = record {
-      within = placed.within;
-      is = sym after_step ∙ placed.meets (λ z. q (c ∙ z)) g.placed g.claimed (seen (named_ids b.nodes) r.j) (rest s b r.i r.j);
+    pub stops : {met : Cause} → o ≡ Some met → Explains s b (pass_fault s b) (Some met)
+    stops {met} q = record {
+      within = rw q at placed.within;
+      is = sym after_placed ∙ placed.meets met q g.placed g.claimed (seen (named_ids b.nodes) r.j) (rest s b r.i r.j);
     }
 
     -- it goes on after the others
-    pub goes : {n : ℕ} → n ≡ cause_number met → n ≡ 0 → Going s b notes (set done r.at 1) r.i r.j
-    goes c q =
-        let o = placed.goes (sym c ∙ q) (omega (arith, m.at_within, g.long)) g.placed g.claimed in
+    pub goes : o ≡ None → Going s b notes (set done p 1) r.i r.j
+    goes q =
+        let on = placed.goes q (omega (arith, node_within, g.few, g.long)) g.placed g.claimed in
         record {
           here = m.there;
           listed = m.listed;
-          placed = o.after;
-          claimed = o.claimed_after;
-          left = sym (o.left (seen (named_ids b.nodes) r.j) (rest s b r.i r.j)) ∙ after_step;
-          long = length-set done r.at 1 ∙ g.long;
+          placed = on.after;
+          claimed = on.claimed_after;
+          left = sym (on.left (seen (named_ids b.nodes) r.j) (rest s b r.i r.j)) ∙ after_placed;
+          few = g.few;
+          long = length-set done p 1 ∙ g.long;
         }
 
 -- how far it is
@@ -231,3 +253,7 @@ going_within {state} {bytes} {c} {i = i} told g h =
       entries_before_within (asked bytes c) (i + 1),
       g.here.within (omega (arith, told.given.scoped.listed)),
     )
+
+-- a node that a step places is listed
+pub step_listed : {state bytes : List ℕ} {c : Scope} {notes : List ℕ} → Told READ state bytes c notes → {i j p : ℕ} {r : Step} → Moves (forest state) (asked bytes c) i j r → r.at ≡ Some p → p < c.listed
+step_listed told m at = omega (arith, rw at at m.at_within, told.given.scoped.listed)

@@ -1,14 +1,13 @@
 -- What the columns of the notes say to the pass: searches for a node's number, when a listed node is placed at its turn. Assumes nothing.
 use mathlib.Core.Bool.{Bool, true, false, ◌||◌, true≢false}
 use mathlib.Core.List.{List, [], ◌∷◌}
-use mathlib.Core.Option.{some, none}
 use mathlib.Core.Path.{◌≡◌, sym, ap, ap₂, ◌∙◌, refl}
 use Prim.Native.Nat.{ℕ, suc, ◌+◌, ◌≤◌, ◌<◌, zero}
 use native.Mathlib.Omega.{arith}
 use lib.Dec.{eqb, ltb, leb}
 use lib.ListN.{length, get_or, take}
 use borrow.Author.Tests.{lt-ltb, le-ltb, eqb-true, eq-eqb, ltb-false, le-leb}
-use Rattle.std.specs.Prelude.{if◌then◌else◌}
+use Rattle.std.specs.Prelude.{if◌then◌else◌, Some, None}
 use Rattle.base.specs.Tests.{◌and◌, is_some, same_option, has, position}
 use Rattle.base.specs.Search.{First}
 use Rattle.base.proofs.Tests.{has_at, bit_is, iff, or_right}
@@ -94,7 +93,7 @@ first_place xs j h e = go (dec_lt j (position same_node xs x))
 module _ (ls : List Listed) (x : NodeId) (n p : ℕ) (h : n ≤ length ls) (f : First (λ m. same_node x (get_or ls m no_listed).id) (length ls) p) where
   -- what a search among them says of a node's data
   listing_first : (r : ℕ) → First (λ m. same_node x (get_or ls m no_listed).id) n r
-      → listing (take n ls) x ≡ (if ltb r n then some (get_or (take n ls) r no_listed).body else none)
+      → listing (take n ls) x ≡ (if ltb r n then Some (get_or (take n ls) r no_listed).body else None)
   unfolding listing
   listing_first r g =
       let long = length-take-le n ls h in
@@ -102,11 +101,11 @@ module _ (ls : List Listed) (x : NodeId) (n p : ℕ) (h : n ≤ length ls) (f : 
       rw long at (first_given_at (λ (l : Listed). same_node x l.id) (λ l. l.body) no_listed (take n ls) r (rw long among))
 
   -- it is listed there
-  pub listing_found : p < n → listing (take n ls) x ≡ some (get_or ls p no_listed).body
+  pub listing_found : p < n → listing (take n ls) x ≡ Some (get_or ls p no_listed).body
   listing_found l = listing_first p (first_here _ n p f.passed l (f.hit (omega arith))) ∙ rw (lt-ltb p n l, get_or-take n ls p no_listed l)
 
   -- it is not
-  pub listing_missing : n ≤ p → listing (take n ls) x ≡ none
+  pub listing_missing : n ≤ p → listing (take n ls) x ≡ None
   listing_missing l = listing_first n (first_end _ n p f.passed l) ∙ rw (le-ltb n n (omega arith))
 
 -- ## When a listed node is placed at its turn
@@ -206,11 +205,11 @@ module _ {state bytes : List ℕ} {c : Scope} {notes : List ℕ} (told : Told RE
     listed_new l = sym (old_listed i n h e) ∙ le-ltb _ n l
 
   -- whether it is the root
-  pub root_listed : {i : ℕ} {r v : Bool} → i < c.listed → r ≡ same_option same_id (root_in c) (some (record { tree = c.tree; node = record { 0 = get_or notes (LISTED + i) 0 } }))
+  pub root_listed : {i : ℕ} {r v : Bool} → i < c.listed → r ≡ same_option same_id (root_in c) (Some (record { tree = c.tree; node = record { 0 = get_or notes (LISTED + i) 0 } }))
       → r ≡ v → is_root (forest state) (asked bytes c) (here (forest state) (asked bytes c) (listed_at (asked bytes c) i).id) ≡ v
   unfolding is_root here
   root_listed {i} h e f =
-      ap₂ (λ r (x : FullNodeId). same_option same_id r (some x)) (sym told.given.scoped.root)
+      ap₂ (λ r (x : FullNodeId). same_option same_id r (Some x)) (sym told.given.scoped.root)
       (ap₂ (λ t w. record { tree = t; node = record { 0 = w } }) (sym told.given.scoped.tree) (sym (listed_word_lem i h))) ∙ sym e ∙ f
 
   -- whether it claims a tree

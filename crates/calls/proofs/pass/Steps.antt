@@ -1,7 +1,6 @@
 -- Laws of the steps: what a step does, from what the columns and its searches answer. Assumes nothing.
 use mathlib.Core.Bool.{Bool, true, false, ◌||◌, false≢true}
 use mathlib.Core.List.{List, [], ◌∷◌, ◌++◌}
-use mathlib.Core.Option.{Option, none, some}
 use mathlib.Core.Path.{◌≡◌, refl, sym, ap, ◌∙◌}
 use Prim.Native.Nat.{ℕ, ◌+◌, ◌≤◌, ◌<◌}
 use native.Mathlib.Decide.{dec_lt}
@@ -9,7 +8,7 @@ use native.Mathlib.Omega.{arith}
 use lib.Dec.{ltb, leb}
 use lib.ListN.{length, get_or, take}
 use borrow.Author.Tests.{le-ltb, le-leb, lt-leb}
-use Rattle.std.specs.Prelude.{if◌then◌else◌}
+use Rattle.std.specs.Prelude.{if◌then◌else◌, Option, None, Some, IfSome}
 use Rattle.base.specs.Tests.{has, position}
 use Rattle.base.specs.Search.{First}
 use Rattle.ids.specs.Ids.{same_node}
@@ -30,9 +29,9 @@ use Rattle.calls.specs.Says.{PositionIn}
 use Rattle.calls.proofs.notes.Marks.{turn_first}
 use Rattle.calls.proofs.notes.Told.{few_listed, few_named}
 use Rattle.calls.specs.Causes.{cause_reason}
-use Rattle.calls.specs.Steps.{entries_before, At, Standing, rest, seen, placing, waits, Moves}
+use Rattle.calls.specs.Steps.{entries_before, At, Standing, rest, seen, placing_if, waits, Moves}
 use Rattle.calls.proofs.pass.Going.{entries_before_within, entries_before_more, rest_name, rest_own}
-use Rattle.calls.proofs.pass.Faults.{placing_here, placing_past, seen_has, seen_more}
+use Rattle.calls.proofs.pass.Faults.{placing_here, seen_has, seen_more}
 use Rattle.calls.proofs.pass.Read.{has_before, first_place, listing_found, listing_missing, due_reached, due_is, end_word_lem, named_word_lem, named_old, named_mark, named_search}
 use Rattle.calls.proofs.pass.Rows.{first_listed, first_id, first_unplaced, first_at, first_found}
 
@@ -45,17 +44,17 @@ module _ (s : Forest) (b : Batch) (earlier : List Listed) (c : NodeId) where
   waits_placed e = go (listing earlier c)
     where
       go : (o : Option NodeData)
-          → ◌≡◌ {A = List Event} (elim o [ none ↦ [] | some d ↦ if placed_at_turn s b c then [] else places (record { id = c; body = d }) ∷ [] ]) []
-      go none = refl
-      go (some d) = rw e
+          → ◌≡◌ {A = List Event} (elim o [ None ↦ [] | Some d ↦ if placed_at_turn s b c then [] else places (record { id = c; body = d }) ∷ [] ]) []
+      go None = refl
+      go (Some d) = rw e
 
   -- one that was not listed before
-  waits_missing : listing earlier c ≡ none → waits s b earlier c ≡ []
+  waits_missing : listing earlier c ≡ None → waits s b earlier c ≡ []
   unfolding waits
   waits_missing e = rw (e, waits)
 
   -- one that waits
-  waits_here : (d : NodeData) → listing earlier c ≡ some d → placed_at_turn s b c ≡ false → waits s b earlier c ≡ places (record { id = c; body = d }) ∷ []
+  waits_here : (d : NodeData) → listing earlier c ≡ Some d → placed_at_turn s b c ≡ false → waits s b earlier c ≡ places (record { id = c; body = d }) ∷ []
   unfolding waits
   waits_here d e p = rw (e, p, waits)
 
@@ -63,9 +62,9 @@ module _ (s : Forest) (b : Batch) (earlier : List Listed) (c : NodeId) where
 
 module _ {s : Forest} {b : Batch} {i j : ℕ} (at : At b i j) (h : i < length b.nodes) where
   -- a child is named
-  name_moves : (twice : Bool) (r : ℕ) → j < entries_before b (i + 1) → r ≤ 64
+  name_moves : (twice : Bool) (r : Option ℕ) → j < entries_before b (i + 1) → IfSome r (λ p. p < length b.nodes)
       → twice ≡ has same_node (take j (named_ids b.nodes)) (get_or (named_ids b.nodes) j no_node)
-      → (twice ≡ false → placing b r ≡ waits s b (take i b.nodes) (get_or (named_ids b.nodes) j no_node))
+      → (twice ≡ false → placing_if b r ≡ waits s b (take i b.nodes) (get_or (named_ids b.nodes) j no_node))
       → Moves s b i j (record { i = i; j = j + 1; twice = twice; at = r })
   unfolding cause_reason
   name_moves twice r entry short before goes =
@@ -86,11 +85,11 @@ module _ {s : Forest} {b : Batch} {i j : ℕ} (at : At b i j) (h : i < length b.
       }
 
   -- the node's own turn
-  turn_moves : (r : ℕ) → j ≡ entries_before b (i + 1) → r ≤ 64
-      → placing b r ≡ (if placed_at_turn s b (listed_at b i).id || has same_node (take j (named_ids b.nodes)) (listed_at b i).id then places (listed_at b i) ∷ [] else [])
+  turn_moves : (r : Option ℕ) → j ≡ entries_before b (i + 1) → IfSome r (λ p. p < length b.nodes)
+      → placing_if b r ≡ (if placed_at_turn s b (listed_at b i).id || has same_node (take j (named_ids b.nodes)) (listed_at b i).id then places (listed_at b i) ∷ [] else [])
       → Moves s b i j (record { i = i + 1; j = j; twice = false; at = r })
   turn_moves r last short e =
-      let own : placing b r ++ rest s b (i + 1) j ≡ rest s b i j = rw e (sym (rest_own s b i j at h last)) in
+      let own : placing_if b r ++ rest s b (i + 1) j ≡ rest s b i j = rw e (sym (rest_own s b i j at h last)) in
       record {
         there = record { begun = omega arith; within = λ n. omega (arith, entries_before_more b (i + 1) n) };
         listed = omega arith;
@@ -104,10 +103,6 @@ module _ {s : Forest} {b : Batch} {i j : ℕ} (at : At b i j) (h : i < length b.
 -- ## As the code finds it
 
 module _ {state bytes : List ℕ} {c : Scope} {notes due firsts : List ℕ} {i j : ℕ} (q : Standing state bytes c notes due firsts i j) where
-  -- there is room for the mark of no node
-  few_nodes : length (asked bytes c).nodes ≤ 64
-  few_nodes = omega (arith, few_listed state bytes c q.prepared.told.given, q.prepared.told.given.scoped.listed)
-
   -- the node is listed
   is_listed : i < length (asked bytes c).nodes
   is_listed = omega (arith, q.listed, q.prepared.told.given.scoped.listed)
@@ -139,16 +134,15 @@ module _ {state bytes : List ℕ} {c : Scope} {notes due firsts : List ℕ} {i j
         ap (λ d. leb d j) (q.prepared.dues i is_listed)
         ∙ due_reached (forest state) (asked bytes c) i j (omega (arith, entry_within, q.prepared.told.given.scoped.named))
 
-    pub moves_turn : get_or due i 0 ≤ j → Moves (forest state) (asked bytes c) i j (record { i = i + 1; j = j; twice = false; at = i })
+    pub moves_turn : get_or due i 0 ≤ j → Moves (forest state) (asked bytes c) i j (record { i = i + 1; j = j; twice = false; at = Some i })
     moves_turn l =
-        turn_moves q.here is_listed i last_entry (omega (arith, few_nodes, is_listed))
+        turn_moves q.here is_listed (Some i) last_entry is_listed
         (placing_here (asked bytes c) i is_listed ∙ rw (sym turn_test ∙ le-leb (get_or due i 0) j l))
 
     -- or waits
-    pub moves_wait : j < get_or due i 0 → Moves (forest state) (asked bytes c) i j (record { i = i + 1; j = j; twice = false; at = 64 })
+    pub moves_wait : j < get_or due i 0 → Moves (forest state) (asked bytes c) i j (record { i = i + 1; j = j; twice = false; at = None })
     moves_wait l =
-        turn_moves q.here is_listed 64 last_entry (omega arith)
-        (placing_past (asked bytes c) 64 few_nodes ∙ rw (sym turn_test ∙ lt-leb (get_or due i 0) j l))
+        turn_moves q.here is_listed None last_entry tt (rw (sym turn_test ∙ lt-leb (get_or due i 0) j l))
 
   -- a child is named
   module _ (entry : j < entries_before (asked bytes c) (i + 1)) where
@@ -159,12 +153,12 @@ module _ {state bytes : List ℕ} {c : Scope} {notes due firsts : List ℕ} {i j
     -- and none is placed
     name_only : (twice : Bool) → twice ≡ has same_node (take j (named_ids (asked bytes c).nodes)) (get_or (named_ids (asked bytes c).nodes) j no_node)
         → (twice ≡ false → waits (forest state) (asked bytes c) (take i (asked bytes c).nodes) (get_or (named_ids (asked bytes c).nodes) j no_node) ≡ [])
-        → Moves (forest state) (asked bytes c) i j (record { i = i; j = j + 1; twice = twice; at = 64 })
-    name_only twice e w = name_moves q.here is_listed twice 64 entry (omega arith) e (λ o. placing_past (asked bytes c) 64 few_nodes ∙ sym (w o))
+        → Moves (forest state) (asked bytes c) i j (record { i = i; j = j + 1; twice = twice; at = None })
+    name_only twice e w = name_moves q.here is_listed twice None entry tt e (λ o. sym (w o))
 
     -- an old one
     pub moves_old : (n : ℕ) → n ≡ slots_of state → get_or notes (NAMED_SLOTS + j) 0 < n
-        → Moves (forest state) (asked bytes c) i j (record { i = i; j = j + 1; twice = leb (get_or notes (NAMINGS + get_or notes (NAMED_SLOTS + j) 0) 0) j; at = 64 })
+        → Moves (forest state) (asked bytes c) i j (record { i = i; j = j + 1; twice = leb (get_or notes (NAMINGS + get_or notes (NAMED_SLOTS + j) 0) 0) j; at = None })
     unfolding placed_at_turn
     moves_old n e l =
         let s = forest state in
@@ -183,18 +177,18 @@ module _ {state bytes : List ℕ} {c : Scope} {notes due firsts : List ℕ} {i j
           ∙ le-ltb _ j (omega (arith, first_at q.prepared j is_named l)))
 
       -- or a later one
-      pub moves_later : i ≤ get_or firsts (j + 1) 0 → Moves (forest state) (asked bytes c) i j (record { i = i; j = j + 1; twice = false; at = 64 })
+      pub moves_later : i ≤ get_or firsts (j + 1) 0 → Moves (forest state) (asked bytes c) i j (record { i = i; j = j + 1; twice = false; at = None })
       unfolding listed_at
       moves_later m =
           name_only false named_first (λ _. waits_missing (forest state) (asked bytes c) (take i (asked bytes c).nodes) _
           (listing_missing (asked bytes c).nodes _ i (get_or firsts (j + 1) 0) (omega (arith, is_listed)) (first_found q.prepared j is_named l) m))
 
     -- an earlier one
-    pub moves_waiting : get_or firsts (j + 1) 0 < i → Moves (forest state) (asked bytes c) i j (record { i = i; j = j + 1; twice = false; at = get_or firsts (j + 1) 0 })
+    pub moves_waiting : get_or firsts (j + 1) 0 < i → Moves (forest state) (asked bytes c) i j (record { i = i; j = j + 1; twice = false; at = Some (get_or firsts (j + 1) 0) })
     unfolding listed_at
     moves_waiting m =
         let l : get_or firsts (j + 1) 0 < 64 = omega (arith, node_room) in
-        name_moves q.here is_listed false (get_or firsts (j + 1) 0) entry (omega arith) (named_first l)
+        name_moves q.here is_listed false (Some (get_or firsts (j + 1) 0)) entry (first_listed q.prepared j is_named l) (named_first l)
         (λ _. placing_here (asked bytes c) (get_or firsts (j + 1) 0) (first_listed q.prepared j is_named l)
         ∙ sym
         (waits_here (forest state) (asked bytes c) (take i (asked bytes c).nodes) _ _
@@ -229,7 +223,7 @@ module _ {state bytes : List ℕ} {c : Scope} {notes due firsts : List ℕ} {i j
               absurd (omega arith)
 
       pub moves_other : (r : ℕ) → PositionIn notes NAMED j (get_or notes (NAMED + j) 0) r
-          → Moves (forest state) (asked bytes c) i j (record { i = i; j = j + 1; twice = ltb r j; at = 64 })
+          → Moves (forest state) (asked bytes c) i j (record { i = i; j = j + 1; twice = ltb r j; at = None })
       unfolding here listed_at
       moves_other r g = name_only (ltb r j) before (λ o. go (sym before ∙ o) (dec_lt p (length b.nodes)))
         where

@@ -2,14 +2,15 @@
 use mathlib.Core.Bool.{Bool, true, false, false≢true}
 use mathlib.Core.List.{List}
 use mathlib.Core.Logic.{◌⊎◌, inl, inr}
-use mathlib.Core.Path.{◌≡◌, refl, sym, ◌∙◌}
-use Prim.Native.Nat.{ℕ, zero, suc, ◌+◌, ◌≤◌, ◌<◌}
+use mathlib.Core.Path.{◌≡◌, refl, sym, ap, ◌∙◌}
+use Prim.Native.Nat.{ℕ, zero, suc, ◌+◌, ◌-◌, ◌≤◌, ◌<◌}
 use native.Mathlib.Decide.{dec_lt}
 use native.Mathlib.Nat.{eq-or-lt_of_le, le_of_suc-le-suc}
 use native.Mathlib.Numerals.{add-one}
 use native.Mathlib.Omega.{arith}
-use lib.ListN.{length, set}
+use lib.ListN.{length, set, get_or}
 use lib.Seq.{get_or-set_same, get_or-set_other}
+use Rattle.std.specs.List.{SameBelow, CopiedTo}
 use Rattle.ids.specs.Ids.{before}
 use Rattle.ids.proofs.Ids.{before_trans}
 use Rattle.ids.specs.declared.FullNodeId.{FullNodeId}
@@ -112,6 +113,19 @@ shift_one notes₀ notes n r q e room h v is = record {
     above : (k : ℕ) → k < n → (q ≡ k) ⊎ (q < k) → code_in (set notes (CODES + r) v) (suc k) ≡ code_in notes₀ k
     above k l (inl f) = rw (← f, ← e) (get_or-set_same notes (CODES + r) v 0 room ∙ is ∙ h.below q (omega arith))
     above k l (inr f) = get_or-set_other notes (CODES + r) (CODES + suc k) v 0 (λ s. absurd (omega arith)) ∙ h.above k (omega arith) l
+
+-- those from a place on, copied one place up
+pub shift_copied : (notes₀ notes : List ℕ) (n at : ℕ) → length notes ≡ length notes₀ → at ≤ n
+    → SameBelow notes₀ notes (CODES + at + 1) → CopiedTo notes₀ notes (CODES + at) (CODES + at + 1) (CODES + n - (CODES + at))
+    → Shifted notes₀ n at notes
+shift_copied notes₀ notes n at long within same moved =
+    record {
+      kept = record { long = long; kept = λ k l. same k 0 (omega arith) };
+      below = λ k l. same (CODES + k) 0 (omega arith);
+      above = λ k m l.
+          let from : CODES + at + (CODES + suc k - (CODES + at + 1)) ≡ CODES + k = omega arith in
+          moved (CODES + suc k) 0 (omega arith) (omega arith) ∙ ap (λ i. get_or notes₀ i 0) from;
+    }
 
 -- and the code is put into the place that is free
 pub shift_end : (notes₀ notes : List ℕ) (n at code : ℕ) → CODES + at < length notes → Shifted notes₀ n at notes → Inserted notes₀ n at code (set notes (CODES + at) code)

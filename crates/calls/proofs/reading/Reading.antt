@@ -1,18 +1,18 @@
 -- Laws of what a batch says: words, slots, claims, and the marks of the slots. Assumes nothing.
 use mathlib.Core.Bool.{Bool, true, false, not}
 use mathlib.Core.List.{List, [], ◌∷◌, append-nil}
-use mathlib.Core.Option.{Option, none}
 use mathlib.Core.Path.{◌≡◌, sym, ap, ap₂, ◌∙◌, refl}
-use Prim.Native.Nat.{ℕ, ◌+◌, ◌≤◌, ◌<◌, suc}
+use Prim.Native.Nat.{ℕ, ◌+◌, ◌≤◌, ◌<◌, zero, suc}
 use native.Mathlib.Numerals.{add-one}
 use native.Mathlib.Omega.{arith}
 use Rattle.base.specs.Regions.{fill}
 use Rattle.base.proofs.Regions.{fill_length}
 use Rattle.calls.proofs.notes.Columns.{holds_fill, below_none, below_set}
 use lib.Dec.{ltb, eqb}
-use lib.ListN.{length, get_or, take, length-append, set}
-use lib.Seq.{take-suc, get_or-set_same, get_or-set_other}
-use Rattle.std.specs.Prelude.{if◌then◌else◌}
+use lib.ListN.{length, get_or, take, length-append, replicate, set}
+use lib.Seq.{take-suc, paste, get_or-set_same, get_or-set_other}
+use Rattle.std.proofs.lemmas.List.Edits.{paste_none, fill_from_more}
+use Rattle.std.specs.Prelude.{if◌then◌else◌, Option, None}
 use Rattle.base.specs.Tests.{◌and◌, is_some, same_option, position}
 use Rattle.base.specs.Bytes.{list_of}
 use Rattle.base.proofs.Tests.{and_false, and_right}
@@ -151,6 +151,12 @@ module _ {from count to n j : ℕ} {before after : List ℕ} (room : MarkRoom fr
     marks = (rw (← same) at (marks_stored (λ k. get_or before (from + k) 0) j to n after m.marks)) (omega (arith, m.below.long, room.long, room.room)) low;
   }
 
+-- n zeros laid over a list from `to` on fill these places
+pub zeros_fill : (to n : ℕ) (s : List ℕ) → to + n ≤ length s → paste s to (replicate n 0) n ≡ fill to n (λ i. 0) s
+unfolding fill
+zeros_fill to zero s h = sym (paste_none s to [])
+zeros_fill to (suc n) s h = sym (rw add-one at (fill_from_more s to n 0 (omega arith))) ∙ ap (λ t. set t (to + n) 0) (zeros_fill to n s (omega arith))
+
 -- a search ends
 pub first_found : (p : ℕ → Bool) (n : ℕ) → (r : ℕ) × First p n r
 first_found p n =
@@ -206,10 +212,10 @@ module _ (state bytes : List ℕ) (c : Scope) (g : Given state bytes c) where
   -- ## Claims
 
   -- a graft is claimed where it is not the one before
-  claims_some : (new old : Option TreeId) → (is_some new and not (same_option same_tree new old)) ≡ is_some (if same_option same_tree new old then none else new)
+  claims_some : (new old : Option TreeId) → (is_some new and not (same_option same_tree new old)) ≡ is_some (if same_option same_tree new old then None else new)
   claims_some new old = go (same_option same_tree new old)
     where
-      go : (t : Bool) → (is_some new and not t) ≡ is_some (if t then none else new)
+      go : (t : Bool) → (is_some new and not t) ≡ is_some (if t then None else new)
       go true = and_false (is_some new)
       go false = and_right (is_some new)
 

@@ -1,14 +1,13 @@
 -- Laws of the outcome that stands in `next`, and of what changed of a node: its link, its data, its mark. Assumes nothing.
 use mathlib.Core.Bool.{Bool, true, false, not, ◌||◌}
 use mathlib.Core.List.{List, [], ◌∷◌}
-use mathlib.Core.Option.{Option, none, some}
 use mathlib.Core.Path.{◌≡◌, refl, sym, ap, ap₂, ◌∙◌}
 use Prim.Native.Nat.{ℕ, zero, suc, ◌+◌, ◌-◌, ◌*◌, ◌≤◌, ◌<◌}
 use native.Mathlib.Omega.{arith}
 use lib.Dec.{eqb, ltb}
 use lib.ListN.{length, get_or}
 use borrow.Author.Tests.{lt-ltb, ltb-true, ltb-false, eq-eqb, ne_eqb}
-use Rattle.std.specs.Prelude.{if◌then◌else◌}
+use Rattle.std.specs.Prelude.{if◌then◌else◌, Option, None, Some}
 use Rattle.base.specs.Tests.{◌and◌, is_some, all, same_option, distinct}
 use Rattle.base.proofs.Tests.{both, bit_is}
 use Rattle.ids.specs.Ids.{same_node, same_id}
@@ -73,7 +72,7 @@ module _ (was next : LinkRow) where
       on false false = refl
 
       go : (c : Bool) → ((c || not (eqb was.index next.index)) || not (same_id was.parent next.parent))
-          ≡ not (same_option same_link (if c then none else some (record { parent = was.parent; index = was.index })) (some (record { parent = next.parent; index = next.index })))
+          ≡ not (same_option same_link (if c then None else Some (record { parent = was.parent; index = was.index })) (Some (record { parent = next.parent; index = next.index })))
       go true = refl
       go false = on (eqb was.index next.index) (same_id was.parent next.parent)
 
@@ -82,7 +81,7 @@ module _ (was next : LinkRow) where
   unfolding link_of parent_of
   parent_lost e = rw (eq-eqb next.linked 0 e) (go (eqb was.linked 0))
     where
-      go : (c : Bool) → not c ≡ not (same_option same_id (parent_of (if c then none else some (record { parent = was.parent; index = was.index }))) none)
+      go : (c : Bool) → not c ≡ not (same_option same_id (parent_of (if c then None else Some (record { parent = was.parent; index = was.index }))) None)
       go true = refl
       go false = refl
 
@@ -93,7 +92,7 @@ module _ (was next : LinkRow) where
   parent_changed_is h same = rw (ne_eqb next.linked 0 h, same) (go (eqb was.linked 0))
     where
       go : (c : Bool) → (c || not (same_id was.parent next.parent))
-          ≡ not (same_option same_id (parent_of (if c then none else some (record { parent = was.parent; index = was.index }))) (some next.parent))
+          ≡ not (same_option same_id (parent_of (if c then None else Some (record { parent = was.parent; index = was.index }))) (Some next.parent))
       go true = refl
       go false = refl
 
@@ -110,9 +109,9 @@ module _ (s : Forest) (b : Batch) (kept : KeptForest s) (i : ℕ) (within : i < 
   unfolding differs data_changed ◌and◌
   data_at k e =
       let now : listed s b (id_at s i) ≡ true = turn_listed s b (id_at s i) ∙ rw (e, lt-ltb 0 (suc k) (omega arith)) in
-      ap (λ (o : Option NodeState). elim o as (λ _. Bool) [ none ↦ false | some n ↦ not (same_data n.body (listed_at b k).body) ])
+      ap (λ (o : Option NodeState). elim o as (λ _. Bool) [ None ↦ false | Some n ↦ not (same_data n.body (listed_at b k).body) ])
       (ap (λ x. find x s.nodes) (turn_here s b (id_at s i) k e) ∙ find_at s kept.ascending i within)
-      ∙ sym (ap₂ (λ (c : Bool) (o : Option NodeData). c and elim o as (λ _. Bool) [ none ↦ false | some d ↦ not (same_data (node_at s i).body d) ])
+      ∙ sym (ap₂ (λ (c : Bool) (o : Option NodeData). c and elim o as (λ _. Bool) [ None ↦ false | Some d ↦ not (same_data (node_at s i).body d) ])
       now (turn_listing s b (id_at s i) k e))
 
   -- its fields are in order
@@ -193,7 +192,7 @@ module _ (s : Forest) (b : Batch) (kept : KeptForest s) (once : distinct same_no
   abbrev after : NodeState
   after = node_at (outcome s b) r
 
-  found : find old_node.id s.nodes ≡ some old_node
+  found : find old_node.id s.nodes ≡ Some old_node
   found = find_at s kept.ascending (slot_at s after.id) here
 
   -- it stays, with the link that stands in the outcome
@@ -205,7 +204,7 @@ module _ (s : Forest) (b : Batch) (kept : KeptForest s) (once : distinct same_no
       ∙ ap (λ x. find x (outcome s b).nodes) (slot_id s after.id here)
       ∙ find_at (outcome s b) (ascending_outcome s b kept.ascending) r h)
     where
-      go : (g : Bool) → (if g then none else some (node_after s b old_node)) ≡ some after
+      go : (g : Bool) → (if g then None else Some (node_after s b old_node)) ≡ Some after
           → (g ≡ false) × (link_after s b old_node.id old_node.parent_and_index ≡ after.parent_and_index)
       go true e = let z : ◌≡◌ {A = ℕ} 0 1 = cc in absurd (omega arith)
       go false e = let same : node_after s b old_node ≡ after = cc in (refl, ap (λ n. n.parent_and_index) same)

@@ -1,14 +1,13 @@
 -- Laws of the four lists by the marks, and of the extra ids. Assumes nothing.
 use mathlib.Core.Bool.{Bool, true, false, not, ◌||◌, false≢true}
 use mathlib.Core.List.{List, [], ◌∷◌, ◌++◌}
-use mathlib.Core.Option.{Option, none, some}
 use mathlib.Core.Path.{◌≡◌, refl, sym, ap, ap₂, ◌∙◌, subst}
 use Prim.Native.Nat.{ℕ, ◌+◌, ◌*◌, ◌<◌}
 use native.Mathlib.Omega.{arith}
 use lib.Dec.{ltb}
 use lib.ListN.{length, get_or}
 use borrow.Author.Tests.{ltb-true}
-use Rattle.std.specs.Prelude.{if◌then◌else◌}
+use Rattle.std.specs.Prelude.{if◌then◌else◌, Option, None, Some, Result}
 use Rattle.base.specs.Tests.{◌and◌, is_some, keep, has, same_option}
 use Rattle.base.specs.Bytes.{bit}
 use Rattle.base.proofs.Lists.{any_append}
@@ -28,9 +27,6 @@ use Rattle.update.specs.Outcome.{pane_root, outcome}
 use Rattle.update.specs.Reports.{sorted, added, removed, is_updated, updated, is_relinked, relinked, changes_with, changes_of, Changes, no_changes, unless_in, focus_moved, extra_before, extra_after}
 use Rattle.update.proofs.Outcome.{ascending_outcome}
 use Rattle.update.proofs.Reports.{removed_is, sorted_ids, sorted_keep, same_members}
-use Rattle.state_focus.specs.Focus.{found_of}
-use Rattle.state_focus.specs.declared.FoundNode.{FoundNode}
-use Rattle.state_focus.specs.declared.FoundNode.TheVariants as node
 use Rattle.calls.specs.declared.notes.Scope.{Scope}
 use Rattle.calls.specs.Reported.{unless_before, unless_after, Reported, UpdateReported, ReportOf}
 use Rattle.calls.specs.Layout.{FATES, CHANGED}
@@ -42,6 +38,7 @@ use Rattle.update_focus.proofs.Numbers.{forest_length}
 use Rattle.calls.specs.Outcomes.{changes_in, Outcomes}
 use Rattle.calls.specs.Slice.{picked, changes_noted, ListsWritten}
 use Rattle.calls.specs.declared.reports.Lists.{Lists}
+use Rattle.calls.specs.declared.reports.TooShort.{TooShort}
 use Rattle.calls.proofs.reports.Changed.{shows, counted}
 use Rattle.calls.proofs.reports.Slice.{picked_ids}
 use Rattle.state.specs.Focus.{state_focus}
@@ -49,28 +46,28 @@ use Rattle.calls.specs.declared.reports.Report.{Report}
 
 module _ (xs : List FullNodeId) (x : FullNodeId) where
   -- a node that stands in a list, and one that does not
-  pub unless_there : has same_id xs x ≡ true → none ≡ unless_in xs (some x)
+  pub unless_there : has same_id xs x ≡ true → None ≡ unless_in xs (Some x)
   unfolding unless_in
   unless_there e = rw e
 
-  pub unless_absent : has same_id xs x ≡ false → some x ≡ unless_in xs (some x)
+  pub unless_absent : has same_id xs x ≡ false → Some x ≡ unless_in xs (Some x)
   unfolding unless_in
   unless_absent e = rw e
 
 -- no node stands in no list
-pub unless_none : (xs : List FullNodeId) → none ≡ unless_in xs none
+pub unless_none : (xs : List FullNodeId) → None ≡ unless_in xs None
 unfolding unless_in
 unless_none xs = refl
 
 unless_nothing : (o : Option FullNodeId) → unless_in [] o ≡ o
 unfolding unless_in
-unless_nothing none = refl
-unless_nothing (some x) = refl
+unless_nothing None = refl
+unless_nothing (Some x) = refl
 
 -- a report of two answers is that of two states whose focus they are
-pub report_is : (s s' : State) (c : Changes) (before after lost got : FoundNode) (r : Report) → ReportOf before after lost got r
-    → found_of before ≡ state_focus s → found_of after ≡ state_focus s'
-    → found_of lost ≡ unless_before c (found_of before) → found_of got ≡ unless_after c (found_of after) → Reported s s' c r
+pub report_is : (s s' : State) (c : Changes) (before after lost got : Option FullNodeId) (r : Report) → ReportOf before after lost got r
+    → before ≡ state_focus s → after ≡ state_focus s'
+    → lost ≡ unless_before c before → got ≡ unless_after c after → Reported s s' c r
 unfolding extra_before extra_after focus_moved
 report_is s s' c before after lost got r says p q l g = record {
   before_is = says.before_is ∙ p;
@@ -79,7 +76,7 @@ report_is s s' c before after lost got r says p q l g = record {
   extra_after_is = says.extra_after_is ∙ rw (g, p, q) (swapped (same_option same_id (state_focus s) (state_focus s')) (unless_after c (state_focus s')));
 }
   where
-    swapped : (t : Bool) (o : Option FullNodeId) → (if t then none else o) ≡ (if not t then o else none)
+    swapped : (t : Bool) (o : Option FullNodeId) → (if t then None else o) ≡ (if not t then o else None)
     swapped true o = refl
     swapped false o = refl
 
@@ -92,9 +89,9 @@ host_left o = (sym (unless_nothing o), sym (unless_nothing o))
 
 -- whether a node that may be found passes
 abbrev passes : (NodeState → Bool) → Option NodeState → Bool
-passes q o = elim o [ none ↦ false | some n ↦ q n ]
+passes q o = elim o [ None ↦ false | Some n ↦ q n ]
 
-passes_if : (q : NodeState → Bool) (t : Bool) (n : NodeState) → passes q (if t then some n else none) ≡ (t and q n)
+passes_if : (q : NodeState → Bool) (t : Bool) (n : NodeState) → passes q (if t then Some n else None) ≡ (t and q n)
 unfolding ◌and◌
 passes_if q true n = refl
 passes_if q false n = refl
@@ -105,11 +102,11 @@ unfolding ascending ids_of find
 has_kept q [] x up = refl
 has_kept q (n ∷ ns) x up = go (q n) refl (same_id x n.id) refl (has_kept q ns x (both up).1)
   where
-    absent : same_id x n.id ≡ true → find x ns ≡ none
+    absent : same_id x n.id ≡ true → find x ns ≡ None
     absent f = find_none x ns (rw (same_id→≡ x n.id f) (both up).0)
 
     go : (t : Bool) → q n ≡ t → (u : Bool) → same_id x n.id ≡ u → has same_id (ids_of (keep q ns)) x ≡ passes q (find x ns)
-        → has same_id (ids_of (if t then n ∷ keep q ns else keep q ns)) x ≡ passes q (if u then some n else find x ns)
+        → has same_id (ids_of (if t then n ∷ keep q ns else keep q ns)) x ≡ passes q (if u then Some n else find x ns)
     go true e true f h = rw f (sym e)
     go true e false f h = rw f h
     go false e true f h = h ∙ ap (passes q) (absent f) ∙ sym e
@@ -155,8 +152,8 @@ module _ (s : Forest) (b : Batch) (up : ascending s.nodes ≡ true) where
       there
     where
       found : (o : Option NodeState) (f : NodeState → Bool) → passes f o ≡ true → is_some o ≡ true
-      found none f e = absurd (false≢true e)
-      found (some n) f e = refl
+      found None f e = absurd (false≢true e)
+      found (Some n) f e = refl
 
       there : (x : FullNodeId) → was_updated s b x ≡ true → present (outcome s b).nodes x ≡ true
       there x e =
@@ -237,8 +234,8 @@ module _ {state bytes : List ℕ} {c : Scope} {notes next : List ℕ} (given : O
   unfolding changes_of changes_with
   changes_noted_lem = λ k. record { added = picked_added k; updated = picked_updated k; removed = picked_removed k; relinked = picked_relinked k }
 
-  pub lists_noted : {before after : List ℕ} {l : Lists} → ListsWritten (changes_noted state notes next) before after l → ListsWritten (changes_in state bytes c) before after l
-  lists_noted {before} {after} {l} w = subst (λ d. ListsWritten d before after l) changes_noted_lem w
+  pub lists_noted : (before after : List ℕ) (l : Result Lists TooShort) → ListsWritten (changes_noted state notes next) before after l → ListsWritten (changes_in state bytes c) before after l
+  lists_noted before after l w = subst (λ d. ListsWritten d before after l) changes_noted_lem w
 
   pub report_noted : {r : Report} → Reported (view state) (view next) (changes_noted state notes next) r → UpdateReported state bytes c r
   report_noted {r} w =
@@ -247,14 +244,13 @@ module _ {state bytes : List ℕ} {c : Scope} {notes next : List ℕ} (given : O
 
 -- ## A node by its marks
 
-module _ (xs ys : List FullNodeId) (found : FoundNode) {x : FullNodeId} (is : found ≡ node.At x) {t u : Bool} (p : t ≡ has same_id xs x) (q : u ≡ has same_id ys x) where
+module _ (xs ys : List FullNodeId) (found : Option FullNodeId) {x : FullNodeId} (is : found ≡ Some x) {t u : Bool} (p : t ≡ has same_id xs x) (q : u ≡ has same_id ys x) where
   marked : (t || u) ≡ has same_id (xs ++ ys) x
   marked = ap₂ ◌||◌ p q ∙ sym (any_append (same_id x) xs ys)
 
   -- it stands in one of two lists, or in neither
-  pub unless_marked : (t || u) ≡ true → found_of node.Nothing ≡ unless_in (xs ++ ys) (found_of found)
-  unfolding found_of
+  pub unless_marked : (t || u) ≡ true → None ≡ unless_in (xs ++ ys) found
   unless_marked e = rw is (unless_there _ x (sym marked ∙ e))
 
-  pub unless_unmarked : (t || u) ≡ false → some x ≡ unless_in (xs ++ ys) (some x)
+  pub unless_unmarked : (t || u) ≡ false → Some x ≡ unless_in (xs ++ ys) (Some x)
   unless_unmarked e = unless_absent _ x (sym marked ∙ e)

@@ -1,14 +1,14 @@
 -- Laws of the slots that are picked, of their ids, and of the slice that these are written into. Assumes nothing.
-use mathlib.Core.Bool.{Bool, true, false, not}
+use mathlib.Core.Bool.{Bool, true, false}
 use mathlib.Core.List.{List, [], ◌∷◌, ◌++◌, map-append, append_assoc, append-nil, map}
 use mathlib.Core.Path.{◌≡◌, refl, sym, ap, ap₂, ◌∙◌}
 use Prim.Native.Nat.{ℕ, suc, ◌+◌, ◌*◌, ◌≤◌, ◌<◌, ◌-◌}
 use native.Mathlib.Omega.{arith}
 use lib.ListN.{length, get_or, set, take, drop, length-append, length-set, length-map, take-append-drop}
 use lib.Seq.{drop-cons, length-take-le, drop-append-add, drop-drop, set_at, take_at}
-use borrow.Author.Tests.{lt-ltb, le-ltb, leb-true, leb-false}
-use lib.Dec.{leb, ltb}
-use Rattle.std.specs.Prelude.{if◌then◌else◌}
+use borrow.Author.Tests.{lt-ltb, le-ltb}
+use lib.Dec.{ltb}
+use Rattle.std.specs.Prelude.{if◌then◌else◌, Ok, Err}
 use Rattle.base.specs.Tests.{◌and◌, keep, has}
 use Rattle.ids.specs.declared.FullNodeId.{FullNodeId}
 use Rattle.state_array.specs.View.{id_in, slots_of}
@@ -253,7 +253,7 @@ list_then xs ys before middle after to r first next =
     }
 
 -- the words of the four lists
-lists_length : (c : Changes) → length (change_words c) ≡ 2 * (length c.added + length c.updated + length c.removed + length c.relinked)
+pub lists_length : (c : Changes) → length (change_words c) ≡ 2 * (length c.added + length c.updated + length c.removed + length c.relinked)
 unfolding change_words
 lists_length c =
     let two = c.added ++ c.updated in
@@ -268,28 +268,20 @@ list_slice_after c slice after r h =
     let long : 0 + 2 * length all ≡ length (id_words all) = omega (arith, id_words_length all) in
     h.slice_is ∙ ap (λ (n : ℕ). id_words all ++ drop n slice) long
 
+-- without room the slice stays as it is
+pub lists_short : (c : Changes) (slice : List ℕ) {p q r s n : ℕ} → p ≡ length c.added → q ≡ length c.updated → r ≡ length c.removed → s ≡ length c.relinked
+    → n ≡ 2 * (p + q + r + s) → length slice < n → ListsWritten c slice slice (Err (record { words = n }))
+unfolding ListsWritten
+lists_short c slice i j k l e h = record { words_are = omega (arith, lists_length c); short = omega (arith, lists_length c); slice_is = refl }
+
 module _ (c : Changes) (slice : List ℕ) (l : Lists) (added_is : l.added ≡ length c.added) (updated_is : l.updated ≡ length c.updated)
     (removed_is : l.removed ≡ length c.removed) (relinked_is : l.relinked ≡ length c.relinked)
-    (words : l.words ≡ 2 * (l.added + l.updated + l.removed + l.relinked)) (told : l.fit ≡ leb l.words (length slice)) where
-  -- without room the slice stays as it is
-  pub lists_short : l.fit ≡ false → ListsWritten c slice slice l
-  lists_short e =
-      let short = leb-false l.words (length slice) (sym told ∙ e) in
-      record {
-        added_is = added_is;
-        updated_is = updated_is;
-        removed_is = removed_is;
-        relinked_is = relinked_is;
-        words_are = omega (arith, lists_length c);
-        fit_is = e ∙ sym (ap not (lt-ltb (length slice) (length (change_words c)) (omega (arith, lists_length c))));
-        slice_is = sym (ap (λ (t : Bool). if t then slice_after slice c else slice) e);
-      }
-
+    {n : ℕ} (words : n ≡ 2 * (l.added + l.updated + l.removed + l.relinked)) where
   -- with room each list is written after the one before
-  pub lists_slice_after : l.fit ≡ true → (x y z w : List ℕ) (i j k m : ℕ) → ListWritten c.added 0 slice x i → ListWritten c.updated i x y j
-      → ListWritten c.removed j y z k → ListWritten c.relinked k z w m → ListsWritten c slice w l
+  pub lists_slice_after : n ≤ length slice → (x y z w : List ℕ) (i j k m : ℕ) → ListWritten c.added 0 slice x i → ListWritten c.updated i x y j
+      → ListWritten c.removed j y z k → ListWritten c.relinked k z w m → ListsWritten c slice w (Ok l)
+  unfolding ListsWritten
   lists_slice_after e x y z w i j k m wx wy wz ww =
-      let room = leb-true l.words (length slice) (sym told ∙ e) in
       let two = list_then c.added c.updated slice x y i j wx wy in
       let three = list_then (c.added ++ c.updated) c.removed slice y z j k two wz in
       let four = list_then (c.added ++ c.updated ++ c.removed) c.relinked slice z w k m three ww in
@@ -298,7 +290,6 @@ module _ (c : Changes) (slice : List ℕ) (l : Lists) (added_is : l.added ≡ le
         updated_is = updated_is;
         removed_is = removed_is;
         relinked_is = relinked_is;
-        words_are = omega (arith, lists_length c);
-        fit_is = e ∙ sym (ap not (le-ltb (length slice) (length (change_words c)) (omega (arith, lists_length c))));
-        slice_is = list_slice_after c slice w m four ∙ sym (ap (λ (t : Bool). if t then slice_after slice c else slice) e);
+        room = omega (arith, lists_length c);
+        slice_is = list_slice_after c slice w m four;
       }

@@ -1,7 +1,7 @@
 -- What the definition of a call answers, by the numbers of the parts. Assumes nothing.
 use mathlib.Core.Bool.{Bool, true, false, not}
 use mathlib.Core.List.{List, [], ◌∷◌}
-use mathlib.Core.Option.{Option, none, some}
+use Rattle.std.specs.Prelude.{Option, None, Some}
 use mathlib.Core.Path.{◌≡◌, refl, sym, ap, ◌∙◌}
 use Prim.Native.Nat.{ℕ, zero, suc}
 use lib.Dec.{ltb}
@@ -49,16 +49,16 @@ module _ (s : State) (bytes slice : List ℕ) where
 
   formless : well_formed bytes ≡ false → update s bytes slice ≡ refused (first_number f bytes) s slice
   unfolding first_number update_number first
-  formless w = update_is s bytes slice none (parse_refused bytes w) ∙ rw w
+  formless w = update_is s bytes slice None (parse_refused bytes w) ∙ rw w
 
   module _ (w : well_formed bytes ≡ true) where
-    by_number : (k : ℕ) → update_number s (some b) slice ≡ k → update s bytes slice ≡ judged k s slice (accepted s update_state (changes_of f b) slice)
+    by_number : (k : ℕ) → update_number s (Some b) slice ≡ k → update s bytes slice ≡ judged k s slice (accepted s update_state (changes_of f b) slice)
     unfolding update_batch batch_of
     by_number k q =
-        update_is s bytes slice (some (batch_of bytes)) (parse_well bytes w)
+        update_is s bytes slice (Some (batch_of bytes)) (parse_well bytes w)
         ∙ ap (λ (n : ℕ). judged n s slice (accepted s update_state (changes_of f b) slice)) q
 
-    by_refusal : (k : ℕ) → update_number s (some b) slice ≡ k → (k ≡ 0 → ⊥) → update s bytes slice ≡ refused k s slice
+    by_refusal : (k : ℕ) → update_number s (Some b) slice ≡ k → (k ≡ 0 → ⊥) → update s bytes slice ≡ refused k s slice
     by_refusal k q h = by_number k q ∙ judged_refused k s slice _ h
 
     module _ (e : sound f ≡ true) where
@@ -66,12 +66,12 @@ module _ (s : State) (bytes slice : List ℕ) where
       unfolding first_number first
       well_first = rw (e, w)
 
-      well_number : update_number s (some b) slice ≡ first (found (batch_number f b) ∷ row 21 too_short ∷ [])
+      well_number : update_number s (Some b) slice ≡ first (found (batch_number f b) ∷ row 21 too_short ∷ [])
       unfolding update_number batch_rows first
       well_number = rw e
 
     -- rows 1 and 5 to 8
-    early_number : (first_number f bytes ≡ 0 → ⊥) → (t : Bool) → sound f ≡ t → update_number s (some b) slice ≡ first_number f bytes
+    early_number : (first_number f bytes ≡ 0 → ⊥) → (t : Bool) → sound f ≡ t → update_number s (Some b) slice ≡ first_number f bytes
     unfolding first_number update_number batch_rows first
     early_number h false e = rw e
     early_number h true e =
@@ -90,7 +90,7 @@ module _ (s : State) (bytes slice : List ℕ) where
     batch_is : batch_number f b ≡ later_rows f b
     batch_is = batch_later f b (first_passed f bytes none).before
 
-    number_is : update_number s (some b) slice ≡ first (found (later_rows f b) ∷ row 21 too_short ∷ [])
+    number_is : update_number s (Some b) slice ≡ first (found (later_rows f b) ∷ row 21 too_short ∷ [])
     number_is =
         let p = first_passed f bytes none in
         well_number p.formed p.is_sound ∙ ap (λ (n : ℕ). first (found n ∷ row 21 too_short ∷ [])) batch_is
@@ -100,7 +100,7 @@ module _ (s : State) (bytes slice : List ℕ) where
     update_later h = by_refusal (first_passed f bytes none).formed (later_rows f b) (number_is ∙ found_counts (later_rows f b) (row 21 too_short ∷ []) h) h
 
     module _ (clear : later_rows f b ≡ 0) where
-      last_number : (t : Bool) → too_short ≡ t → update_number s (some b) slice ≡ first (row 21 t ∷ [])
+      last_number : (t : Bool) → too_short ≡ t → update_number s (Some b) slice ≡ first (row 21 t ∷ [])
       last_number t q = number_is ∙ found_passes (later_rows f b) (row 21 too_short ∷ []) clear ∙ ap (λ (c : Bool). first (row 21 c ∷ [])) q
 
       -- row 21
@@ -132,7 +132,7 @@ module _ (bytes : List ℕ) (host : Bool) where
 
   -- the answer, from what the bytes parse to
   abbrev start_answer : Option Batch → Answer
-  start_answer p = elim p [ none ↦ refused 2 blank [] | some c ↦ start_batch c host ]
+  start_answer p = elim p [ None ↦ refused 2 blank [] | Some c ↦ start_batch c host ]
 
   start_parsed : (p : Option Batch) → parse bytes ≡ p → start bytes host ≡ start_answer p
   unfolding start
@@ -140,12 +140,12 @@ module _ (bytes : List ℕ) (host : Bool) where
 
   start_formless : well_formed bytes ≡ false → start bytes host ≡ refused (start_rows bytes) blank []
   unfolding start_rows first
-  start_formless w = start_parsed none (parse_refused bytes w) ∙ rw w
+  start_formless w = start_parsed None (parse_refused bytes w) ∙ rw w
 
   module _ (w : well_formed bytes ≡ true) where
     start_by : (k : ℕ) → start_number e ≡ k → start bytes host ≡ judged k blank [] (started start_state)
     unfolding start_batch batch_of
-    start_by k q = start_parsed (some (batch_of bytes)) (parse_well bytes w) ∙ ap (λ (n : ℕ). judged n blank [] (started start_state)) q
+    start_by k q = start_parsed (Some (batch_of bytes)) (parse_well bytes w) ∙ ap (λ (n : ℕ). judged n blank [] (started start_state)) q
 
     -- rows 3 to 5
     begins : (start_rows bytes ≡ 0 → ⊥) → (p q : Bool) → is_none e.root ≡ p → same_tree e.tree ROOT ≡ q → start_number e ≡ start_rows bytes

@@ -10,13 +10,14 @@ use Rattle.calls.proofs.notes.Setting.{batched_facts}
 use Rattle.record.specs.Parse.{well_formed, batch_of}
 use mathlib.Core.Bool.{Bool, true, false, not, false≢true}
 use mathlib.Core.List.{List}
-use mathlib.Core.Option.{Option, none, some}
+use Rattle.std.specs.Prelude.{Option, None, Some}
 use mathlib.Core.Path.{◌≡◌, refl, sym, ap, ◌∙◌, ap₂}
 use Prim.Native.Nat.{ℕ, ◌+◌, ◌≤◌, ◌<◌}
 use native.Mathlib.Omega.{arith}
 use lib.Dec.{eqb, ltb}
-use lib.ListN.{length, get_or, set, replicate, length-replicate}
-use borrow.Author.Tests.{ltb-true, ltb-false, eqb-true, eqb-false, eq-eqb, ne_eqb}
+use lib.ListN.{length, get_or, take, set, replicate, length-replicate}
+use Rattle.std.proofs.lemmas.List.{get_or-take, length-take-le}
+use borrow.Author.Tests.{ltb-true, eqb-true, eqb-false, eq-eqb, ne_eqb}
 use Rattle.base.specs.Tests.{◌and◌, is_some, any, distinct}
 use Rattle.base.proofs.Cases.{by_test}
 use Rattle.base.proofs.Tests.{and_false, and_right, bit_is}
@@ -72,7 +73,13 @@ listing_begins bytes formed e =
 
 module _ {b : Batch} {k i : ℕ} {seen : List ℕ} (g : Listing b k i seen) where
   -- one more, as a search among those before it answers
-  module _ (l : i < k) {x : NodeId} (id : x ≡ listed_id b i) {p : ℕ} (first : First (λ j. eqb (get_or seen j 0) x.0) i p) where
+  module _ (l : i < k) {x : NodeId} (id : x ≡ listed_id b i) (room : length seen ≡ 64)
+      {p : ℕ} (found : First (λ j. eqb (get_or (take i seen) j 0) x.0) (length (take i seen)) p) where
+    first : First (λ j. eqb (get_or seen j 0) x.0) i p
+    first =
+        let few : i ≤ length seen = omega (arith, g.filling.few) in
+        first_cong _ _ i p (λ j m. ap (λ v. eqb v x.0) (get_or-take i seen j 0 m)) (rw (length-take-le i seen few) at found)
+
     same : (h : ℕ) → h < i → eqb (get_or seen h 0) x.0 ≡ same_node (listed_id b h) (listed_id b i)
     unfolding same_node
     same h m =
@@ -80,12 +87,13 @@ module _ {b : Batch} {k i : ℕ} {seen : List ℕ} (g : Listing b k i seen) wher
         let stored = rw zero-add at (fill_put 0 (λ j. (listed_id b j).0) i (replicate 64 0) room h m) in
         ap₂ eqb (ap (λ s. get_or s h 0) g.filling.filled ∙ stored) (ap (λ (y : NodeId). y.0) id)
 
-    pub listing_found : k ≡ length b.nodes → p < i → ListedAgain b (record { first = p; second = i })
+    pub listing_found : k ≡ length b.nodes → p < i → ListedAgain b (Some (record { first = p; second = i }))
+    unfolding ListedAgain
     listing_found e h = record {
       within = omega arith;
       apart = g.apart;
-      earlier = λ m. h;
-      again = λ m. record {
+      earlier = h;
+      again = record {
         within = first.within;
         passed = λ j n. sym (same j (omega arith)) ∙ first.passed j n;
         hit = λ n. sym (same p n) ∙ first.hit n;
@@ -99,28 +107,17 @@ module _ {b : Batch} {k i : ℕ} {seen : List ℕ} (g : Listing b k i seen) wher
     }
 
   -- all of them
-  pub listing_ends : k ≡ length b.nodes → k ≤ i → ListedAgain b (record { first = k; second = k })
-  listing_ends e done = record {
-    within = omega arith;
-    apart = λ j m. g.apart j (omega arith);
-    earlier = λ m. absurd (omega arith);
-    again = λ m. absurd (omega arith);
-  }
+  pub listing_ends : k ≡ length b.nodes → k ≤ i → ListedAgain b None
+  unfolding ListedAgain
+  listing_ends e done = λ j m. g.apart j (omega arith)
 
 -- row 5 by these places
-pub again_twice : {b : Batch} {r : Again} {k : ℕ} → ListedAgain b r → k ≡ length b.nodes → ltb r.second k ≡ not (distinct same_node (listed_ids b.nodes))
-again_twice {b} {r} {k} g e = by_test (ltb r.second k) found apart
-  where
-    found : ltb r.second k ≡ true → ltb r.second k ≡ not (distinct same_node (listed_ids b.nodes))
-    found t =
-        let l : r.second < length b.nodes = rw (← e) (ltb-true r.second k t) in
-        t ∙ twice_found b r.first r.second (g.earlier l) l ((g.again l).hit (g.earlier l))
-
-    apart : ltb r.second k ≡ false → ltb r.second k ≡ not (distinct same_node (listed_ids b.nodes))
-    apart t =
-        let past = ltb-false r.second k t in
-        t ∙ sym (ap (λ ids. not (distinct same_node ids)) (sym (listed_ids_lem b))
-        ∙ ap not (distinct_list_of same_node (length b.nodes) (listed_id b) (λ h j l m. g.apart j (omega arith) h l)))
+pub again_twice : (b : Batch) (r : Option Again) → ListedAgain b r → is_some r ≡ not (distinct same_node (listed_ids b.nodes))
+unfolding ListedAgain
+again_twice b None apart =
+    sym (ap (λ ids. not (distinct same_node ids)) (sym (listed_ids_lem b))
+    ∙ ap not (distinct_list_of same_node (length b.nodes) (listed_id b) (λ h j l m. apart j (omega arith) h l)))
+again_twice b (Some r) g = twice_found b r.first r.second g.earlier g.within (g.again.hit g.earlier)
 
 -- ## A listed node
 
@@ -130,9 +127,9 @@ module _ (s : Forest) (b : Batch) (l : Listed) where
   unfolding differs present
   differs_old e = go (find (here s b l.id) s.nodes) e
     where
-      go : (o : Option NodeState) → (elim o as (λ _. Bool) [ none ↦ false | some n ↦ not (same_data n.body l.body) ]) ≡ true → is_some o ≡ true
-      go none f = absurd (false≢true f)
-      go (some n) f = refl
+      go : (o : Option NodeState) → (elim o as (λ _. Bool) [ None ↦ false | Some n ↦ not (same_data n.body l.body) ]) ≡ true → is_some o ≡ true
+      go None f = absurd (false≢true f)
+      go (Some n) f = refl
 
   -- the two tests of row 18
   pub clash_is : updated_and_removed s b l ≡ (gone s b (here s b l.id) and differs s b l)

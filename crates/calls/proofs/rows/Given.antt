@@ -1,17 +1,18 @@
 -- Laws of the scope of a batch, and of what the phases are given. Assumes nothing.
 use mathlib.Core.Bool.{Bool, true, false, not, false≢true}
 use mathlib.Core.List.{List, [], ◌∷◌, ◌++◌, map, append-nil}
-use mathlib.Core.Option.{Option, none, some, none-ne-some, some-injective}
+use Rattle.std.proofs.lemmas.Option.{none-some, same_Some}
 use mathlib.Core.Path.{◌≡◌, refl, ap, ◌∙◌, sym}
 use Prim.Native.Nat.{ℕ, zero, suc, ◌+◌, ◌<◌}
 use native.Mathlib.Omega.{arith}
 use lib.ListN.{length, get_or, take, length-append}
-use Rattle.std.specs.Prelude.{if◌then◌else◌}
+use Rattle.std.specs.Prelude.{if◌then◌else◌, Option, None, Some}
 use Rattle.base.specs.Tests.{is_some, ◌and◌, is_none, position}
 use Rattle.ids.specs.declared.NodeId.{NodeId}
 use Rattle.record.specs.Batch.{Batch, Listed, named_ids}
 use Rattle.record_reader.specs.Reader.{no_listed, listed_at, field_at, root_or_zero}
-use Rattle.state.specs.State.{Forest, find, link_at, TreeEntry, SubtreeState, subtree_state, subtree_from, subtree_of}
+use Rattle.state.specs.State.{Forest, find, link_at, TreeEntry, subtree_state, subtree_from, subtree_of}
+use Rattle.state.specs.declared.SubtreeState.{SubtreeState}
 use Rattle.state.specs.Sound as sound
 use Rattle.state_array.specs.Stored.{entries_of}
 use Rattle.state_array.specs.View.{view}
@@ -35,10 +36,6 @@ use Rattle.ids.proofs.Ids.{same_tree→≡}
 use Rattle.record.specs.Parse.{well_formed, batch_of}
 use Rattle.record.proofs.Batch.{named_append}
 use Rattle.record_reader.proofs.Reader.{first_child_is}
-use Rattle.state_lookup.specs.Lookup.{ends_of}
-use Rattle.state_lookup.specs.declared.Ends.{Ends}
-use Rattle.state_lookup.specs.declared.FoundTree.{FoundTree}
-use Rattle.state_lookup.specs.declared.FoundTree.TheVariants as tree
 
 -- ## The children that are named
 
@@ -63,51 +60,50 @@ entries_last bytes formed i e =
 -- ## The root as a batch leaves it
 
 -- the number of a tree that exists is its place in the table
-subtree_number : (k : ℕ) (ts : List TreeEntry) (t : TreeId) (u : SubtreeState) → subtree_from k ts t ≡ some u
+subtree_number : (k : ℕ) (ts : List TreeEntry) (t : TreeId) (u : SubtreeState) → subtree_from k ts t ≡ Some u
     → u.root.tree.0 ≡ k + position same_tree (map (λ e. e.id) ts) t
 unfolding subtree_from subtree_state
-subtree_number k [] t u e = absurd (none-ne-some u e)
+subtree_number k [] t u e = absurd (none-some u e)
 subtree_number k (r ∷ ts) t u e = go (same_tree t r.id) e (subtree_number (suc k) ts t u)
   where
     go : (c : Bool)
-        → (if c then elim r.subtree as (λ _. Option SubtreeState) [ none ↦ none | some v ↦ some (subtree_state k v) ] else subtree_from (suc k) ts t) ≡ some u
-        → (subtree_from (suc k) ts t ≡ some u → u.root.tree.0 ≡ suc k + position same_tree (map (λ e. e.id) ts) t)
+        → (if c then elim r.subtree as (λ _. Option SubtreeState) [ None ↦ None | Some v ↦ Some (subtree_state k v) ] else subtree_from (suc k) ts t) ≡ Some u
+        → (subtree_from (suc k) ts t ≡ Some u → u.root.tree.0 ≡ suc k + position same_tree (map (λ e. e.id) ts) t)
         → u.root.tree.0 ≡ k + (if c then zero else suc (position same_tree (map (λ e. e.id) ts) t))
     go true f h =
-        let z = some_from r.subtree (λ v. some (subtree_state k v)) u f in
-        sym (ap (λ (v : SubtreeState). v.root.tree.0) (some-injective (subtree_state k z.0) u z.2)) ∙ sym (add-zero k)
+        let z = some_from r.subtree (λ v. Some (subtree_state k v)) u f in
+        sym (ap (λ (v : SubtreeState). v.root.tree.0) (same_Some (subtree_state k z.0) u z.2)) ∙ sym (add-zero k)
     go false f h = omega (arith, h f)
 
 -- tree data has a root
-root_there : (o : Option NodeId) → is_some o ≡ true → o ≡ some (root_or_zero o)
-root_there none e = absurd (false≢true e)
-root_there (some r) e = refl
+root_there : (o : Option NodeId) → is_some o ≡ true → o ≡ Some (root_or_zero o)
+root_there None e = absurd (false≢true e)
+root_there (Some r) e = refl
 
 module _ (s : Forest) (b : Batch) {v : Bool} (data_is : v ≡ is_some b.root) where
   -- that of the tree data
-  pub root_given : {x : NodeId} → v ≡ true → x ≡ root_or_zero b.root → some (here s b x) ≡ root_after s b
+  pub root_given : {x : NodeId} → v ≡ true → x ≡ root_or_zero b.root → Some (here s b x) ≡ root_after s b
   unfolding root_after
   root_given e q = rw q (sym (rw (root_there b.root (sym data_is ∙ e))))
 
-  module _ (without : v ≡ false) {t : TreeId} (tree_is : t ≡ b.tree) (f : FoundTree) (ends : ends_of f ≡ subtree_of s t) where
+  module _ (without : v ≡ false) {t : TreeId} (tree_is : t ≡ b.tree) (f : Option SubtreeState) (ends : f ≡ subtree_of s t) where
     -- the tree's own
-    own_root : root_after s b ≡ (elim (ends_of f) as (λ _. Option FullNodeId) [ none ↦ none | some u ↦ some u.root ])
+    own_root : root_after s b ≡ (elim f as (λ _. Option FullNodeId) [ None ↦ None | Some u ↦ Some u.root ])
     unfolding root_after
     own_root = rw (none_of b.root (ap not (sym data_is ∙ without)), ← tree_is, ends)
 
     -- the tree does not exist
-    pub root_missing : f ≡ tree.Nothing → none ≡ root_after s b
-    unfolding ends_of
+    pub root_missing : f ≡ None → None ≡ root_after s b
     root_missing q = sym (own_root ∙ rw q)
 
     -- it exists
-    pub root_own : {e : Ends} → f ≡ tree.At e → some (here s b e.root.node) ≡ root_after s b
-    unfolding ends_of here tree_number subtree_of
+    pub root_own : {e : SubtreeState} → f ≡ Some e → Some (here s b e.root.node) ≡ root_after s b
+    unfolding here tree_number subtree_of
     root_own {e} q =
         let u : SubtreeState = record { root = e.root; focus = e.focus } in
         let at : e.root.tree.0 ≡ position same_tree (map (λ t. t.id) s.trees) b.tree =
-        subtree_number 0 s.trees b.tree u (rw tree_is at (sym ends ∙ ap ends_of q)) ∙ zero-add _ in
-        sym (own_root ∙ rw q (ap (λ (k : ℕ). some (record { tree = record { 0 = k }; node = e.root.node })) at))
+        subtree_number 0 s.trees b.tree u (rw tree_is at (sym ends ∙ q)) ∙ zero-add _ in
+        sym (own_root ∙ rw q (ap (λ (k : ℕ). Some (record { tree = record { 0 = k }; node = e.root.node })) at))
 
 -- ## A start
 
@@ -118,7 +114,7 @@ module _ (b : Batch) (root : same_tree b.tree ROOT ≡ true) where
   start_number_lem = rw root
 
   -- ROOT's root
-  pub start_root : is_none b.root ≡ false → root_after (seed b) (without_tree_data b) ≡ some (record { tree = record { 0 = 0 }; node = root_or_zero b.root })
+  pub start_root : is_none b.root ≡ false → root_after (seed b) (without_tree_data b) ≡ Some (record { tree = record { 0 = 0 }; node = root_or_zero b.root })
   unfolding root_after seed without_tree_data subtree_of subtree_from subtree_state same_tree ◌and◌
   start_root e = rw (same_tree→≡ b.tree ROOT root, root_there b.root (not_false e))
 
@@ -128,21 +124,21 @@ module _ (b : Batch) (root : same_tree b.tree ROOT ≡ true) where
 abbrev with_root : Batch → Option NodeId → Batch
 with_root b o = record { tree = b.tree; root = o; focus = b.focus; nodes = b.nodes }
 
-root_kept : (o : Option NodeId) → (if is_some o then o else none) ≡ o
-root_kept none = refl
-root_kept (some r) = refl
+root_kept : (o : Option NodeId) → (if is_some o then o else None) ≡ o
+root_kept None = refl
+root_kept (Some r) = refl
 
 -- that of a batch on a state is the record's
 pub asked_update : (s : Forest) (bytes : List ℕ) (c : Scope) → Scoped s (batch_of bytes) c → asked bytes c ≡ batch_of bytes
 unfolding asked with_tree_data
 asked_update s bytes c h =
     let b = batch_of bytes in
-    ap (λ (t : Bool). with_root b (if t then b.root else none)) h.tree_data ∙ ap (with_root b) (root_kept b.root)
+    ap (λ (t : Bool). with_root b (if t then b.root else None)) h.tree_data ∙ ap (with_root b) (root_kept b.root)
 
 -- that of a start is without tree data
 pub asked_start : (s : Forest) (bytes : List ℕ) (c : Scope) → Scoped s (without_tree_data (batch_of bytes)) c → asked bytes c ≡ without_tree_data (batch_of bytes)
 unfolding asked with_tree_data without_tree_data
-asked_start s bytes c h = let b = batch_of bytes in ap (λ (t : Bool). with_root b (if t then b.root else none)) h.tree_data
+asked_start s bytes c h = let b = batch_of bytes in ap (λ (t : Bool). with_root b (if t then b.root else None)) h.tree_data
 
 -- ## What the phases are given
 
@@ -155,8 +151,8 @@ kept_seed b = record {
   few_trees = omega arith;
   few_children = omega arith;
   fields = refl;
-  parent_present = λ x l q. absurd (none-ne-some l q);
-  gone_parent = λ c x l q. absurd (none-ne-some l q);
+  parent_present = λ x l q. absurd (none-some l q);
+  gone_parent = λ c x l q. absurd (none-some l q);
 }
 
 module _ (state bytes notes : List ℕ) (c : Scope) where

@@ -1,13 +1,12 @@
 -- Laws of trees by a search of the table, 12's second part and rows 15 to 20 of an outcome. Assumes nothing.
 use mathlib.Core.Bool.{Bool, true, false, not}
 use mathlib.Core.List.{List, [], ◌∷◌}
-use mathlib.Core.Option.{some}
 use mathlib.Core.Path.{◌≡◌, refl, sym, ap, ◌∙◌}
 use Prim.Native.Nat.{ℕ, ◌≤◌, ◌<◌}
 use borrow.Author.Tests.{lt-ltb, le-ltb}
 use lib.Dec.{ltb, leb}
 use lib.ListN.{length}
-use Rattle.std.specs.Prelude.{if◌then◌else◌}
+use Rattle.std.specs.Prelude.{if◌then◌else◌, Some}
 use Rattle.base.specs.Tests.{is_none, ◌and◌, is_some, same_option}
 use Rattle.base.specs.Tables.{Row, row, found, first}
 use Rattle.base.specs.Search.{First}
@@ -40,8 +39,8 @@ module _ (state : List ℕ) (b : Batch) where
     held : is_some (holder (forest state).nodes b.tree) ≡ ltb r (slots_of state)
     unfolding holder view node_in body_in graft_in graft?
     held =
-        first_given_some (λ (k : NodeState). same_option same_tree (graft? k.body) (some b.tree)) (λ (k : NodeState). k.id) (list_of (slots_of state) (node_in state))
-        ∙ sym (first_any (λ (k : NodeState). same_option same_tree (graft? k.body) (some b.tree)) (slots_of state) (node_in state) r search)
+        first_given_some (λ (k : NodeState). same_option same_tree (graft? k.body) (Some b.tree)) (λ (k : NodeState). k.id) (list_of (slots_of state) (node_in state))
+        ∙ sym (first_any (λ (k : NodeState). same_option same_tree (graft? k.body) (Some b.tree)) (slots_of state) (node_in state) r search)
 
     pub ungrafted_is : is_some b.root ≡ true → (not (same_tree b.tree ROOT) and leb (slots_of state) r) ≡ ungrafted (forest state) b
     unfolding ungrafted with_tree_data ◌and◌

@@ -3,7 +3,6 @@ use Rattle.record.specs.Parse.{batch_of}
 use Rattle.state_array.specs.declared.TreeRow.{TreeRow}
 use mathlib.Core.Bool.{Bool, true, false}
 use mathlib.Core.List.{List, [], ◌∷◌, map}
-use mathlib.Core.Option.{Option, none, some}
 use mathlib.Core.Path.{◌≡◌, refl, sym, ap, ◌∙◌}
 use Prim.Native.Nat.{ℕ, zero, suc, ◌+◌, ◌<◌, ◌≤◌}
 use native.Mathlib.Nat.{add-zero, zero-add}
@@ -13,7 +12,7 @@ use lib.Dec.{eqb, ltb}
 use lib.ListN.{length, get_or, length-append, length-map, get_or-append}
 use lib.Seq.{get_or-append-add}
 use borrow.Author.Tests.{lt-ltb, le-ltb, eqb-true, eqb-false, eq-eqb, ne_eqb}
-use Rattle.std.specs.Prelude.{if◌then◌else◌}
+use Rattle.std.specs.Prelude.{if◌then◌else◌, Option, None, Some, option_map}
 use Rattle.base.specs.Tests.{◌and◌, position}
 use Rattle.base.specs.Bytes.{list_of}
 use Rattle.base.specs.Search.{First}
@@ -25,7 +24,8 @@ use Rattle.ids.specs.declared.NodeId.{NodeId}
 use Rattle.ids.specs.declared.TreeIndex.{TreeIndex}
 use Rattle.ids.specs.declared.FullNodeId.{FullNodeId}
 use Rattle.record.specs.Batch.{Batch}
-use Rattle.state.specs.State.{Subtree, TreeEntry, Forest, SubtreeState, subtree_state, subtree_of}
+use Rattle.state.specs.State.{Subtree, TreeEntry, Forest, subtree_state, subtree_of}
+use Rattle.state.specs.declared.SubtreeState.{SubtreeState}
 use Rattle.state_array.specs.View.{tree_in, entry_in, trees_of, view, slots_of}
 use Rattle.state_array.specs.Stored.{no_tree, tree_row}
 use Rattle.state_lookup.proofs.Trees.{state_of, tree_absent, tree_unborn, tree_there}
@@ -61,7 +61,7 @@ module _ (s : Forest) (b : Batch) where
   unfolding outcome new_entry
   trees_length = rw (← known_number, length-append, length_entries_after s b 0 s.trees) (go (known s b))
     where
-      go : (t : Bool) → length s.trees + length {A = TreeEntry} (if t then [] else record { id = b.tree; subtree = subtree_here s b none } ∷ [])
+      go : (t : Bool) → length s.trees + length {A = TreeEntry} (if t then [] else record { id = b.tree; subtree = subtree_here s b None } ∷ [])
           ≡ (if t then length s.trees else length s.trees + 1)
       go true = add-zero (length s.trees)
       go false = refl
@@ -84,28 +84,27 @@ module _ (s : Forest) (b : Batch) where
       ∙ ap (λ k. entry_after s b k (get_or s.trees i no_tree)) (zero-add i)
 
   -- a tree that takes the next
-  new_tree : known s b ≡ false → get_or (outcome s b).trees (length s.trees) no_tree ≡ record { id = b.tree; subtree = subtree_here s b none }
+  new_tree : known s b ≡ false → get_or (outcome s b).trees (length s.trees) no_tree ≡ record { id = b.tree; subtree = subtree_here s b None }
   unfolding outcome new_entry
   new_tree e =
       let last : length s.trees ≡ length (entries_after s b 0 s.trees) + 0 = omega (arith, length_entries_after s b 0 s.trees) in
-      rw (e, last) (get_or-append-add (entries_after s b 0 s.trees) (record { id = b.tree; subtree = subtree_here s b none } ∷ []) 0 no_tree)
+      rw (e, last) (get_or-append-add (entries_after s b 0 s.trees) (record { id = b.tree; subtree = subtree_here s b None } ∷ []) 0 no_tree)
 
 -- ## The batch's tree
 
 -- what a root gives, with a focus
 rooted : NodeId → Option FullNodeId → Option Subtree
-rooted f none = none
-rooted f (some x) = some (record { root = x.node; focus = f })
+rooted f None = None
+rooted f (Some x) = Some (record { root = x.node; focus = f })
 
 -- by the root that the scope names
-own_subtree : (c : Scope) (focus : NodeId) → (if c.rooted then some (record { root = c.root; focus = focus }) else none) ≡ rooted focus (root_in c)
+own_subtree : (c : Scope) (focus : NodeId) → option_map (λ x. record { root = x; focus = focus }) c.root ≡ rooted focus (root_in c)
 unfolding root_in rooted
-own_subtree c focus = go c.rooted
+own_subtree c focus = go c.root
   where
-    go : (t : Bool) → (if t then some (record { root = c.root; focus = focus }) else none)
-        ≡ rooted focus (if t then some (record { tree = c.tree; node = c.root }) else none)
-    go true = refl
-    go false = refl
+    go : (o : Option NodeId) → option_map (λ x. record { root = x; focus = focus }) o ≡ rooted focus (option_map (λ x. record { tree = c.tree; node = x }) o)
+    go None = refl
+    go (Some x) = refl
 
 -- by what the tree was
 root_subtree : (s : Forest) (b : Batch) (k : ℕ) (was : Option Subtree) → subtree_of s b.tree ≡ state_of k was
@@ -114,11 +113,11 @@ unfolding root_after subtree_here rooted subtree_state here
 root_subtree s b k was e = go b.root (subtree_of s b.tree) was e
   where
     go : (o : Option NodeId) (t : Option SubtreeState) (was : Option Subtree) → t ≡ state_of k was
-        → rooted b.focus (elim o as (λ _. Option FullNodeId) [ some r ↦ some (here s b r) | none ↦ elim t as (λ _. Option FullNodeId) [ none ↦ none | some u ↦ some u.root ] ])
-        ≡ elim o as (λ _. Option Subtree) [ some r ↦ some (record { root = r; focus = b.focus }) | none ↦ elim was as (λ _. Option Subtree) [ none ↦ none | some u ↦ some (record { root = u.root; focus = b.focus }) ] ]
-    go (some r) t was q = refl
-    go none t none q = rw q
-    go none t (some u) q = rw q
+        → rooted b.focus (elim o as (λ _. Option FullNodeId) [ Some r ↦ Some (here s b r) | None ↦ elim t as (λ _. Option FullNodeId) [ None ↦ None | Some u ↦ Some u.root ] ])
+        ≡ elim o as (λ _. Option Subtree) [ Some r ↦ Some (record { root = r; focus = b.focus }) | None ↦ elim was as (λ _. Option Subtree) [ None ↦ None | Some u ↦ Some (record { root = u.root; focus = b.focus }) ] ]
+    go (Some r) t was q = refl
+    go None t None q = rw q
+    go None t (Some u) q = rw q
 
 -- ## Roots that go
 
@@ -207,7 +206,7 @@ module _ {state bytes : List ℕ} {c : Scope} (g : Given state bytes c) where
   own_entry_lem : (k : ℕ) (old : Option Subtree) → subtree_of s b.tree ≡ state_of k old → record { id = b.tree; subtree = subtree_here s b old } ≡ own_entry b c
   unfolding own_entry
   own_entry_lem k old e =
-      let p : subtree_here s b old ≡ (if c.rooted then some (record { root = c.root; focus = b.focus }) else none) =
+      let p : subtree_here s b old ≡ option_map (λ x. record { root = x; focus = b.focus }) c.root =
       sym (own_subtree c b.focus ∙ ap (rooted b.focus) g.scoped.root ∙ root_subtree s b k old e) in
       λ z. record { id = b.tree; subtree = p z }
 
@@ -226,7 +225,7 @@ module _ {state bytes : List ℕ} {c : Scope} (g : Given state bytes c) where
       go (no h) =
           let last : c.tree.0 ≡ length s.trees = omega (arith, number_first.within, table_length) in
           let unknown : known s b ≡ false = known_number s b ∙ rw (← g.scoped.tree) (le-ltb c.tree.0 (length s.trees) (omega arith)) in
-          rw last (new_tree s b unknown) ∙ own_entry_lem c.tree.0 none (tree_absent state b.tree c.tree.0 number_first (omega arith))
+          rw last (new_tree s b unknown) ∙ own_entry_lem c.tree.0 None (tree_absent state b.tree c.tree.0 number_first (omega arith))
 
   pub own_row : {i : ℕ} {r : TreeRow} → i ≡ c.tree.0 → r ≡ tree_row (own_entry (batch_of bytes) c) → r ≡ tree_row (tree_after state bytes c i)
   unfolding own_entry asked
@@ -255,19 +254,19 @@ module _ {state bytes : List ℕ} {c : Scope} (g : Given state bytes c) where
     -- as the row of the table says it
     module _ {row : TreeRow} (row_is : row ≡ tree_in state i) where
       -- it did not exist
-      pub other_unborn : {r : TreeRow} → row.exists ≡ 0 → r ≡ tree_row (record { id = row.id; subtree = none }) → r ≡ tree_row (tree_after state bytes c i)
+      pub other_unborn : {r : TreeRow} → row.exists ≡ 0 → r ≡ tree_row (record { id = row.id; subtree = None }) → r ≡ tree_row (tree_after state bytes c i)
       unfolding entry_in subtree_elsewhere
       other_unborn e q = q ∙ ap tree_row (rw row_is (sym (other_entry ∙ rw (eq-eqb (tree_in state i).exists 0 (rw row_is at e)))))
 
       -- it exists while its root stays
       module _ {notes : List ℕ} (told : Told PLANNED state bytes c notes) (born : row.exists ≡ 0 → ⊥) {t : Bool}
           (goes : t ≡ marked_gone state notes (record { tree = record { 0 = i }; node = row.root })) where
-        other_born : record { id = row.id; subtree = if t then none else some (record { root = row.root; focus = row.focus }) } ≡ tree_after state bytes c i
+        other_born : record { id = row.id; subtree = if t then None else Some (record { root = row.root; focus = row.focus }) } ≡ tree_after state bytes c i
         unfolding entry_in subtree_elsewhere
         other_born = rw row_is (sym (other_entry ∙ rw (ne_eqb (tree_in state i).exists 0 (rw row_is at born), rw row_is at (goes ∙ marked_gone_lem told (record { tree = record { 0 = i }; node = row.root })))))
 
-        pub other_gone : {r : TreeRow} → t ≡ true → r ≡ tree_row (record { id = row.id; subtree = none }) → r ≡ tree_row (tree_after state bytes c i)
+        pub other_gone : {r : TreeRow} → t ≡ true → r ≡ tree_row (record { id = row.id; subtree = None }) → r ≡ tree_row (tree_after state bytes c i)
         other_gone e q = q ∙ ap tree_row (rw e at other_born)
 
-        pub other_stays : {r : TreeRow} → t ≡ false → r ≡ tree_row (record { id = row.id; subtree = some (record { root = row.root; focus = row.focus }) }) → r ≡ tree_row (tree_after state bytes c i)
+        pub other_stays : {r : TreeRow} → t ≡ false → r ≡ tree_row (record { id = row.id; subtree = Some (record { root = row.root; focus = row.focus }) }) → r ≡ tree_row (tree_after state bytes c i)
         other_stays e q = q ∙ ap tree_row (rw e at other_born)

@@ -1,6 +1,5 @@
 -- Laws of the climb from a node that goes to the node whose own fate it is, and of 18's reason. Assumes nothing.
 use mathlib.Core.List.{List}
-use mathlib.Core.Option.{Option, none, some}
 use mathlib.Core.Path.{◌≡◌, refl, sym, ap, ◌∙◌, subst}
 use Prim.Native.Nat.{ℕ, suc, ◌+◌, ◌-◌, ◌≤◌, ◌<◌}
 use native.Mathlib.Omega.{arith}
@@ -8,22 +7,19 @@ use lib.Dec.{eqb, ltb}
 use lib.ListN.{length, get_or}
 use borrow.Author.Tests.{lt-ltb, le-ltb, eqb-true, eqb-false}
 use Rattle.base.proofs.Cases.{by_test}
-use Rattle.std.specs.Prelude.{if◌then◌else◌}
+use Rattle.std.specs.Prelude.{if◌then◌else◌, Option, None, Some}
 use Rattle.base.specs.Search.{First}
 use Rattle.base.proofs.Tests.{both}
-use Rattle.ids.specs.Ids.{ROOT}
 use Rattle.ids.specs.declared.FullNodeId.{FullNodeId}
 use Rattle.record.specs.Batch.{Batch}
 use Rattle.reasons.specs.Reasons.{Dropped, accepted, updated_and_gone}
 use Rattle.reasons_calls.specs.Outcome.{dropper, dropped_within, removed_reason}
 use Rattle.reasons_why.specs.declared.Why.{Why}
-use Rattle.reasons_why.specs.Why.{found, dropped_node, dropped_by, why_of, why_for}
+use Rattle.reasons_why.specs.Why.{dropped_node, dropped_by, why_of, why_for}
 use Rattle.record_reader.specs.Reader.{no_listed, listed_at}
 use Rattle.state.specs.State.{ParentAndIndex, Forest, find}
 use Rattle.state_array.specs.declared.LinkRow.{LinkRow}
 use Rattle.state_array.specs.View.{id_in, link_in, link_of, slots_of}
-use Rattle.state_focus.specs.declared.FoundNode.{FoundNode}
-use Rattle.state_focus.specs.declared.FoundNode.TheVariants as node
 use Rattle.update.specs.Words.{here}
 use Rattle.update.specs.Gone.{Fate, stays, goes, asParent, replaced, fate}
 use Rattle.update.specs.Numbers.{updated_and_removed}
@@ -42,6 +38,7 @@ use Rattle.calls.proofs.notes.Marks.{turn_listed, turn_none}
 use Rattle.calls.specs.Noted.{clash_noted, parent_noted}
 use Rattle.calls.proofs.rows.Clashes.{differs_old, clash_is, clash_first}
 use Rattle.calls.specs.declared.why_outcome.climb.Lost.{Lost}
+use Rattle.calls.specs.WhyPass.{plain_nodes}
 use Rattle.calls.specs.Climbs.{lost_of, dropped_from, dropped_at, removed_at}
 
 -- fewer columns are written too
@@ -71,7 +68,7 @@ module _ {state bytes : List ℕ} {c : Scope} {notes : List ℕ} (told : Told PL
   inside = omega (arith, forest_length state)
 
   -- it is there
-  there : find x s.nodes ≡ some (node_at s at)
+  there : find x s.nodes ≡ Some (node_at s at)
   there = find_at s told.given.kept.ascending at inside
 
   -- its fate, by its link
@@ -80,16 +77,16 @@ module _ {state bytes : List ℕ} {c : Scope} {notes : List ℕ} (told : Told PL
   fate_is o e = rw (link_at_lem s told.given.kept.ascending at inside, forest_link state at within, e)
 
   -- without a link it lost its place, by nobody
-  dropped_top : (room : ℕ) → link_of (link_in state at) ≡ none → dropped_within s b (suc room) x ≡ some (record { node = x; by = none })
+  dropped_top : (room : ℕ) → link_of (link_in state at) ≡ None → dropped_within s b (suc room) x ≡ Some (record { node = x; by = None })
   unfolding dropped_within
   dropped_top room e = rw (there, dropped_within, forest_link state at within, e)
 
   -- under a parent, by its fate
-  dropped_under : (room : ℕ) (l : ParentAndIndex) → link_of (link_in state at) ≡ some l → (f : Fate) → fate s b x l ≡ f
+  dropped_under : (room : ℕ) (l : ParentAndIndex) → link_of (link_in state at) ≡ Some l → (f : Fate) → fate s b x l ≡ f
       → dropped_within s b (suc room) x
       ≡ (elim f as (λ _. Option Dropped) [
-        | stays ↦ none
-        | goes ↦ some (record { node = x; by = dropper s b l.parent })
+        | stays ↦ None
+        | goes ↦ Some (record { node = x; by = dropper s b l.parent })
         | asParent ↦ dropped_within s b room l.parent
       ])
   unfolding dropped_within
@@ -100,7 +97,7 @@ module _ {state bytes : List ℕ} {c : Scope} {notes : List ℕ} (told : Told PL
   -- a node that fares as its parent does has one
   parented : fate_word state bytes c at ≡ 2 → (link_in state at).linked ≡ 0 → ⊥
   unfolding fate_by
-  parented e q = flag_not_two (replaced s b x) (sym (goes_if_code (replaced s b x)) ∙ sym (fate_is none (no_link (link_in state at) q)) ∙ e)
+  parented e q = flag_not_two (replaced s b x) (sym (goes_if_code (replaced s b x)) ∙ sym (fate_is None (no_link (link_in state at) q)) ∙ e)
 
   module _ (linked : (link_in state at).linked ≡ 0 → ⊥) where
     -- its link
@@ -119,8 +116,8 @@ module _ {state bytes : List ℕ} {c : Scope} {notes : List ℕ} (told : Told PL
     above_turn = turn_at (told_fewer (omega arith) told) (get_or notes (ABOVE + at) 0) above_within ∙ ap (turn_mark s b) above_id
 
     -- it is listed, or not
-    parent_noted_lem : parent_noted notes at (link_in state at).parent ≡ found (dropper s b (link_in state at).parent)
-    unfolding parent_noted found dropper
+    parent_noted_lem : parent_noted notes at (link_in state at).parent ≡ dropper s b (link_in state at).parent
+    unfolding parent_noted dropper
     parent_noted_lem =
         let p = (link_in state at).parent in
         let turn = get_or notes (TURNS + get_or notes (ABOVE + at) 0) 0 in
@@ -130,11 +127,11 @@ module _ {state bytes : List ℕ} {c : Scope} {notes : List ℕ} (told : Told PL
     -- its fate
     under : {k : ℕ} → fate_word state bytes c at ≡ k → fate_code (fate s b x link) ≡ k
     unfolding fate_by
-    under e = sym (fate_is (some link) (a_link (link_in state at) linked)) ∙ e
+    under e = sym (fate_is (Some link) (a_link (link_in state at) linked)) ∙ e
 
     -- it goes
     dropped_goes : (room : ℕ) → fate_word state bytes c at ≡ 1
-        → dropped_within s b (suc room) x ≡ some (record { node = x; by = dropper s b (link_in state at).parent })
+        → dropped_within s b (suc room) x ≡ Some (record { node = x; by = dropper s b (link_in state at).parent })
     dropped_goes room e = dropped_under room link (a_link (link_in state at) linked) goes (fate_goes (fate s b x link) (under e))
 
     -- it fares as its parent does
@@ -144,13 +141,13 @@ module _ {state bytes : List ℕ} {c : Scope} {notes : List ℕ} (told : Told PL
         ∙ ap (dropped_within s b room) (sym above_id)
 
     -- without room it lost its place only if it goes
-    dropped_not : (fate_word state bytes c at ≡ 1 → ⊥) → dropped_within s b 1 x ≡ none
+    dropped_not : (fate_word state bytes c at ≡ 1 → ⊥) → dropped_within s b 1 x ≡ None
     unfolding fate_by dropped_within fate_code
     dropped_not h = go (fate s b x link) refl
       where
-        go : (f : Fate) → fate s b x link ≡ f → dropped_within s b 1 x ≡ none
+        go : (f : Fate) → fate s b x link ≡ f → dropped_within s b 1 x ≡ None
         go stays q = dropped_under 0 link (a_link (link_in state at) linked) stays q
-        go goes q = absurd (h (fate_is (some link) (a_link (link_in state at) linked) ∙ ap fate_code q))
+        go goes q = absurd (h (fate_is (Some link) (a_link (link_in state at) linked) ∙ ap fate_code q))
         go asParent q = dropped_under 0 link (a_link (link_in state at) linked) asParent q
 
   -- room does not matter where it does not fare as its parent does
@@ -158,14 +155,14 @@ module _ {state bytes : List ℕ} {c : Scope} {notes : List ℕ} (told : Told PL
   unfolding fate_by fate_code
   settled room h = by_link (link_of (link_in state at)) refl
     where
-      by_fate : (l : ParentAndIndex) → link_of (link_in state at) ≡ some l → (f : Fate) → fate s b x l ≡ f → dropped_within s b 1 x ≡ dropped_within s b (suc room) x
+      by_fate : (l : ParentAndIndex) → link_of (link_in state at) ≡ Some l → (f : Fate) → fate s b x l ≡ f → dropped_within s b 1 x ≡ dropped_within s b (suc room) x
       by_fate l e stays q = dropped_under 0 l e stays q ∙ sym (dropped_under room l e stays q)
       by_fate l e goes q = dropped_under 0 l e goes q ∙ sym (dropped_under room l e goes q)
-      by_fate l e asParent q = absurd (h (fate_is (some l) e ∙ ap fate_code q))
+      by_fate l e asParent q = absurd (h (fate_is (Some l) e ∙ ap fate_code q))
 
       by_link : (o : Option ParentAndIndex) → link_of (link_in state at) ≡ o → dropped_within s b 1 x ≡ dropped_within s b (suc room) x
-      by_link none e = dropped_top 0 e ∙ sym (dropped_top room e)
-      by_link (some l) e = by_fate l e (fate s b x l) refl
+      by_link None e = dropped_top 0 e ∙ sym (dropped_top room e)
+      by_link (Some l) e = by_fate l e (fate s b x l) refl
 
   -- ## Where the climb ends
 
@@ -176,22 +173,22 @@ module _ {state bytes : List ℕ} {c : Scope} {notes : List ℕ} (told : Told PL
   -- as the code finds its link and its id
   module _ {l : LinkRow} (is : l ≡ link_in state at) {y : FullNodeId} (id : y ≡ id_in state at) where
     -- it has no parent
-    pub here_top : l.linked ≡ 0 → record { node = node.At y; by = node.Nothing } ≡ lost_of (dropped_at state bytes c at)
-    unfolding lost_of found dropped_node dropped_by
+    pub here_top : l.linked ≡ 0 → Some (record { node = y; by = None }) ≡ lost_of (dropped_at state bytes c at)
+    unfolding lost_of
     here_top e =
         rw (id, ← forest_id state at within)
         (sym (ap lost_of (dropped_here ∙ dropped_top 0 (no_link (link_in state at) (rw is at e)))))
 
     module _ (linked : l.linked ≡ 0 → ⊥) {k : ℕ} (fares : k ≡ fate_word state bytes c at) where
       -- it has one, and does not go
-      pub here_stays : (k ≡ 1 → ⊥) → record { node = node.Nothing; by = node.Nothing } ≡ lost_of (dropped_at state bytes c at)
-      unfolding lost_of found dropped_node dropped_by
+      pub here_stays : (k ≡ 1 → ⊥) → None ≡ lost_of (dropped_at state bytes c at)
+      unfolding lost_of
       here_stays h = sym (ap lost_of (dropped_here ∙ dropped_not (rw is at linked) (λ e. h (fares ∙ e))))
 
       -- it goes
-      pub here_goes : {p : FoundNode} → k ≡ 1 → p ≡ parent_noted notes at l.parent
-          → record { node = node.At y; by = p } ≡ lost_of (dropped_at state bytes c at)
-      unfolding lost_of found dropped_node dropped_by
+      pub here_goes : {p : Option FullNodeId} → k ≡ 1 → p ≡ parent_noted notes at l.parent
+          → Some (record { node = y; by = p }) ≡ lost_of (dropped_at state bytes c at)
+      unfolding lost_of
       here_goes e by =
           rw (id, by, is, parent_noted_lem (rw is at linked), ← forest_id state at within)
           (sym (ap lost_of (dropped_here ∙ dropped_goes (rw is at linked) 0 (sym fares ∙ e))))
@@ -203,35 +200,36 @@ parent_room told within is h = omega (arith, above_within told within (rw is at 
 
 -- ## The climb
 
--- from slot i it has come to the slot `at`, with room for `room` steps more
-pub record Climbing (state bytes : List ℕ) (c : Scope) (i room at : ℕ) : Type 0 where
+-- from slot i it has come to the slot `at` in so many steps
+pub record Climbing (state bytes : List ℕ) (c : Scope) (i steps at : ℕ) : Type 0 where
   pub there : at < slots_of state
-  pub same : dropped_from state bytes c i ≡ dropped_within (forest state) (asked bytes c) room (id_at (forest state) at)
+  pub same : dropped_from state bytes c i ≡ dropped_within (forest state) (asked bytes c) (slots_of state - steps) (id_at (forest state) at)
 
-pub climbing_starts : {state bytes : List ℕ} {c : Scope} {i n : ℕ} → i < slots_of state → n ≡ slots_of state → Climbing state bytes c i n i
-climbing_starts {state} {bytes} {c} {i} h e =
-    record { there = h; same = ap (λ k. dropped_within (forest state) (asked bytes c) k (id_at (forest state) i)) (forest_length state ∙ sym e) }
+pub climbing_starts : {state bytes : List ℕ} {c : Scope} {i : ℕ} → i < slots_of state → Climbing state bytes c i 0 i
+climbing_starts {state} {bytes} {c} {i} h =
+    let all : slots_of state ≡ slots_of state - 0 = omega arith in
+    record { there = h; same = ap (λ k. dropped_within (forest state) (asked bytes c) k (id_at (forest state) i)) (forest_length state ∙ all) }
 
-module _ {state bytes : List ℕ} {c : Scope} {i room at : ℕ} (h : Climbing state bytes c i room at) where
-  -- out of room
-  pub climbing_over : {n : ℕ} → room ≤ 0 → n ≡ slots_of state → dropped_at state bytes c n ≡ dropped_from state bytes c i
+module _ {state bytes : List ℕ} {c : Scope} {i steps at n : ℕ} (h : Climbing state bytes c i steps at) where
+  -- no step is left
+  pub climbing_over : n ≤ steps → n ≡ slots_of state → dropped_at state bytes c n ≡ dropped_from state bytes c i
   unfolding dropped_at dropped_within
-  climbing_over {n} l e =
-      let none_left : room ≡ 0 = omega arith in
+  climbing_over l e =
+      let none_left : slots_of state - steps ≡ 0 = omega arith in
       rw (le-ltb n (slots_of state) (omega arith)) (sym (h.same ∙ rw none_left))
 
-  module _ {notes : List ℕ} (told : Told PLANNED state bytes c notes) (more : 0 < room) {k : ℕ} (fares : k ≡ fate_word state bytes c at) where
-    step : room ≡ suc (room - 1)
+  module _ {notes : List ℕ} (told : Told PLANNED state bytes c notes) (more : steps < n) (count : n ≡ slots_of state) {k : ℕ} (fares : k ≡ fate_word state bytes c at) where
+    step : slots_of state - steps ≡ suc (slots_of state - (steps + 1))
     step = omega arith
 
     -- a node that does not fare as its parent does
     pub climbing_ends : (k ≡ 2 → ⊥) → dropped_at state bytes c at ≡ dropped_from state bytes c i
     climbing_ends e =
-        dropped_here told h.there ∙ settled told h.there (room - 1) (λ q. e (fares ∙ q))
+        dropped_here told h.there ∙ settled told h.there (slots_of state - (steps + 1)) (λ q. e (fares ∙ q))
         ∙ sym (h.same ∙ ap (λ j. dropped_within (forest state) (asked bytes c) j (id_at (forest state) at)) step)
 
     -- one that does
-    pub climbing_goes : k ≡ 2 → Climbing state bytes c i (room - 1) (get_or notes (ABOVE + at) 0)
+    pub climbing_goes : k ≡ 2 → Climbing state bytes c i (steps + 1) (get_or notes (ABOVE + at) 0)
     climbing_goes e =
         let two = sym fares ∙ e in
         let linked = parented told h.there two in
@@ -239,27 +237,61 @@ module _ {state bytes : List ℕ} {c : Scope} {i room at : ℕ} (h : Climbing st
           there = above_within told h.there linked;
           same =
               h.same ∙ ap (λ j. dropped_within (forest state) (asked bytes c) j (id_at (forest state) at)) step
-              ∙ dropped_above told h.there linked (room - 1) two;
+              ∙ dropped_above told h.there linked (slots_of state - (steps + 1)) two;
         }
 
 -- what the slot where it ends says
 module _ (state bytes : List ℕ) (c : Scope) (i at : ℕ) {n : ℕ} (e : dropped_at state bytes c at ≡ dropped_from state bytes c i) (count : n ≡ slots_of state) where
-  pub lost_none : n ≤ at → record { node = node.Nothing; by = node.Nothing } ≡ lost_of (dropped_from state bytes c i)
-  unfolding lost_of found dropped_node dropped_by dropped_at
+  pub lost_none : n ≤ at → None ≡ lost_of (dropped_from state bytes c i)
+  unfolding lost_of dropped_at
   lost_none l = rw (← e, le-ltb at (slots_of state) (omega arith))
 
-  pub lost_there : {r : Lost} → r ≡ lost_of (dropped_at state bytes c at) → r ≡ lost_of (dropped_from state bytes c i)
+  pub lost_there : {r : Option Lost} → r ≡ lost_of (dropped_at state bytes c at) → r ≡ lost_of (dropped_from state bytes c i)
   lost_there q = q ∙ ap lost_of e
 
 -- ## The reason
 
+-- what its fields are
+lost_by : Option Lost → Option FullNodeId
+lost_by None = None
+lost_by (Some l) = l.by
+
+lost_node : Option Lost → Option FullNodeId
+lost_node None = None
+lost_node (Some l) = Some l.node
+
+by_is : (d : Option Dropped) → lost_by (lost_of d) ≡ dropped_by d
+unfolding lost_by lost_of dropped_by
+by_is None = refl
+by_is (Some d) = refl
+
+node_is : (d : Option Dropped) → lost_node (lost_of d) ≡ dropped_node d
+unfolding lost_node lost_of dropped_node
+node_is None = refl
+node_is (Some d) = refl
+
 -- of the node in slot i, as the code finds its id
-pub gone_is : (state bytes : List ℕ) (c : Scope) (i : ℕ) {y : FullNodeId} {r : Lost} → i < slots_of state → y ≡ id_in state i
-    → r ≡ lost_of (dropped_from state bytes c i)
-    → ◌≡◌ {A = Why} (record { number = 18; rule = 0; place = 0; other = 0; tree = ROOT; node = node.At y; by = r.by; also = r.node })
-    (why_of (updated_and_gone (id_at (forest state) i) (dropped_from state bytes c i)))
-unfolding why_of lost_of found
-gone_is state bytes c i h id e = rw (id, e, forest_id state i h)
+module _ (state bytes : List ℕ) (c : Scope) (i : ℕ) {y : FullNodeId} (h : i < slots_of state) (id : y ≡ id_in state i) {w : Why} where
+  gone_is : (r : Option Lost) → r ≡ lost_of (dropped_from state bytes c i) → w ≡ plain_nodes 18 y (lost_by r) (lost_node r)
+      → w ≡ why_of (updated_and_gone (id_at (forest state) i) (dropped_from state bytes c i))
+  unfolding why_of plain_nodes
+  gone_is r e q =
+      let there : y ≡ id_at (forest state) i = id ∙ sym (forest_id state i h) in
+      let by = ap lost_by e ∙ by_is (dropped_from state bytes c i) in
+      let node = ap lost_node e ∙ node_is (dropped_from state bytes c i) in
+      q ∙ (λ k. plain_nodes 18 (there k) (by k) (node k))
+
+  -- no node lost its place
+  pub gone_alone : {r : Option Lost} → r ≡ None → r ≡ lost_of (dropped_from state bytes c i) → w ≡ plain_nodes 18 y None None
+      → w ≡ why_of (updated_and_gone (id_at (forest state) i) (dropped_from state bytes c i))
+  unfolding lost_by lost_node
+  gone_alone n e q = gone_is None (sym n ∙ e) q
+
+  -- one did
+  pub gone_lost : {r : Option Lost} {l : Lost} → r ≡ Some l → r ≡ lost_of (dropped_from state bytes c i) → w ≡ plain_nodes 18 y l.by (Some l.node)
+      → w ≡ why_of (updated_and_gone (id_at (forest state) i) (dropped_from state bytes c i))
+  unfolding lost_by lost_node
+  gone_lost {l = l} n e q = gone_is (Some l) (sym n ∙ e) q
 
 -- the id of listed node i
 abbrev listed_id : List ℕ → List ℕ → Scope → ℕ → FullNodeId
@@ -276,8 +308,8 @@ module _ {state bytes : List ℕ} {c : Scope} {notes : List ℕ} (told : Told PL
   -- what the search says of the reason
   reason_is : removed_reason (forest state) (asked bytes c)
       ≡ (if ltb i (length (asked bytes c).nodes)
-      then some (updated_and_gone (listed_id state bytes c i) (dropped_within (forest state) (asked bytes c) (length (forest state).nodes) (listed_id state bytes c i)))
-      else none)
+      then Some (updated_and_gone (listed_id state bytes c i) (dropped_within (forest state) (asked bytes c) (length (forest state).nodes) (listed_id state bytes c i)))
+      else None)
   unfolding removed_reason listed_at
   reason_is =
       first_given_at (updated_and_removed (forest state) (asked bytes c)) _ no_listed (asked bytes c).nodes i

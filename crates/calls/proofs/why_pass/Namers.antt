@@ -1,7 +1,6 @@
 -- The node that an entry belongs to, and the nodes that name a child. Assumes nothing.
 use mathlib.Core.Bool.{Bool}
 use mathlib.Core.List.{List, [], ◌∷◌, ◌++◌, map}
-use mathlib.Core.Option.{none, some}
 use mathlib.Core.Path.{◌≡◌, refl, ap, ◌∙◌}
 use Prim.Native.Nat.{ℕ, zero, suc, ◌+◌, ◌-◌, ◌≤◌, ◌<◌}
 use native.Mathlib.Nat.{zero-add}
@@ -11,7 +10,7 @@ use lib.Dec.{ltb}
 use lib.ListN.{length, get_or, take, drop, length-append, length-drop, length-map, get_or-append}
 use lib.Seq.{take_all, get_or-append-add, get_or-drop}
 use borrow.Author.Tests.{lt-ltb, le-ltb, ltb-false, ltb-true}
-use Rattle.std.specs.Prelude.{if◌then◌else◌}
+use Rattle.std.specs.Prelude.{if◌then◌else◌, None, Some}
 use Rattle.base.specs.Tests.{keep, first_given}
 use Rattle.base.specs.Search.{First}
 use Rattle.base.proofs.Cases.{by_test, by_order}
@@ -67,7 +66,7 @@ module _ (s : Forest) (b : Batch) (j : ℕ) {r : ℕ} (f : First (λ m. ltb j (e
       go zero f = unfold named_ids in (omega arith)
       go (suc q) f = rw add-one at (ltb-false j (entries_before b (q + 1)) (f.passed q (omega arith)))
 
-  pub namer_found : r < length b.nodes → namer_at s b j ≡ some (here s b (listed_at b r).id)
+  pub namer_found : r < length b.nodes → namer_at s b j ≡ Some (here s b (listed_at b r).id)
   unfolding namer_at listed_at
   namer_found h =
       let more = entries_before_more b r h in
@@ -75,9 +74,9 @@ module _ (s : Forest) (b : Batch) (j : ℕ) {r : ℕ} (f : First (λ m. ltb j (e
       let inside : j < length (entries b.nodes) = omega (arith, entries_length b.nodes, entries_before_within b (r + 1)) in
       let at : entries_before b r + (j - entries_before b r) ≡ j = omega (arith, begun) in
       let by = entry_by b.nodes r (j - entries_before b r) h (omega (arith, begun)) in
-      rw (lt-ltb j (length (entries b.nodes)) inside) (ap (λ x. some (here s b x)) (rw at at by))
+      rw (lt-ltb j (length (entries b.nodes)) inside) (ap (λ x. Some (here s b x)) (rw at at by))
 
-  pub namer_none : length b.nodes ≤ r → namer_at s b j ≡ none
+  pub namer_none : length b.nodes ≤ r → namer_at s b j ≡ None
   unfolding namer_at
   namer_none h =
       let all : entries_before b r ≡ length (named_ids b.nodes) = ap (λ ls. length (named_ids ls)) (take_all r b.nodes h) in
@@ -87,13 +86,13 @@ module _ (s : Forest) (b : Batch) (j : ℕ) {r : ℕ} (f : First (λ m. ltb j (e
 
 module _ {A : Type 0} (p : A → Bool) (f : A → FullNodeId) where
   -- the first of those kept, and the second
-  kept_first : (xs : List A) → first_id (map f (keep p xs)) ≡ first_given (λ x. if p x then some (f x) else none) xs
+  kept_first : (xs : List A) → first_id (map f (keep p xs)) ≡ first_given (λ x. if p x then Some (f x) else None) xs
   unfolding first_id
   kept_first [] = refl
   kept_first (x ∷ xs) = by_test (p x) (λ t. rw (t, first_given)) (λ t. rw (t, first_given) (kept_first xs))
 
   kept_second : (d : A) (xs : List A) (r : ℕ) → First (λ i. p (get_or xs i d)) (length xs) r
-      → second_id (map f (keep p xs)) ≡ first_given (λ x. if p x then some (f x) else none) (drop (suc r) xs)
+      → second_id (map f (keep p xs)) ≡ first_given (λ x. if p x then Some (f x) else None) (drop (suc r) xs)
   unfolding second_id
   kept_second d [] r h = refl
   kept_second d (x ∷ xs) zero h = rw (h.hit (omega arith)) (kept_first xs)

@@ -1,4 +1,5 @@
 -- Laws of a cause in words and ids, as the code finds them in the notes. Assumes nothing.
+use Rattle.std.specs.Prelude.{Option, None, Some}
 use mathlib.Core.List.{List}
 use mathlib.Core.Path.{◌≡◌, refl, sym, ap, ◌∙◌}
 use Prim.Native.Nat.{ℕ, suc, ◌+◌, ◌-◌, ◌≤◌, ◌<◌}
@@ -16,12 +17,10 @@ use Rattle.ids.specs.declared.NodeId.{NodeId}
 use Rattle.ids.specs.declared.FullNodeId.{FullNodeId}
 use Rattle.record.specs.Batch.{named_ids}
 use Rattle.record_reader.specs.Reader.{no_node}
-use Rattle.state_focus.specs.declared.FoundNode.{FoundNode}
-use Rattle.state_focus.specs.declared.FoundNode.TheVariants as node
 use Rattle.update.specs.Words.{here}
 use Rattle.reasons.specs.Reasons.{without_place}
 use Rattle.reasons_why.specs.declared.Why.{Why}
-use Rattle.reasons_why.specs.Why.{found, why_of, why_for}
+use Rattle.reasons_why.specs.Why.{why_of}
 use Rattle.calls.specs.Layout.{LISTED, NAMED, ENDS}
 use Rattle.calls.specs.declared.notes.Scope.{Scope}
 use Rattle.calls.specs.Setting.{asked, forest}
@@ -48,18 +47,16 @@ module _ {state bytes : List ℕ} {c : Scope} {notes : List ℕ} (told : Told RE
     by_ends = rw (← told.given.scoped.listed) (passing_cong g _ (λ m h. ap (ltb j) (end_word_lem told m h)))
 
     pub namer_here : {x : FullNodeId} → i < c.listed → j < get_or notes (ENDS + i) 0
-        → x ≡ id_noted c notes (LISTED + i) → node.At x ≡ found (namer_at (forest state) (asked bytes c) j)
-    unfolding found
+        → x ≡ id_noted c notes (LISTED + i) → Some x ≡ namer_at (forest state) (asked bytes c) j
     namer_here h l e =
         let inside : i < length (asked bytes c).nodes = omega (arith, told.given.scoped.listed) in
-        ap node.At (e ∙ listed_noted (omega arith) told h)
-        ∙ sym (ap found (namer_found (forest state) (asked bytes c) j (passing_hit by_ends inside (ap (ltb j) (sym (end_word_lem told i h)) ∙ lt-ltb j _ l)) inside))
+        ap Some (e ∙ listed_noted (omega arith) told h)
+        ∙ sym ((namer_found (forest state) (asked bytes c) j (passing_hit by_ends inside (ap (ltb j) (sym (end_word_lem told i h)) ∙ lt-ltb j _ l)) inside))
 
-    pub namer_past : c.listed ≤ i → node.Nothing ≡ found (namer_at (forest state) (asked bytes c) j)
-    unfolding found
+    pub namer_past : c.listed ≤ i → None ≡ namer_at (forest state) (asked bytes c) j
     namer_past h =
         let past : length (asked bytes c).nodes ≤ i = omega (arith, told.given.scoped.listed) in
-        sym (ap found (namer_none (forest state) (asked bytes c) j (passing_ends by_ends past) (omega arith)))
+        sym ((namer_none (forest state) (asked bytes c) j (passing_ends by_ends past) (omega arith)))
 
   -- ## Any cause
 
@@ -83,39 +80,39 @@ module _ {state bytes : List ℕ} {c : Scope} {notes : List ℕ} (told : Told RE
 
   -- a number and listed node i
   pub why_crowded : {i : ℕ} {x : FullNodeId} {r : Why} → i < c.listed → x ≡ id_noted c notes (LISTED + i)
-      → r ≡ plain_nodes 10 x node.Nothing node.Nothing → r ≡ why_for (cause_reason (forest state) (asked bytes c) (GraftOverChildren i))
-  unfolding why_for why_of cause_reason plain_nodes found
-  why_crowded h e q = q ∙ ap (λ y. plain_nodes 10 y node.Nothing node.Nothing) (e ∙ listed_noted (omega arith) told h)
+      → r ≡ plain_nodes 10 x None None → r ≡ why_of (cause_reason (forest state) (asked bytes c) (GraftOverChildren i))
+  unfolding why_of cause_reason plain_nodes
+  why_crowded h e q = q ∙ ap (λ y. plain_nodes 10 y None None) (e ∙ listed_noted (omega arith) told h)
 
   pub why_root : {i : ℕ} {x : FullNodeId} {r : Why} → i < c.listed → x ≡ id_noted c notes (LISTED + i)
-      → r ≡ plain_nodes 11 x node.Nothing node.Nothing → r ≡ why_for (cause_reason (forest state) (asked bytes c) (GraftOfRoot i))
-  unfolding why_for why_of cause_reason plain_nodes found
-  why_root h e q = q ∙ ap (λ y. plain_nodes 11 y node.Nothing node.Nothing) (e ∙ listed_noted (omega arith) told h)
+      → r ≡ plain_nodes 11 x None None → r ≡ why_of (cause_reason (forest state) (asked bytes c) (GraftOfRoot i))
+  unfolding why_of cause_reason plain_nodes
+  why_root h e q = q ∙ ap (λ y. plain_nodes 11 y None None) (e ∙ listed_noted (omega arith) told h)
 
   -- two listed nodes and a tree
   pub why_claimed : {i m : ℕ} {r : Why} → i < c.listed → m < c.listed
       → r ≡ why_of (claimed_noted bytes c notes i m)
-      → r ≡ why_for (cause_reason (forest state) (asked bytes c) (ClaimedTwice i m))
-  unfolding why_for cause_reason
+      → r ≡ why_of (cause_reason (forest state) (asked bytes c) (ClaimedTwice i m))
+  unfolding cause_reason
   why_claimed {i} h k e =
       e ∙ rw (batched_at bytes (asked bytes c) (batched state bytes c told.given) i, listed_noted (omega arith) told k, listed_noted (omega arith) told h)
 
   -- a listed node and its place
   pub why_placeless : {i : ℕ} {r : Why} → i < c.listed → r ≡ why_of (without_place (id_noted c notes (LISTED + i)) i)
-      → r ≡ why_for (cause_reason (forest state) (asked bytes c) (WithoutPlace i))
-  unfolding why_for cause_reason
+      → r ≡ why_of (cause_reason (forest state) (asked bytes c) (WithoutPlace i))
+  unfolding cause_reason
   why_placeless h e = e ∙ rw (listed_noted (omega arith) told h)
 
   -- the child of an entry, and the node whose entry it is
-  pub why_nowhere : (j : ℕ) {x : FullNodeId} {by : FoundNode} {r : Why} → j < c.named
-      → x ≡ id_noted c notes (NAMED + j) → by ≡ found (namer_at (forest state) (asked bytes c) j)
-      → r ≡ plain_nodes 14 x by node.Nothing → r ≡ why_for (cause_reason (forest state) (asked bytes c) (ChildNowhere j))
-  unfolding why_for why_of cause_reason plain_nodes found namer_at
+  pub why_nowhere : (j : ℕ) {x : FullNodeId} {by : Option FullNodeId} {r : Why} → j < c.named
+      → x ≡ id_noted c notes (NAMED + j) → by ≡ namer_at (forest state) (asked bytes c) j
+      → r ≡ plain_nodes 14 x by None → r ≡ why_of (cause_reason (forest state) (asked bytes c) (ChildNowhere j))
+  unfolding why_of cause_reason plain_nodes namer_at
   why_nowhere j h e f q =
       let inside = lt-ltb j (length (entries (asked bytes c).nodes)) (omega (arith, entries_length (asked bytes c).nodes, told.given.scoped.named)) in
-      let by-entry : _ ≡ node.At (here (forest state) (asked bytes c) (get_or (entries (asked bytes c).nodes) j no_entry).by) = rw inside at f in
+      let by-entry : _ ≡ Some (here (forest state) (asked bytes c) (get_or (entries (asked bytes c).nodes) j no_entry).by) = rw inside at f in
       let child = e ∙ child_here told h in
-      q ∙ (λ k. plain_nodes 14 (child k) (by-entry k) node.Nothing)
+      q ∙ (λ k. plain_nodes 14 (child k) (by-entry k) None)
 
   -- ## A child named twice
 
@@ -155,12 +152,12 @@ module _ {state bytes : List ℕ} {c : Scope} {notes : List ℕ} (told : Told RE
         (λ m l. let at : NAMED + (p + 1) + m ≡ NAMED + (suc p + m) = omega arith in
         ap (λ k. get_or notes k 0) at ∙ word_at (suc p + m) (omega arith) ∙ ap (λ (e : Entry). e.child.0) (sym (get_or-drop (suc p) all m no_entry))) g))
 
-    pub why_named : {x : FullNodeId} {by also : FoundNode} {r : Why} → x ≡ id_noted c notes (NAMED + j)
-        → by ≡ found (namer_at (forest state) (asked bytes c) (p + 1 + q)) → also ≡ found (namer_at (forest state) (asked bytes c) p)
-        → r ≡ plain_nodes 9 x by also → r ≡ why_for (cause_reason (forest state) (asked bytes c) (NamedTwice j))
-    unfolding why_for why_of cause_reason plain_nodes found
+    pub why_named : {x : FullNodeId} {by also : Option FullNodeId} {r : Why} → x ≡ id_noted c notes (NAMED + j)
+        → by ≡ (namer_at (forest state) (asked bytes c) (p + 1 + q)) → also ≡ namer_at (forest state) (asked bytes c) p
+        → r ≡ plain_nodes 9 x by also → r ≡ why_of (cause_reason (forest state) (asked bytes c) (NamedTwice j))
+    unfolding why_of cause_reason plain_nodes
     why_named e s u v =
-        let second = s ∙ ap found (sym (second_namer (forest state) (asked bytes c) child first_entry (omega (arith, many, first_within j f)) second_entry)) in
-        let first = u ∙ ap found (sym (first_namer (forest state) (asked bytes c) child first_entry)) in
+        let second = s ∙ (sym (second_namer (forest state) (asked bytes c) child first_entry (omega (arith, many, first_within j f)) second_entry)) in
+        let first = u ∙ (sym (first_namer (forest state) (asked bytes c) child first_entry)) in
         let id = e ∙ child_here told h in
         v ∙ (λ k. plain_nodes 9 (id k) (second k) (first k))

@@ -1,7 +1,7 @@
 -- Rows 6 to 8 and 21: a reason where the row's test holds. Assumes nothing.
 use mathlib.Core.Bool.{Bool, true, false}
 use mathlib.Core.List.{List, [], ◌∷◌}
-use mathlib.Core.Option.{Option, none}
+use Rattle.std.specs.Prelude.{Option, None, Result, Ok, Err}
 use mathlib.Core.Path.{◌≡◌, refl, sym, ◌∙◌}
 use native.Mathlib.Omega.{arith}
 use Prim.Native.Nat.{ℕ, ◌≤◌, ◌<◌}
@@ -14,9 +14,11 @@ use Rattle.state.specs.State.{Forest}
 use Rattle.update.specs.Reports.{change_words}
 use Rattle.calls.specs.Outcomes.{changes_in, Outcomes}
 use Rattle.calls.specs.Says.{REPORTED}
-use Rattle.calls.specs.Slice.{ListsWritten, changes_noted}
+use Rattle.calls.specs.Slice.{ListsLent, ListsShort, ListsWritten, changes_noted}
 use Rattle.calls.proofs.reports.Picked.{lists_noted}
 use Rattle.calls.specs.declared.reports.Lists.{Lists}
+use Rattle.calls.specs.declared.reports.TooShort.{TooShort}
+use Rattle.calls.proofs.reports.Slice.{lists_length}
 use Rattle.reasons.specs.Reasons.{Reason, accepted, notGrafted, notExisting, noNumberLeft, first_reason}
 use Rattle.reasons_calls.specs.Pass.{repeated_after}
 use Rattle.reasons_calls.specs.Explain.{reason_if, reasons_before_pass, slice_reason}
@@ -82,14 +84,25 @@ module _ (s : Forest) (bytes : List ℕ) {c : Scope} (scoped : Scoped s (batch_o
 
 -- the lists fit, or take more elements than are lent
 module _ {state bytes : List ℕ} {c : Scope} {notes next : List ℕ} (given : Outcomes REPORTED state bytes c notes next) (room : ℕ)
-    {before after : List ℕ} {l : Lists} (h : ListsWritten (changes_noted state notes next) before after l) where
-  words_are : l.words ≡ length (change_words (changes_in state bytes c))
-  words_are = (lists_noted given h).words_are
+    (before after : List ℕ) (o : Result Lists TooShort) (h : ListsWritten (changes_noted state notes next) before after o) where
+  noted : ListsWritten (changes_in state bytes c) before after o
+  noted = lists_noted given before after o h
 
-  pub slice_fits : {w : Why} → l.words ≤ room → w ≡ why_of accepted → w ≡ why_for (slice_reason (forest state) (asked bytes c) room)
+  words_are : {e : TooShort} → o ≡ Err e → e.words ≡ length (change_words (changes_in state bytes c))
+  unfolding ListsWritten
+  words_are {e} q = let t : ListsShort (changes_in state bytes c) before after e = rw q at noted in t.words_are
+
+  -- a slice of one element has room for them, so they take none
+  pub slice_one : {l : Lists} {w : Why} → o ≡ Ok l → length before ≡ 1 → w ≡ why_of accepted → w ≡ why_for (slice_reason (forest state) (asked bytes c) room)
+  unfolding why_for slice_reason ListsWritten
+  slice_one {l} q one e =
+      let t : ListsLent (changes_in state bytes c) before after l = rw q at noted in
+      rw (le-ltb room (length (change_words (changes_in state bytes c))) (omega (arith, t.room, lists_length (changes_in state bytes c)))) e
+
+  pub slice_fits : {e : TooShort} {w : Why} → o ≡ Err e → e.words ≤ room → w ≡ why_of accepted → w ≡ why_for (slice_reason (forest state) (asked bytes c) room)
   unfolding why_for slice_reason
-  slice_fits fit e = rw (le-ltb room (length (change_words (changes_in state bytes c))) (rw (← words_are) fit)) e
+  slice_fits q fit e = rw (le-ltb room (length (change_words (changes_in state bytes c))) (rw (← words_are q) fit)) e
 
-  pub slice_short : room < l.words → why 21 0 l.words room ROOT none none none ≡ why_for (slice_reason (forest state) (asked bytes c) room)
+  pub slice_short : {e : TooShort} → o ≡ Err e → room < e.words → why 21 0 e.words room ROOT None None None ≡ why_for (slice_reason (forest state) (asked bytes c) room)
   unfolding why_for why_of slice_reason
-  slice_short short = rw (lt-ltb room (length (change_words (changes_in state bytes c))) (rw (← words_are) short), words_are)
+  slice_short q short = rw (lt-ltb room (length (change_words (changes_in state bytes c))) (rw (← words_are q) short), words_are q)

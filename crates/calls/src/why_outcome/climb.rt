@@ -11,33 +11,29 @@ use crate::notes::{Notes, Scope};
 use crate::{gone, notes};
 use ids::FullNodeId;
 use state_array::State;
-use state_focus::FoundNode;
 
-// A node that lost its place, and the listed node that no longer names it, if there are such.
+// A node that lost its place, and the listed node that no longer names it, if one does not.
 #[derive(Clone, Copy)]
 pub(crate) struct Lost {
-    pub node: FoundNode,
-    pub by: FoundNode,
+    pub node: FullNodeId,
+    pub by: Option<FullNodeId>,
 }
 
-// Climbing from the node in a slot: the node that lost its place, and by whom.
+// Climbing from the node in a slot: the node that lost its place, if one did, and by whom.
 pub(crate) fn dropped<'a>(
     state: &'a State,
     batch: &'a [u8],
     scope: Scope,
     notes: &'a Notes,
     i: usize,
-) -> Lost
+) -> Option<Lost>
     requires told { Told PLANNED state.now batch.now scope notes.now }
     requires i_bound { i < slots_of state.now }
     ensures { result ≡ lost_of (dropped_from state.now batch.now scope i) }
 {
     let at = climbed(state, batch, scope, notes, i);
     if state_array::slots(state) <= at {
-        return Lost {
-            node: FoundNode::Nothing,
-            by: FoundNode::Nothing,
-        };
+        return None;
     }
     dropped_here(state, batch, scope, notes, at)
 }
@@ -50,13 +46,11 @@ fn climbed<'a>(state: &'a State, batch: &'a [u8], scope: Scope, notes: &'a Notes
 {
     let n = state_array::slots(state);
     let mut at = i;
-    let mut room = n;
-    while 0 < room {
+    for _ in 0..n {
         if gone::fate_at(state, batch, scope, notes, at) != gone::AS_PARENT {
             return at;
         }
         at = notes[notes::ABOVE + at] as usize;
-        room -= 1;
     }
     n
 }
@@ -68,7 +62,7 @@ fn dropped_here<'a>(
     scope: Scope,
     notes: &'a Notes,
     at: usize,
-) -> Lost
+) -> Option<Lost>
     requires told { Told PLANNED state.now batch.now scope notes.now }
     requires at_bound { at < slots_of state.now }
     ensures { result ≡ lost_of (dropped_at state.now batch.now scope at) }
@@ -76,31 +70,25 @@ fn dropped_here<'a>(
     let x = state_array::id_at(state, at);
     let l = state_array::link_at(state, at);
     if l.linked == 0 {
-        return Lost {
-            node: FoundNode::At(x),
-            by: FoundNode::Nothing,
-        };
+        return Some(Lost { node: x, by: None });
     }
     if gone::fate_at(state, batch, scope, notes, at) != gone::GOES {
-        return Lost {
-            node: FoundNode::Nothing,
-            by: FoundNode::Nothing,
-        };
+        return None;
     }
-    Lost {
-        node: FoundNode::At(x),
+    Some(Lost {
+        node: x,
         by: listed_parent(notes, at, l.parent),
-    }
+    })
 }
 
 // The parent p of the node in a slot, if it is listed.
-fn listed_parent(notes: &Notes, at: usize, p: FullNodeId) -> FoundNode
+fn listed_parent(notes: &Notes, at: usize, p: FullNodeId) -> Option<FullNodeId>
     requires { (at < SLOTS) × (get_or notes.now (ABOVE + at) 0 < SLOTS) }
     ensures { result ≡ parent_noted notes.now at p }
 {
     let above = notes[notes::ABOVE + at] as usize;
     if notes[notes::TURNS + above] == 0 {
-        return FoundNode::Nothing;
+        return None;
     }
-    FoundNode::At(p)
+    Some(p)
 }

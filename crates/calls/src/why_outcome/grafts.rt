@@ -2,7 +2,6 @@
 ghost use Rattle.std.specs.Prelude.{◌≡◌, ◌<◌, ◌+◌, drop};
 ghost use Rattle.reasons_calls.specs.Outcome.{claims};
 ghost use Rattle.reasons.specs.Shape.{graft_twice_from};
-ghost use Rattle.reasons_why.specs.Why.{found};
 ghost use Rattle.calls.specs.Regrafts.{regraft_of, regrafter};
 ghost use Rattle.state.specs.State.{holder};
 ghost use Rattle.state_array.specs.View.{slots_of, view};
@@ -13,7 +12,6 @@ use crate::notes;
 use crate::notes::{Notes, Scope};
 use ids::{FullNodeId, TreeId};
 use state_array::State;
-use state_focus::FoundNode;
 
 // A tree, the first node that grafts it and its slot, and the next one that does.
 #[derive(Clone, Copy)]
@@ -24,34 +22,25 @@ pub(crate) struct Regraft {
     pub other: FullNodeId,
 }
 
-// A tree that two nodes graft, if there is one.
-#[derive(Clone, Copy)]
-pub(crate) enum Regrafted {
-    Twice(Regraft),
-    Never,
-}
-
-// The first node whose tree a later one grafts too.
-pub(crate) fn grafted_twice(next: &State) -> Regrafted
+// The first node whose tree a later one grafts too, if there is one.
+pub(crate) fn grafted_twice(next: &State) -> Option<Regraft>
     ensures { regraft_of result ≡ graft_twice_from 0 (view next.now).forest.nodes }
 {
     let n = state_array::slots(next);
-    let mut i = 0usize;
-    while i < n {
+    for i in 0..n {
         let found = other_graft(next, i);
-        if let FoundNode::At(other) = found {
+        if let Some(other) = found {
             let d = state_array::shape_at(next, i);
             let tree = d.graft;
-            return Regrafted::Twice(Regraft {
+            return Some(Regraft {
                 tree,
                 slot: i,
                 node: state_array::id_at(next, i),
                 other,
             });
         }
-        i += 1;
     }
-    Regrafted::Never
+    None
 }
 
 // Whether a node is listed and claims a tree.
@@ -65,7 +54,7 @@ pub(crate) fn claims<'a>(
     requires { Told PLANNED state.now batch.now scope notes.now }
     ensures { result ≡ claims (view state.now).forest (asked batch.now scope) x }
 {
-    if x.tree.0 != scope.tree.0 {
+    if x.tree != scope.tree {
         return false;
     }
     let k = scope.listed;
@@ -77,29 +66,27 @@ pub(crate) fn claims<'a>(
 }
 
 // The first node after slot i that grafts what the node in slot i grafts.
-fn other_graft(next: &State, i: usize) -> FoundNode
+fn other_graft(next: &State, i: usize) -> Option<FullNodeId>
     requires { i < slots_of next.now }
-    ensures { result ≡ found (regrafter (view next.now).forest.nodes i) }
+    ensures { result ≡ regrafter (view next.now).forest.nodes i }
 {
     let d = state_array::shape_at(next, i);
     if !state_array::is_graft(d.flags) {
-        return FoundNode::Nothing;
+        return None;
     }
     holder_from(next, i + 1, d.graft)
 }
 
 // The first node from slot `from` on that grafts a tree.
-fn holder_from(next: &State, from: usize, t: TreeId) -> FoundNode
-    ensures { result ≡ found (holder (drop from (view next.now).forest.nodes) t) }
+fn holder_from(next: &State, from: usize, t: TreeId) -> Option<FullNodeId>
+    ensures { result ≡ holder (drop from (view next.now).forest.nodes) t }
 {
     let n = state_array::slots(next);
-    let mut j = from;
-    while j < n {
+    for j in from..n {
         let d = state_array::shape_at(next, j);
-        if state_array::is_graft(d.flags) & ids::same_tree(d.graft, t) {
-            return FoundNode::At(state_array::id_at(next, j));
+        if state_array::is_graft(d.flags) & (d.graft == t) {
+            return Some(state_array::id_at(next, j));
         }
-        j += 1;
     }
-    FoundNode::Nothing
+    None
 }

@@ -1,11 +1,11 @@
 -- The clip test, by slots: a law for each way out of the code. Assumes nothing.
 use mathlib.Core.Bool.{Bool, true, false, not, ◌||◌}
-use mathlib.Core.List.{List, head?}
-use mathlib.Core.Option.{some}
+use mathlib.Core.List.{List}
+use Rattle.std.specs.Prelude.{Some}
 use mathlib.Core.Path.{◌≡◌, refl, sym, ◌∙◌}
 use Prim.Native.Nat.{ℕ, ◌/◌, ◌%◌, ◌≤◌, ◌<◌}
 use lib.Dec.{eqb}
-use Rattle.base.specs.Tests.{◌and◌}
+use Rattle.base.specs.Tests.{◌and◌, head_of}
 use Rattle.ids.specs.declared.FullNodeId.{FullNodeId}
 use Rattle.geometry_box.specs.declared.BoundingBox.{BoundingBox}
 use Rattle.geometry_box.specs.Boxes.{apart, meet}
@@ -31,7 +31,7 @@ clips_at_lem s h i there w read = sym (rw (slot_found s h i there, clips_at, ←
 -- ## The nearest sibling
 
 module _ (s : List ℕ) (k : ℕ) (side : Side) (level : ℕ) (x : FullNodeId) (outer : BoundingBox) (r : ℕ)
-    (found : slot_id s r ≡ head? (shown_ahead (seen_at s k) side level x)) where
+    (found : slot_id s r ≡ head_of (shown_ahead (seen_at s k) side level x)) where
   pub nearest_none : slots_of s ≤ r → false ≡ nearest_inside (seen_at s k) side level x outer
   unfolding nearest_inside
   nearest_none past = sym (rw (← found, slot_id_none s r past, nearest_inside) refl)
@@ -59,7 +59,7 @@ module _ (s : List ℕ) (k i : ℕ) (u : Unhidden s i) (plain : is_transparent (
   clipped_none past = sym (rw (← is.parent_is, slot_id_none s above.slot past, is_clipped) refl)
 
   module _ (there : above.slot < slots_of s) where
-    parent : filtered_parent (without_parent_checks v) v.forest x ≡ some p
+    parent : filtered_parent (without_parent_checks v) v.forest x ≡ Some p
     parent = sym is.parent_is ∙ slot_id_some s above.slot there
 
     -- the neighbours, by what is ahead

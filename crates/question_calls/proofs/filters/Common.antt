@@ -1,7 +1,7 @@
 -- `common_filter`, case by case: what it says of a node by the first test that holds, and by what it says of the parent. Assumes nothing.
 use mathlib.Core.Bool.{true, false}
 use mathlib.Core.List.{List, [], ◌∷◌}
-use mathlib.Core.Option.{none, some}
+use Rattle.std.specs.Prelude.{None, Some, Option}
 use mathlib.Core.Path.{◌≡◌, refl, sym, ap, ◌∙◌}
 use Prim.Native.Nat.{ℕ, ◌≤◌, ◌<◌}
 use native.Mathlib.Omega.{arith}
@@ -10,12 +10,9 @@ use Rattle.base.specs.Tests.{same_option}
 use Rattle.ids.specs.Ids.{ROOT, same_id}
 use Rattle.ids.specs.declared.FullNodeId.{FullNodeId}
 use Rattle.state.specs.State.{parent_at, subtree_of}
+use Rattle.state.specs.declared.SubtreeState.{SubtreeState}
 use Rattle.state.specs.Down.{root_of}
 use Rattle.state_array.specs.View.{id_in, slots_of, view}
-use Rattle.state_lookup.specs.declared.Ends.{Ends}
-use Rattle.state_lookup.specs.declared.FoundTree.{FoundTree}
-use Rattle.state_lookup.specs.declared.FoundTree.TheVariants as tree
-use Rattle.state_lookup.specs.Lookup.{ends_of}
 use Rattle.questions.specs.declared.FilterResult.{FilterResult}
 use Rattle.questions.specs.declared.FilterResult.TheVariants.{Include, ExcludeNode, ExcludeSubtree}
 use Rattle.questions.specs.Links.{ancestors, is_hidden}
@@ -32,24 +29,24 @@ use Rattle.question_calls.specs.Filters.{Unhidden}
 
 module _ (v : Seen) (x : FullNodeId) where
   -- the first test that holds
-  base_focused : is_focused v x ≡ true → common_filter_base v x ≡ some Include
+  base_focused : is_focused v x ≡ true → common_filter_base v x ≡ Some Include
   unfolding common_filter_base
   base_focused a = rw a refl
 
-  base_hidden : is_focused v x ≡ false → is_hidden v.forest x ≡ true → common_filter_base v x ≡ some ExcludeSubtree
+  base_hidden : is_focused v x ≡ false → is_hidden v.forest x ≡ true → common_filter_base v x ≡ Some ExcludeSubtree
   unfolding common_filter_base
   base_hidden a b = rw (a, b) refl
 
-  base_transparent : is_focused v x ≡ false → is_hidden v.forest x ≡ false → is_transparent v.forest x ≡ true → common_filter_base v x ≡ some ExcludeNode
+  base_transparent : is_focused v x ≡ false → is_hidden v.forest x ≡ false → is_transparent v.forest x ≡ true → common_filter_base v x ≡ Some ExcludeNode
   unfolding common_filter_base
   base_transparent a b c = rw (a, b, c) refl
 
-  pub base_none : is_focused v x ≡ false → is_hidden v.forest x ≡ false → is_transparent v.forest x ≡ false → common_filter_base v x ≡ none
+  pub base_none : is_focused v x ≡ false → is_hidden v.forest x ≡ false → is_transparent v.forest x ≡ false → common_filter_base v x ≡ None
   unfolding common_filter_base
   base_none a b c = rw (a, b, c) refl
 
   -- by a test that holds, whatever the parent says
-  common_base : (r : FilterResult) → common_filter_base v x ≡ some r → common_filter v x ≡ r
+  common_base : (r : FilterResult) → common_filter_base v x ≡ Some r → common_filter v x ≡ r
   unfolding common_filter common_filter_from
   common_base r e = go (ancestors v.forest x)
     where
@@ -60,10 +57,10 @@ module _ (v : Seen) (x : FullNodeId) where
   clipped_top : ancestors v.forest x ≡ [] → is_clipped v x ≡ false
   unfolding is_clipped filtered_parent
   clipped_top q =
-      let orphan : filtered_parent (without_parent_checks v) v.forest x ≡ none = ap (first_included (without_parent_checks v)) q in
+      let orphan : filtered_parent (without_parent_checks v) v.forest x ≡ None = ap (first_included (without_parent_checks v)) q in
       rw (orphan, is_clipped) refl
 
-  module _ (e : common_filter_base v x ≡ none) where
+  module _ (e : common_filter_base v x ≡ None) where
     -- without a parent there is no filtered parent, so nothing clips
     common_top : ancestors v.forest x ≡ [] → common_filter v x ≡ Include
     unfolding common_filter common_filter_from ordinary
@@ -96,7 +93,7 @@ module _ (s : List ℕ) (h : Sound s) (k i : ℕ) (there : i < slots_of s) where
       common_transparent c = sym (common_base v x ExcludeNode (base_transparent v x (focused_not s h k i there other) b c))
 
       module _ (c : is_transparent v.forest x ≡ false) (p : ℕ) (up : slot_id s p ≡ parent_at v.forest.nodes x) where
-        none_holds : common_filter_base v x ≡ none
+        none_holds : common_filter_base v x ≡ None
         none_holds = base_none v x (focused_not s h k i there other) b c
 
         -- ROOT's root
@@ -136,20 +133,20 @@ module _ (s : List ℕ) (i : ℕ) (u : Unhidden s i) (p : ℕ) (up : slot_id s p
 -- ## The root exception
 
 -- ROOT's root, by a search for ROOT
-module _ (s : List ℕ) (x : FullNodeId) (r : FoundTree) (ends : ends_of r ≡ subtree_of (view s).forest ROOT) where
-  pub root_none : r ≡ tree.Nothing → false ≡ same_option same_id (root_of (view s).forest) (some x)
-  unfolding root_of ends_of
+module _ (s : List ℕ) (x : FullNodeId) (r : Option SubtreeState) (ends : r ≡ subtree_of (view s).forest ROOT) where
+  pub root_none : r ≡ None → false ≡ same_option same_id (root_of (view s).forest) (Some x)
+  unfolding root_of
   root_none q = sym (rw (← ends, q, root_of) refl)
 
-  pub root_some : (e : Ends) → r ≡ tree.At e → (y : FullNodeId) → y ≡ x → same_id e.root y ≡ same_option same_id (root_of (view s).forest) (some x)
-  unfolding root_of ends_of
+  pub root_some : (e : SubtreeState) → r ≡ Some e → (y : FullNodeId) → y ≡ x → same_id e.root y ≡ same_option same_id (root_of (view s).forest) (Some x)
+  unfolding root_of
   root_some e q y z = sym (rw (← ends, q, root_of, z) refl)
 
 module _ (v : Seen) (x : FullNodeId) where
-  pub exception_root : same_option same_id (root_of v.forest) (some x) ≡ true → Include ≡ with_root_exception v x
+  pub exception_root : same_option same_id (root_of v.forest) (Some x) ≡ true → Include ≡ with_root_exception v x
   unfolding with_root_exception
   exception_root e = sym (rw e refl)
 
-  pub exception_other : same_option same_id (root_of v.forest) (some x) ≡ false → common_filter v x ≡ with_root_exception v x
+  pub exception_other : same_option same_id (root_of v.forest) (Some x) ≡ false → common_filter v x ≡ with_root_exception v x
   unfolding with_root_exception
   exception_other e = sym (rw e refl)

@@ -1,12 +1,12 @@
 -- `common_filter` of a node by what is told of it and its parent, and the nearest included node from a node up. Assumes nothing.
 use mathlib.Core.Bool.{Bool, true, false, true≢false, false≢true, not, ◌||◌, or-true, or-false}
 use mathlib.Core.List.{List, [], ◌∷◌}
-use mathlib.Core.Option.{Option, none, some, none-ne-some, some-injective}
+use Rattle.std.proofs.lemmas.Option.{none-some, same_Some}
 use mathlib.Core.Path.{◌≡◌, refl, sym, ap, ◌∙◌, subst}
 use Prim.Native.Nat.{ℕ, ◌≤◌, ◌<◌}
 use native.Mathlib.Decide.{dec_lt}
 use native.Mathlib.Omega.{arith}
-use Rattle.std.specs.Prelude.{if◌then◌else◌}
+use Rattle.std.specs.Prelude.{if◌then◌else◌, Option, None, Some}
 use Rattle.base.specs.Tests.{same_option, ◌and◌}
 use Rattle.ids.specs.Ids.{same_id}
 use Rattle.ids.specs.declared.FullNodeId.{FullNodeId}
@@ -49,27 +49,27 @@ module _ (v : Seen) (x : FullNodeId) where
   passed_common = go (common_filter_base v x) refl (ancestors v.forest x)
     where
       go : (o : Option FilterResult) → common_filter_base v x ≡ o → (up : List FullNodeId)
-          → is_exclude_node (elim o as (λ _. FilterResult) [ none ↦ Include | some r ↦ r ]) ≡ is_exclude_node (common_filter_from v x up)
-      go none e [] = sym (rw (e, common_filter_from) (ordinary_stands false))
-      go none e (p ∷ up) = sym (rw (e, common_filter_from) (ordinary_stands (is_exclude_subtree (common_filter_from v p up))))
-      go (some r) e [] = sym (rw (e, common_filter_from) refl)
-      go (some r) e (p ∷ up) = sym (rw (e, common_filter_from) refl)
+          → is_exclude_node (elim o as (λ _. FilterResult) [ None ↦ Include | Some r ↦ r ]) ≡ is_exclude_node (common_filter_from v x up)
+      go None e [] = sym (rw (e, common_filter_from) (ordinary_stands false))
+      go None e (p ∷ up) = sym (rw (e, common_filter_from) (ordinary_stands (is_exclude_subtree (common_filter_from v p up))))
+      go (Some r) e [] = sym (rw (e, common_filter_from) refl)
+      go (Some r) e (p ∷ up) = sym (rw (e, common_filter_from) refl)
 
   -- by whether the parent is dropped, where no test holds of the node itself
-  pub common_told : Shape v.forest → common_filter_base v x ≡ none → common_filter v x ≡ ordinary v x (parent_dropped v x)
+  pub common_told : Shape v.forest → common_filter_base v x ≡ None → common_filter v x ≡ ordinary v x (parent_dropped v x)
   unfolding parent_dropped common_filter common_filter_from
   common_told h e = go (parent_at v.forest.nodes x) refl
     where
       go : (o : Option FullNodeId) → parent_at v.forest.nodes x ≡ o
-          → common_filter v x ≡ ordinary v x (elim o as (λ _. Bool) [ none ↦ false | some p ↦ is_exclude_subtree (common_filter v p) ])
-      go none q = ap (common_filter_from v x) (ancestors_end v.forest h x (parentless_link v.forest.nodes x q)) ∙ rw (e, common_filter_from) refl
-      go (some p) q =
+          → common_filter v x ≡ ordinary v x (elim o as (λ _. Bool) [ None ↦ false | Some p ↦ is_exclude_subtree (common_filter v p) ])
+      go None q = ap (common_filter_from v x) (ancestors_end v.forest h x (parentless_link v.forest.nodes x q)) ∙ rw (e, common_filter_from) refl
+      go (Some p) q =
           let l = parent_link v.forest.nodes x p q in
           common_more v x e p (rw l.2 at (ancestors_step v.forest h x l.0 l.1))
 
   -- ## By the filter
 
-  pub included_undropped : (filter : Filter) → is_plain filter ≡ false → same_option same_id (root_of v.forest) (some x) ≡ false → filter_of filter v x ≡ Include
+  pub included_undropped : (filter : Filter) → is_plain filter ≡ false → same_option same_id (root_of v.forest) (Some x) ≡ false → filter_of filter v x ≡ Include
       → false ≡ is_exclude_subtree (common_filter v x)
   unfolding is_plain filter_of is_exclude_subtree
   included_undropped Common a b e = sym (ap is_exclude_subtree e)
@@ -84,10 +84,10 @@ module _ (v : Seen) (x : FullNodeId) where
   passed_plain WithoutParentChecks a = refl
 
   pub passed_excepted : (filter : Filter) → has_root_exception filter ≡ true
-      → is_exclude_node (without_parent_checks v x) and not (same_option same_id (root_of v.forest) (some x)) ≡ is_exclude_node (filter_of filter v x)
+      → is_exclude_node (without_parent_checks v x) and not (same_option same_id (root_of v.forest) (Some x)) ≡ is_exclude_node (filter_of filter v x)
   unfolding has_root_exception filter_of with_root_exception is_exclude_node ◌and◌
   passed_excepted Common a = absurd (false≢true a)
-  passed_excepted WithRootException a = ap (λ (b : Bool). b and not (same_option same_id (root_of v.forest) (some x))) passed_common ∙ go (same_option same_id (root_of v.forest) (some x)) (common_filter v x)
+  passed_excepted WithRootException a = ap (λ (b : Bool). b and not (same_option same_id (root_of v.forest) (Some x))) passed_common ∙ go (same_option same_id (root_of v.forest) (Some x)) (common_filter v x)
     where
       go : (b : Bool) (r : FilterResult) → is_exclude_node r and not b ≡ is_exclude_node (if b then Include else r)
       go true Include = refl
@@ -102,7 +102,7 @@ module _ (v : Seen) (x : FullNodeId) where
   pub kept_filter : (e : Bool) (r : FilterResult) → r ≡ common_filter v x → is_kept v.forest e r x ≡ is_include (filter_of (excepted_filter e) v x)
   unfolding is_kept ◌and◌ excepted_filter filter_of with_root_exception is_include
   kept_filter false r q = or-false (is_include r) ∙ ap is_include q
-  kept_filter true r q = rw q (go (same_option same_id (root_of v.forest) (some x)))
+  kept_filter true r q = rw q (go (same_option same_id (root_of v.forest) (Some x)))
     where
       go : (b : Bool) → (is_include (common_filter v x) || b) ≡ is_include (if b then Include else common_filter v x)
       go true = or-true (is_include (common_filter v x))
@@ -126,7 +126,7 @@ module _ (v : Seen) where
 
 module _ (filter : FullNodeId → FilterResult) (y : FullNodeId) (ys : List FullNodeId) where
   abbrev first_by : FilterResult → Option FullNodeId
-  first_by r = elim (if (elim r [ Include ↦ true | ExcludeNode ↦ false | ExcludeSubtree ↦ false ]) then some y else none) [ none ↦ first_included filter ys | some z ↦ some z ]
+  first_by r = elim (if (elim r [ Include ↦ true | ExcludeNode ↦ false | ExcludeSubtree ↦ false ]) then Some y else None) [ None ↦ first_included filter ys | Some z ↦ Some z ]
 
   -- one that is not included is passed over
   pub first_other : (r : FilterResult) → filter y ≡ r → is_include r ≡ false → first_included filter (y ∷ ys) ≡ first_included filter ys
@@ -136,13 +136,13 @@ module _ (filter : FullNodeId → FilterResult) (y : FullNodeId) (ys : List Full
   first_other ExcludeSubtree q e = ap first_by q
 
 -- the first included node is included
-pub first_is : (filter : FullNodeId → FilterResult) (ys : List FullNodeId) (y : FullNodeId) → first_included filter ys ≡ some y → filter y ≡ Include
+pub first_is : (filter : FullNodeId → FilterResult) (ys : List FullNodeId) (y : FullNodeId) → first_included filter ys ≡ Some y → filter y ≡ Include
 unfolding is_include
-first_is filter [] y e = absurd (none-ne-some y e)
+first_is filter [] y e = absurd (none-some y e)
 first_is filter (x ∷ ys) y e = go (filter x) refl (first_is filter ys y)
   where
-    go : (r : FilterResult) → filter x ≡ r → (first_included filter ys ≡ some y → filter y ≡ Include) → filter y ≡ Include
-    go Include q on = rw (← some-injective x y (sym (first_included_lem filter x ys q) ∙ e)) q
+    go : (r : FilterResult) → filter x ≡ r → (first_included filter ys ≡ Some y → filter y ≡ Include) → filter y ≡ Include
+    go Include q on = rw (← same_Some x y (sym (first_included_lem filter x ys q) ∙ e)) q
     go ExcludeNode q on = on (sym (first_other filter x ys ExcludeNode q refl) ∙ e)
     go ExcludeSubtree q on = on (sym (first_other filter x ys ExcludeSubtree q refl) ∙ e)
 

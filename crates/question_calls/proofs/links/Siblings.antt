@@ -1,11 +1,12 @@
 -- The next sibling on a side, by its place among the parent's children, and the slots of children. Assumes nothing.
-use mathlib.Core.List.{List, head?, reverse}
-use mathlib.Core.Option.{Option, none, some}
+use mathlib.Core.List.{List, reverse}
+use Rattle.base.specs.Tests.{head_of}
+use Rattle.std.specs.Prelude.{Option, None, Some, slice_get}
 use mathlib.Core.Path.{◌≡◌, refl, sym, ap, ◌∙◌}
 use Prim.Native.Nat.{ℕ, suc, ◌+◌, ◌≤◌, ◌<◌}
 use native.Mathlib.Numerals.{add-one}
 use native.Mathlib.Omega.{arith}
-use lib.ListN.{length, get_or, get_elem?, take}
+use lib.ListN.{length, get_or, take}
 use Rattle.ids.specs.declared.FullNodeId.{FullNodeId}
 use Rattle.state.specs.State.{ParentAndIndex, Forest, link_at, parent_at}
 use Rattle.state_array.specs.declared.LinkRow.{LinkRow}
@@ -17,7 +18,8 @@ use Rattle.questions.specs.declared.Side.{Side}
 use Rattle.questions.specs.declared.Side.TheVariants.{Following, Preceding}
 use Rattle.questions.proofs.Links.{link_child, child_present}
 use Rattle.question_calls.specs.Slots.{Sound, slot_id}
-use Rattle.base.proofs.Places.{place_at, place_past, head_drop, last_take, last_at, last_none}
+use Rattle.std.proofs.lemmas.Option.{slice_get-get_or, slice_get_past}
+use Rattle.base.proofs.Places.{head_drop, last_take, last_at, last_none}
 use Rattle.question_calls.proofs.links.Slots.{slot_id_none, slot_shape, slot_present, slot_of_present}
 use Rattle.question_calls.proofs.links.Links.{unlinked, linked}
 
@@ -25,28 +27,28 @@ use Rattle.question_calls.proofs.links.Links.{unlinked, linked}
 
 module _ (f : Forest) (x : FullNodeId) where
   -- a node without a link has none
-  pub siblings_none : (side : Side) → link_at f.nodes x ≡ none → head? (siblings side f x) ≡ none
+  pub siblings_none : (side : Side) → link_at f.nodes x ≡ None → head_of (siblings side f x) ≡ None
   unfolding siblings
   siblings_none side e = rw (e, siblings) refl
 
-  module _ (l : ParentAndIndex) (e : link_at f.nodes x ≡ some l) where
+  module _ (l : ParentAndIndex) (e : link_at f.nodes x ≡ Some l) where
     -- the next in order stands at the next place
-    pub siblings_next : head? (siblings Following f x) ≡ get_elem? (child_ids f l.parent) (suc l.index)
+    pub siblings_next : head_of (siblings Following f x) ≡ slice_get (child_ids f l.parent) (suc l.index)
     unfolding siblings beside
     siblings_next = rw (e, siblings) (head_drop (child_ids f l.parent) (suc l.index))
 
     -- before the first there is none
-    pub siblings_first : l.index ≡ 0 → head? (siblings Preceding f x) ≡ none
+    pub siblings_first : l.index ≡ 0 → head_of (siblings Preceding f x) ≡ None
     unfolding siblings beside
-    siblings_first z = rw (e, siblings) (ap (λ (k : ℕ). head? (reverse (take k (child_ids f l.parent)))) z)
+    siblings_first z = rw (e, siblings) (ap (λ (k : ℕ). head_of (reverse (take k (child_ids f l.parent)))) z)
 
     -- before any other the one at the place before
     pub siblings_before : (k : ℕ) (d : FullNodeId) → l.index ≡ suc k → k < length (child_ids f l.parent)
-        → head? (siblings Preceding f x) ≡ some (get_or (child_ids f l.parent) k d)
+        → head_of (siblings Preceding f x) ≡ Some (get_or (child_ids f l.parent) k d)
     unfolding siblings beside
     siblings_before k d z h =
         rw (e, siblings)
-        (ap (λ (j : ℕ). head? (reverse (take j (child_ids f l.parent)))) z ∙ last_take (child_ids f l.parent) k d h)
+        (ap (λ (j : ℕ). head_of (reverse (take j (child_ids f l.parent)))) z ∙ last_take (child_ids f l.parent) k d h)
 
 -- ## Children by slots
 
@@ -62,41 +64,41 @@ module _ (s : List ℕ) (h : Sound s) where
   kids p = child_ids f (id_in s p)
 
   -- no node
-  none_slot : (n : ℕ) (o : Option FullNodeId) → n ≡ slots_of s → o ≡ none → slot_id s n ≡ o
+  none_slot : (n : ℕ) (o : Option FullNodeId) → n ≡ slots_of s → o ≡ None → slot_id s n ≡ o
   none_slot n o q e = slot_id_none s n (omega arith) ∙ sym e
 
   module _ (p : ℕ) (there : p < slots_of s) where
     -- the slot of a child
     kid_slot : (k : ℕ) (y : FullNodeId) (r : ℕ) → k < length (kids p) → Stands (kids p) (id_in s p) k y → SlotOf s y r
-        → slot_id s r ≡ some (get_or (kids p) k (id_in s p))
+        → slot_id s r ≡ Some (get_or (kids p) k (id_in s p))
     kid_slot k y r l is found =
         slot_of_present s h y r found (rw (is l) (child_present f (slot_shape s h) (id_in s p) k (id_in s p) (slot_present s h p there) l))
-        ∙ ap some (is l)
+        ∙ ap Some (is l)
 
     module _ (count : ℕ) (counted : count ≡ length (kids p)) where
       -- past the last child, and a child
-      pub kid_past : (k n : ℕ) → count ≤ k → n ≡ slots_of s → slot_id s n ≡ get_elem? (kids p) k
-      kid_past k n l q = none_slot n _ q (place_past (kids p) k (omega arith))
+      pub kid_past : (k n : ℕ) → count ≤ k → n ≡ slots_of s → slot_id s n ≡ slice_get (kids p) k
+      kid_past k n l q = none_slot n _ q (slice_get_past (kids p) k (omega arith))
 
-      pub kid_at : (k : ℕ) (y : FullNodeId) (r : ℕ) → k < count → Stands (kids p) (id_in s p) k y → SlotOf s y r → slot_id s r ≡ get_elem? (kids p) k
+      pub kid_at : (k : ℕ) (y : FullNodeId) (r : ℕ) → k < count → Stands (kids p) (id_in s p) k y → SlotOf s y r → slot_id s r ≡ slice_get (kids p) k
       kid_at k y r l is found =
           let within : k < length (kids p) = omega arith in
-          kid_slot k y r within is found ∙ sym (place_at (kids p) k (id_in s p) within)
+          kid_slot k y r within is found ∙ sym (slice_get-get_or (kids p) k (id_in s p) within)
 
       -- no last child, and the last child
-      pub last_past : (n : ℕ) → count ≡ 0 → n ≡ slots_of s → slot_id s n ≡ head? (turned Preceding (kids p))
+      pub last_past : (n : ℕ) → count ≡ 0 → n ≡ slots_of s → slot_id s n ≡ head_of (turned Preceding (kids p))
       unfolding turned
       last_past n z q = none_slot n _ q (last_none (kids p) (sym counted ∙ z))
 
       pub last_kid : (k : ℕ) (y : FullNodeId) (r : ℕ) → count ≡ k + 1 → Stands (kids p) (id_in s p) k y → SlotOf s y r
-          → slot_id s r ≡ head? (turned Preceding (kids p))
+          → slot_id s r ≡ head_of (turned Preceding (kids p))
       unfolding turned
       last_kid k y r z is found =
           let ends : length (kids p) ≡ suc k = sym counted ∙ z ∙ add-one k in
           kid_slot k y r (omega arith) is found ∙ sym (last_at (kids p) k (id_in s p) ends)
 
   -- the first child
-  pub first_is : (p r : ℕ) → slot_id s r ≡ get_elem? (kids p) 0 → slot_id s r ≡ head? (turned Following (kids p))
+  pub first_is : (p r : ℕ) → slot_id s r ≡ slice_get (kids p) 0 → slot_id s r ≡ head_of (turned Following (kids p))
   unfolding turned
   first_is p r e = e ∙ sym (head_drop (kids p) 0)
 
@@ -104,12 +106,12 @@ module _ (s : List ℕ) (h : Sound s) where
 
   module _ (i : ℕ) (there : i < slots_of s) (l : LinkRow) (read : l ≡ link_in s i) (p : ℕ) (up : slot_id s p ≡ parent_at f.nodes (id_in s i)) where
     -- a node without a parent has no sibling
-    pub sibling_none : (side : Side) (n : ℕ) → slots_of s ≤ p → n ≡ slots_of s → slot_id s n ≡ head? (siblings side f (id_in s i))
+    pub sibling_none : (side : Side) (n : ℕ) → slots_of s ≤ p → n ≡ slots_of s → slot_id s n ≡ head_of (siblings side f (id_in s i))
     sibling_none side n m q = none_slot n _ q (siblings_none f (id_in s i) side (unlinked s h i there p up m))
 
     module _ (m : p < slots_of s) where
-      link : link_at f.nodes (id_in s i) ≡ some (record { parent = id_in s p; index = l.index })
-      link = linked s h i there p up m ∙ ap (λ (k : LinkRow). some (record { parent = id_in s p; index = k.index })) (sym read)
+      link : link_at f.nodes (id_in s i) ≡ Some (record { parent = id_in s p; index = l.index })
+      link = linked s h i there p up m ∙ ap (λ (k : LinkRow). Some (record { parent = id_in s p; index = k.index })) (sym read)
 
       -- the node's place is one among the parent's children
       within : l.index < length (kids p)
@@ -117,23 +119,23 @@ module _ (s : List ℕ) (h : Sound s) where
 
       -- after the last child, and after another
       pub following_none : (count n : ℕ) → count ≡ length (kids p) → count ≤ l.index + 1 → n ≡ slots_of s
-          → slot_id s n ≡ head? (siblings Following f (id_in s i))
+          → slot_id s n ≡ head_of (siblings Following f (id_in s i))
       following_none count n counted e q =
-          none_slot n _ q (siblings_next f (id_in s i) _ link ∙ place_past (kids p) (suc l.index) (omega arith))
+          none_slot n _ q (siblings_next f (id_in s i) _ link ∙ slice_get_past (kids p) (suc l.index) (omega arith))
 
       pub following_at : (count : ℕ) (y : FullNodeId) (r : ℕ) → count ≡ length (kids p) → l.index + 1 < count
-          → Stands (kids p) (id_in s p) (l.index + 1) y → SlotOf s y r → slot_id s r ≡ head? (siblings Following f (id_in s i))
+          → Stands (kids p) (id_in s p) (l.index + 1) y → SlotOf s y r → slot_id s r ≡ head_of (siblings Following f (id_in s i))
       following_at count y r counted b is found =
           kid_at p m count counted (l.index + 1) y r b is found
-          ∙ ap (get_elem? (kids p)) (add-one l.index)
+          ∙ ap (slice_get (kids p)) (add-one l.index)
           ∙ sym (siblings_next f (id_in s i) _ link)
 
       -- before the first child, and before another
-      pub preceding_none : (n : ℕ) → l.index ≡ 0 → n ≡ slots_of s → slot_id s n ≡ head? (siblings Preceding f (id_in s i))
+      pub preceding_none : (n : ℕ) → l.index ≡ 0 → n ≡ slots_of s → slot_id s n ≡ head_of (siblings Preceding f (id_in s i))
       preceding_none n e q = none_slot n _ q (siblings_first f (id_in s i) _ link e)
 
       pub preceding_at : (k : ℕ) (y : FullNodeId) (r : ℕ) → l.index ≡ k + 1 → Stands (kids p) (id_in s p) k y → SlotOf s y r
-          → slot_id s r ≡ head? (siblings Preceding f (id_in s i))
+          → slot_id s r ≡ head_of (siblings Preceding f (id_in s i))
       preceding_at k y r e is found =
           let b = within in
           kid_slot p m k y r (omega arith) is found

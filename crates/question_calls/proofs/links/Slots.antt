@@ -2,7 +2,8 @@
 -- Assumes nothing.
 use mathlib.Core.Bool.{true}
 use mathlib.Core.List.{List}
-use mathlib.Core.Option.{none, some, none-ne-some, some-injective}
+use Rattle.std.specs.Prelude.{None, Some}
+use Rattle.std.proofs.lemmas.Option.{none-some, same_Some}
 use mathlib.Core.Path.{◌≡◌, sym, ap, ◌∙◌}
 use Prim.Native.Nat.{ℕ, ◌≤◌, ◌<◌}
 use native.Mathlib.Decide.{dec_lt}
@@ -24,21 +25,21 @@ use Rattle.question_calls.specs.Slots.{Sound, slot_id}
 module _ (s : List ℕ) (r : ℕ) where
   -- ## The node in a slot
 
-  pub slot_id_some : r < slots_of s → slot_id s r ≡ some (id_in s r)
+  pub slot_id_some : r < slots_of s → slot_id s r ≡ Some (id_in s r)
   unfolding slot_id
   slot_id_some h = rw (lt-ltb r (slots_of s) h)
 
-  pub slot_id_none : slots_of s ≤ r → slot_id s r ≡ none
+  pub slot_id_none : slots_of s ≤ r → slot_id s r ≡ None
   unfolding slot_id
   slot_id_none h = rw (le-ltb r (slots_of s) h)
 
   -- a slot that holds a node is one of the slots
-  pub slot_id_at : (x : FullNodeId) → slot_id s r ≡ some x → (r < slots_of s) × (id_in s r ≡ x)
+  pub slot_id_at : (x : FullNodeId) → slot_id s r ≡ Some x → (r < slots_of s) × (id_in s r ≡ x)
   slot_id_at x e = go (dec_lt r (slots_of s))
     where
       go : Dec (r < slots_of s) → (r < slots_of s) × (id_in s r ≡ x)
-      go (yes h) = (h, some-injective (id_in s r) x (sym (slot_id_some h) ∙ e))
-      go (no h) = absurd (none-ne-some x (sym (slot_id_none (omega arith)) ∙ e))
+      go (yes h) = (h, same_Some (id_in s r) x (sym (slot_id_some h) ∙ e))
+      go (no h) = absurd (none-some x (sym (slot_id_none (omega arith)) ∙ e))
 
 -- ## The slots of a sound state
 
@@ -55,7 +56,7 @@ module _ (s : List ℕ) (h : Sound s) where
   slot_first i l = stands_first (id_in s) (slots_of s) in_order (id_in s i) i l (same_id_refl (id_in s i))
 
   -- the node in a slot is the node of its id
-  pub slot_found : (i : ℕ) → i < slots_of s → find (id_in s i) (view s).forest.nodes ≡ some (node_in s i)
+  pub slot_found : (i : ℕ) → i < slots_of s → find (id_in s i) (view s).forest.nodes ≡ Some (node_in s i)
   slot_found i l = find_there s (id_in s i) i (slot_first i l) l
 
   pub slot_present : (i : ℕ) → i < slots_of s → present (view s).forest.nodes (id_in s i) ≡ true
@@ -77,7 +78,7 @@ module _ (s : List ℕ) (h : Sound s) where
   -- ## What a search finds
 
   -- the slot of a node that is present
-  pub slot_of_present : (x : FullNodeId) (r : ℕ) → SlotOf s x r → present (view s).forest.nodes x ≡ true → slot_id s r ≡ some x
+  pub slot_of_present : (x : FullNodeId) (r : ℕ) → SlotOf s x r → present (view s).forest.nodes x ≡ true → slot_id s r ≡ Some x
   slot_of_present x r found there =
       let l : r < slots_of s = ltb-true r (slots_of s) (sym (present_slot s x r (found.first in_order)) ∙ there) in
-      slot_id_some s r l ∙ ap some (sym (same_id→≡ x (id_in s r) (found.hit l)))
+      slot_id_some s r l ∙ ap Some (sym (same_id→≡ x (id_in s r) (found.hit l)))

@@ -1,7 +1,7 @@
 -- What a node has from its ancestors, one climb at a time: the hidden flag, the transform, the box. Assumes nothing.
 use mathlib.Core.Bool.{true, false}
 use mathlib.Core.List.{List, [], ◌∷◌}
-use mathlib.Core.Option.{none, some}
+use Rattle.std.specs.Prelude.{None, Some}
 use mathlib.Core.Path.{◌≡◌, refl, sym, ap, ◌∙◌}
 use Prim.Native.Nat.{ℕ, ◌-◌, ◌/◌, ◌%◌, ◌≤◌, ◌<◌}
 use native.Mathlib.Nat.{div-one}
@@ -109,7 +109,7 @@ module _ (s : List ℕ) (h : Sound s) (i : ℕ) (there : i < slots_of s) where
 
 -- a transform under those of the node in slot p and its ancestors
 unfoldable pub chain_from : List ℕ → Affine → ℕ → Affine
-chain_from s t p = elim (slot_id s p) [ none ↦ t | some y ↦ chain (product (direct_transform (view s).forest y) t) (transforms_above (view s).forest y) ]
+chain_from s t p = elim (slot_id s p) [ None ↦ t | Some y ↦ chain (product (direct_transform (view s).forest y) t) (transforms_above (view s).forest y) ]
 
 module _ (s : List ℕ) (t : Affine) where
   pub chain_past : (p : ℕ) → slots_of s ≤ p → chain_from s t p ≡ t

@@ -1,11 +1,11 @@
 -- Laws of runs and buffers. Assumes nothing.
 use mathlib.Core.List.{List, [], ◌∷◌}
-use mathlib.Core.Option.{some}
+use Rattle.std.specs.Prelude.{Some, slice_get}
 use mathlib.Core.Path.{◌≡◌, refl, sym, ap, ◌∙◌, subst}
 use Prim.Native.Nat.{ℕ, ◌+◌, ◌*◌, ◌≤◌, ◌<◌}
 use native.Mathlib.Numerals.{add-one}
 use native.Mathlib.Omega.{arith}
-use lib.ListN.{length, get_or, get_elem?, set, take, drop, length-append, take-append-drop}
+use lib.ListN.{length, get_or, set, take, drop, length-append, take-append-drop}
 use lib.Seq.{take_all}
 use borrow.Author.Tests.{leb-true}
 use Rattle.ids.specs.Ids.{id_words}
@@ -66,7 +66,7 @@ module _ (s : List ℕ) (h : Sound s) (i : ℕ) (there : i < slots_of s) (side :
       unfolding parent_at
       at = slot_id_at s p l.parent (up ∙ rw (link_some s h i there l read e, parent_at) refl)
 
-      linked : link_at f.nodes x ≡ some (record { parent = id_in s p; index = l.index })
+      linked : link_at f.nodes x ≡ Some (record { parent = id_in s p; index = l.index })
       linked = rw at.1 (link_some s h i there l read e)
 
       -- the parent has a slot, and the node a place among its children
@@ -88,7 +88,7 @@ module _ (s : List ℕ) (h : Sound s) (i : ℕ) (there : i < slots_of s) (side :
             stands = λ k m. let o = rw cq at m in record { parent = rw pq run_parent; index = rw (pq, iq) run_index; within = rw (pq, iq) o };
             each = λ k m.
                 let o = rw cq at m in
-                rw (pq, iq) (ap (λ (ys : List FullNodeId). get_elem? ys k) same ∙ (beside_at side l.index k kids (id_in s p) run_index o).1);
+                rw (pq, iq) (ap (λ (ys : List FullNodeId). slice_get ys k) same ∙ (beside_at side l.index k kids (id_in s p) run_index o).1);
           }
 
       -- the same by the number of the parent's children
@@ -133,7 +133,7 @@ module _ (xs : List FullNodeId) (before : List ℕ) where
         let within = ap length (take-append-drop k xs) in
         ap length h.words_are ∙ ids_length (id_words (take k xs)) before (omega (arith, id_words_length (take k xs), within, length-append (take k xs) (drop k xs)))
 
-    module _ (y : FullNodeId) (q : get_elem? xs k ≡ some y) where
+    module _ (y : FullNodeId) (q : slice_get xs k ≡ Some y) where
       -- there is room for one more
       pub collected_room : 2 * k + 2 ≤ length now
       collected_room = omega (arith, collected_length, (take_more xs k y q).1)

@@ -1,13 +1,12 @@
 -- Climbing to the filtered parent of a node that is not hidden. Assumes nothing.
 use mathlib.Core.Bool.{Bool, true, false, false≢true}
 use mathlib.Core.List.{List, [], ◌∷◌}
-use mathlib.Core.Option.{Option, none, some}
 use mathlib.Core.Path.{◌≡◌, refl, sym, ap, ◌∙◌}
 use Prim.Native.Nat.{ℕ, ◌+◌, ◌≤◌, ◌<◌}
 use native.Mathlib.Decide.{dec_lt}
 use native.Mathlib.Omega.{arith}
 use lib.ListN.{length}
-use Rattle.std.specs.Prelude.{if◌then◌else◌}
+use Rattle.std.specs.Prelude.{if◌then◌else◌, Option, None, Some}
 use Rattle.base.specs.Tests.{any}
 use Rattle.base.proofs.Tests.{or_false}
 use Rattle.ids.specs.declared.FullNodeId.{FullNodeId}
@@ -41,12 +40,12 @@ module _ (filter : FullNodeId → FilterResult) where
     excluded r = elim r [ Include ↦ false | ExcludeNode ↦ true | ExcludeSubtree ↦ false ]
 
     abbrev first_by : FilterResult → Option FullNodeId
-    first_by r = elim (if included r then some y else none) [ none ↦ first_included filter ys | some z ↦ some z ]
+    first_by r = elim (if included r then Some y else None) [ None ↦ first_included filter ys | Some z ↦ Some z ]
 
     abbrev leading_by : FilterResult → List FullNodeId
     leading_by r = if excluded r then y ∷ leading (is_excluded_node filter) ys else []
 
-    pub first_included_lem : filter y ≡ Include → first_included filter (y ∷ ys) ≡ some y
+    pub first_included_lem : filter y ≡ Include → first_included filter (y ∷ ys) ≡ Some y
     first_included_lem e = ap first_by e
 
     pub first_passed : filter y ≡ ExcludeNode → first_included filter (y ∷ ys) ≡ first_included filter ys

@@ -1,14 +1,14 @@
 -- The focused node by its slot, a law for each way out of the code. Assumes nothing.
 use mathlib.Core.Bool.{Bool, true, false}
 use mathlib.Core.List.{List}
-use mathlib.Core.Option.{Option, none, some, some-injective}
+use Rattle.std.proofs.lemmas.Option.{same_Some}
 use mathlib.Core.Path.{◌≡◌, refl, sym, ap, ◌∙◌}
 use Prim.Native.Nat.{ℕ, ◌/◌, ◌%◌, ◌≤◌, ◌<◌}
 use native.Mathlib.Decide.{dec_lt}
 use native.Mathlib.Omega.{arith}
 use lib.Dec.{ltb}
 use borrow.Author.Tests.{ltb-false, eq-eqb, ne_eqb}
-use Rattle.std.specs.Prelude.{if◌then◌else◌}
+use Rattle.std.specs.Prelude.{if◌then◌else◌, Option, None, Some}
 use Rattle.base.specs.Tests.{same_option}
 use Rattle.ids.specs.Ids.{same_id}
 use Rattle.ids.proofs.Ids.{same_id→≡, same_id_refl}
@@ -23,9 +23,6 @@ use Rattle.state_array.specs.View.{id_in, shape_in, body_in, node_in, slots_of, 
 use Rattle.state_lookup.specs.Lookup.{SlotOf}
 use Rattle.state_lookup.proofs.Found.{present_slot}
 use Rattle.state_lookup.proofs.Order.{ordered_is}
-use Rattle.state_focus.specs.declared.FoundNode.{FoundNode}
-use Rattle.state_focus.specs.declared.FoundNode.TheVariants as node
-use Rattle.state_focus.specs.Focus.{found_of}
 use Rattle.questions.specs.Filters.{active_descendant_at, focused_node, is_focused}
 use Rattle.question_calls.specs.Slots.{Sound, slot_id}
 use Rattle.question_calls.proofs.links.Slots.{slot_id_some, slot_id_none, slot_id_at, slot_shape, slot_found, slot_same, slot_of_present}
@@ -36,20 +33,20 @@ use Rattle.question_calls.specs.Plain.{seen_at, Focused}
 -- a number of the same tree, if present
 abbrev named : List NodeState → FullNodeId → Option NodeId → Option FullNodeId
 named ns x o =
-    elim o [ none ↦ none | some a ↦ let y : FullNodeId = record { tree = x.tree; node = a } in if present ns y then some y else none ]
+    elim o [ None ↦ None | Some a ↦ let y : FullNodeId = record { tree = x.tree; node = a } in if present ns y then Some y else None ]
 
 module _ (s : List ℕ) (h : Sound s) where
   abbrev f : Forest
   f = (view s).forest
 
   -- the slot that a search finds holds the id, if it is present
-  found_any : (y : FullNodeId) (r : ℕ) → SlotOf s y r → slot_id s r ≡ (if present f.nodes y then some y else none)
+  found_any : (y : FullNodeId) (r : ℕ) → SlotOf s y r → slot_id s r ≡ (if present f.nodes y then Some y else None)
   found_any y r found = go (present f.nodes y) refl
     where
       at : present f.nodes y ≡ ltb r (slots_of s)
       at = present_slot s y r (found.first (sym (ordered_is s) ∙ (slot_shape s h).ordered))
 
-      go : (b : Bool) → present f.nodes y ≡ b → slot_id s r ≡ (if b then some y else none)
+      go : (b : Bool) → present f.nodes y ≡ b → slot_id s r ≡ (if b then Some y else None)
       go true e = slot_of_present s h y r found e
       go false e = slot_id_none s r (omega (arith, ltb-false r (slots_of s) (sym at ∙ e)))
 
@@ -75,14 +72,14 @@ module _ (s : List ℕ) (h : Sound s) where
 
 -- by the effective focus and its active descendant
 abbrev by_descendant : FullNodeId → Option FullNodeId → Option FullNodeId
-by_descendant e o = elim o [ none ↦ some e | some a ↦ if same_id a e then none else some a ]
+by_descendant e o = elim o [ None ↦ Some e | Some a ↦ if same_id a e then None else Some a ]
 
 abbrev by_focus : List NodeState → Option FullNodeId → Option FullNodeId
-by_focus ns o = elim o [ none ↦ none | some e ↦ by_descendant e (active_descendant_at ns e) ]
+by_focus ns o = elim o [ None ↦ None | Some e ↦ by_descendant e (active_descendant_at ns e) ]
 
 module _ (s : List ℕ) (n : ℕ) (past : n ≡ slots_of s) where
   -- nothing is focused
-  none_focused : focused_node (view s) ≡ none → Focused s n
+  none_focused : focused_node (view s) ≡ None → Focused s n
   none_focused e = slot_id_none s n (omega arith) ∙ sym e
 
   -- without host focus
@@ -90,27 +87,24 @@ module _ (s : List ℕ) (n : ℕ) (past : n ≡ slots_of s) where
   unfolding focused_node view
   host_lost e = none_focused (rw (eq-eqb (host_of s) 0 e, focused_node) refl)
 
-  module _ (host : host_of s ≡ 0 → ⊥) (r : FoundNode) (effective : found_of r ≡ effective_focus (view s).forest) where
-    focused_by : focused_node (view s) ≡ by_focus (view s).forest.nodes (found_of r)
+  module _ (host : host_of s ≡ 0 → ⊥) (r : Option FullNodeId) (effective : r ≡ effective_focus (view s).forest) where
+    focused_by : focused_node (view s) ≡ by_focus (view s).forest.nodes r
     unfolding focused_node view
     focused_by = rw (ne_eqb (host_of s) 0 host, focused_node, effective) refl
 
     -- without an effective focus
-    pub focus_none : r ≡ node.Nothing → Focused s n
-    unfolding found_of
+    pub focus_none : r ≡ None → Focused s n
     focus_none q = none_focused (focused_by ∙ rw q refl)
 
-    module _ (h : Sound s) (e : FullNodeId) (q : r ≡ node.At e) (i : ℕ) (found : SlotOf s e i) where
+    module _ (h : Sound s) (e : FullNodeId) (q : r ≡ Some e) (i : ℕ) (found : SlotOf s e i) where
       -- the effective focus is present
       pub focus_slot : (i < slots_of s) × (id_in s i ≡ e)
-      unfolding found_of
       focus_slot =
           let z = focus_of_sound (view s).forest (sound_parts (view s).forest h).focus in
-          let same : e ≡ z.focus = some-injective e z.focus (sym (rw q refl) ∙ effective ∙ z.effective) in
+          let same : e ≡ z.focus = same_Some e z.focus (sym (rw q refl) ∙ effective ∙ z.effective) in
           slot_id_at s i e (slot_of_present s h e i found (rw same z.there))
 
       focused_slot : focused_node (view s) ≡ by_descendant (id_in s i) (active_descendant_at (view s).forest.nodes (id_in s i))
-      unfolding found_of
       focused_slot = focused_by ∙ rw (q, focus_slot.1) refl
 
       module _ (a : ℕ) (active : i < slots_of s → slot_id s a ≡ active_descendant_at (view s).forest.nodes (id_in s i)) where
@@ -147,6 +141,6 @@ module _ (s : List ℕ) (h : Sound s) (k i : ℕ) (there : i < slots_of s) where
       differ l true p = absurd (e (sym (slot_same s h k i l there (same_id→≡ (id_in s k) (id_in s i) p))))
       differ l false p = refl
 
-      go : Dec (k < slots_of s) → same_option same_id (slot_id s k) (some (id_in s i)) ≡ false
+      go : Dec (k < slots_of s) → same_option same_id (slot_id s k) (Some (id_in s i)) ≡ false
       go (yes l) = rw (slot_id_some s k l) (differ l (same_id (id_in s k) (id_in s i)) refl)
       go (no l) = let past : slots_of s ≤ k = omega arith in rw (slot_id_none s k past) refl

@@ -1,7 +1,8 @@
 -- From where a walk stands to the first node that a filter lists, by what the filter says of the node in the slot. Assumes nothing.
 use mathlib.Core.Bool.{true, false, true≢false}
-use mathlib.Core.List.{List, [], ◌∷◌, flat_map, head?}
-use mathlib.Core.Option.{Option, none, some}
+use Rattle.base.specs.Tests.{head_of}
+use mathlib.Core.List.{List, [], ◌∷◌, flat_map}
+use Rattle.std.specs.Prelude.{Option, None, Some}
 use mathlib.Core.Path.{◌≡◌, refl, sym, ap, ◌∙◌}
 use Prim.Native.Nat.{ℕ, ◌≤◌, ◌<◌}
 use Rattle.ids.specs.declared.FullNodeId.{FullNodeId}
@@ -26,18 +27,18 @@ module _ (filter : FullNodeId → FilterResult) (side : Side) (s : List ℕ) whe
   f = (view s).forest
 
   -- the node that a walk is at is the first that it lists
-  pub head_listed : (r : Place) → head? (listed_from filter side s r) ≡ slot_id s r.slot
+  pub head_listed : (r : Place) → head_of (listed_from filter side s r) ≡ slot_id s r.slot
   unfolding listed_from
   head_listed r = go (slot_id s r.slot)
     where
       go : (o : Option FullNodeId)
-          → head? (elim o as (λ _. List FullNodeId) [ none ↦ [] | some x ↦ x ∷ flat_map (shown filter side f) (ahead side f r.level x) ]) ≡ o
-      go none = refl
-      go (some x) = refl
+          → head_of (elim o as (λ _. List FullNodeId) [ None ↦ [] | Some x ↦ x ∷ flat_map (shown filter side f) (ahead side f r.level x) ]) ≡ o
+      go None = refl
+      go (Some x) = refl
 
   pub listed_head : (at r : Place) (xs : List FullNodeId) → met_from side s at ≡ xs → Lists filter side s at r
-      → slot_id s r.slot ≡ head? (flat_map (shown filter side f) xs)
-  listed_head at r xs e l = sym (head_listed r) ∙ ap head? (sym l ∙ ap (flat_map (shown filter side f)) e)
+      → slot_id s r.slot ≡ head_of (flat_map (shown filter side f) xs)
+  listed_head at r xs e l = sym (head_listed r) ∙ ap head_of (sym l ∙ ap (flat_map (shown filter side f)) e)
 
   module _ (at : Place) where
     -- at the end

@@ -2,10 +2,10 @@
 -- listed by the own flags. Assumes nothing.
 use mathlib.Core.Bool.{Bool, true, false, not}
 use mathlib.Core.List.{List, [], ◌∷◌, flat_map, Memᴰ}
-use mathlib.Core.Option.{some, none-ne-some, some-injective}
+use Rattle.std.proofs.lemmas.Option.{none-some, same_Some}
 use mathlib.Core.Path.{◌≡◌, refl, sym, ap, ◌∙◌, subst}
 use lib.ListN.{length}
-use Rattle.std.specs.Prelude.{if◌then◌else◌}
+use Rattle.std.specs.Prelude.{if◌then◌else◌, Some}
 use Rattle.base.specs.Tests.{any, is_nil}
 use Rattle.base.proofs.Tests.{or_false}
 use Rattle.ids.specs.declared.FullNodeId.{FullNodeId}
@@ -50,9 +50,9 @@ module _ (v : Seen) (h : Shape v.forest) where
 
   -- of a node none of whose ancestors is hidden: what stands for it stands among the filtered children of the nearest included ancestor
   shown_above : (up : List FullNodeId) (x y p : FullNodeId) → ancestors f x ≡ up → any (hidden_at f) up ≡ false
-      → Memᴰ y (shown filter Following f x) → first_included filter up ≡ some p → Memᴰ y (filtered_children filter f p)
+      → Memᴰ y (shown filter Following f x) → first_included filter up ≡ Some p → Memᴰ y (filtered_children filter f p)
   unfolding filtered_children turned
-  shown_above [] x y p e clear i found = absurd (none-ne-some p found)
+  shown_above [] x y p e clear i found = absurd (none-some p found)
   shown_above (q ∷ up) x y p e clear i found =
       go (is_include (own_filter v q)) refl (shown_above up q y p z.above parts.1)
     where
@@ -76,17 +76,17 @@ module _ (v : Seen) (h : Shape v.forest) where
       same = own_filter_lem v q (rw z.above parts.1)
 
       go : (b : Bool) → is_include (own_filter v q) ≡ b
-          → (Memᴰ y (shown filter Following f q) → first_included filter up ≡ some p → Memᴰ y (filtered_children filter f p))
+          → (Memᴰ y (shown filter Following f q) → first_included filter up ≡ Some p → Memᴰ y (filtered_children filter f p))
           → Memᴰ y (filtered_children filter f p)
       go true b k =
-          let is : q ≡ p = some-injective q p (sym (first_included_lem filter q up (same ∙ include_is (own_filter v q) b)) ∙ found) in
+          let is : q ≡ p = same_Some q p (sym (first_included_lem filter q up (same ∙ include_is (own_filter v q) b)) ∙ found) in
           subst (λ (w : FullNodeId). Memᴰ y (flat_map (shown filter Following f) (child_ids f w))) is below
       go false b k =
           let passed : filter q ≡ ExcludeNode = same ∙ own_included v q parts.0 b in
           k (rw (shown_node filter Following f h q there passed) below) (sym (first_passed filter q up passed) ∙ found)
 
   module _ (x p : FullNodeId) (there : present f.nodes x ≡ true) (unhidden : is_hidden f x ≡ false) (plain : is_transparent f x ≡ false)
-      (parent : filtered_parent filter f x ≡ some p) where
+      (parent : filtered_parent filter f x ≡ Some p) where
     -- such a node is listed
     listed : filter x ≡ Include
     unfolding own_filter

@@ -3,11 +3,10 @@
 use mathlib.Core.Bool.{Bool, true, false, ◌||◌, true≢false, false≢true, or-false as or_nothing}
 use mathlib.Core.List.Memᴰ
 use mathlib.Core.List.{List, [], ◌∷◌, flat_map, Memᴰ, nil≢cons}
-use mathlib.Core.Option.{Option, none, some}
 use mathlib.Core.Path.{◌≡◌, refl, sym, ap, ◌∙◌}
 use Prim.Native.Nat.{ℕ, zero, suc}
 use lib.ListN.{length, take, drop}
-use Rattle.std.specs.Prelude.{if◌then◌else◌}
+use Rattle.std.specs.Prelude.{if◌then◌else◌, Option, None, Some}
 use Rattle.base.specs.Tests.{any}
 use Rattle.base.proofs.Tests.{or_false}
 use Rattle.ids.specs.declared.FullNodeId.{FullNodeId}
@@ -47,10 +46,10 @@ unfolding without_parent_checks common_filter_base by_flag
 checks_by_flag v x = go (is_focused v x) (is_hidden v.forest x) (is_transparent v.forest x)
   where
     or_include : Option FilterResult → FilterResult
-    or_include o = elim o [ none ↦ Include | some r ↦ r ]
+    or_include o = elim o [ None ↦ Include | Some r ↦ r ]
 
     go : (a b c : Bool)
-        → or_include (if a then some Include else if b then some ExcludeSubtree else if c then some ExcludeNode else none)
+        → or_include (if a then Some Include else if b then Some ExcludeSubtree else if c then Some ExcludeNode else None)
         ≡ (if a then Include else if b then ExcludeSubtree else if c then ExcludeNode else Include)
     go true b c = refl
     go false true c = refl
@@ -60,7 +59,7 @@ checks_by_flag v x = go (is_focused v x) (is_hidden v.forest x) (is_transparent 
 -- the first ancestor is the parent, and the others are the parent's
 pub record Climbs (f : Forest) (x p : FullNodeId) (up : List FullNodeId) : Type 0 where
   pub link : ParentAndIndex
-  pub linked : link_at f.nodes x ≡ some link
+  pub linked : link_at f.nodes x ≡ Some link
   pub parent_is : link.parent ≡ p
   pub above : ancestors f p ≡ up
 
@@ -68,8 +67,8 @@ pub ancestors_cons : (f : Forest) → Shape f → (x p : FullNodeId) (up : List 
 ancestors_cons f h x p up e = go (link_at f.nodes x) refl
   where
     go : (o : Option ParentAndIndex) → link_at f.nodes x ≡ o → Climbs f x p up
-    go none q = absurd (nil≢cons (sym (ancestors_end f h x q) ∙ e))
-    go (some l) q =
+    go None q = absurd (nil≢cons (sym (ancestors_end f h x q) ∙ e))
+    go (Some l) q =
         let same : l.parent ∷ ancestors f l.parent ≡ p ∷ up = sym (ancestors_step f h x l q) ∙ e in
         let parent_is : l.parent ≡ p = cc in
         let above : ancestors f l.parent ≡ up = cc in
@@ -160,8 +159,8 @@ module _ (v : Seen) where
     clear_sibling side x y clear i = go (link_at f.nodes x) refl
       where
         go : (o : Option ParentAndIndex) → link_at f.nodes x ≡ o → (present f.nodes y ≡ true) × Clear f y
-        go none q = absurd (Memᴰ.not-nil (rw (siblings_none side f x q) at i))
-        go (some l) q =
+        go None q = absurd (Memᴰ.not-nil (rw (siblings_none side f x q) at i))
+        go (Some l) q =
             let m = member_beside side l.index (child_ids f l.parent) y (rw (siblings_of side f x l q) at i) in
             let c = member_child f h l.parent y (parent_present f h x l q) m in
             (c.0, rw (c.1 ∙ sym (ancestors_step f h x l q)) clear)

@@ -1,14 +1,14 @@
 -- What is listed under a filter, from the place of its first node: of children, of siblings, the deepest child. Assumes nothing.
 use mathlib.Core.Bool.{Bool, true, false}
-use mathlib.Core.List.{List, [], ◌∷◌, flat_map, head?}
-use mathlib.Core.Option.{Option, none, some, none-ne-some}
+use mathlib.Core.List.{List, [], ◌∷◌, flat_map}
+use Rattle.std.proofs.lemmas.Option.{none-some}
 use mathlib.Core.Path.{◌≡◌, refl, sym, ap, ◌∙◌}
 use Prim.Native.Nat.{ℕ, suc, ◌-◌, ◌≤◌, ◌<◌}
 use native.Mathlib.Decide.{dec_lt}
 use native.Mathlib.Omega.{arith}
-use lib.ListN.{length, get_elem?}
-use Rattle.std.specs.Prelude.{if◌then◌else◌}
-use Rattle.base.specs.Tests.{is_nil}
+use lib.ListN.{length}
+use Rattle.std.specs.Prelude.{if◌then◌else◌, Option, None, Some, slice_get}
+use Rattle.base.specs.Tests.{is_nil, head_of}
 use Rattle.ids.specs.declared.FullNodeId.{FullNodeId}
 use Rattle.state.specs.State.{Forest, present}
 use Rattle.state_array.specs.View.{id_in, slots_of, view}
@@ -35,12 +35,12 @@ use Rattle.question_calls.proofs.plain.Listed.{head_listed}
 use Rattle.question_calls.specs.Filters.{is_exclude_node}
 use Rattle.question_calls.specs.Shown.{met_after, ListsAhead, ListsBelow, Climbs, filtered_child_on, deepest_on}
 
-head_none : {A : Type 0} (xs : List A) → head? xs ≡ none → xs ≡ []
+head_none : {A : Type 0} (xs : List A) → head_of xs ≡ None → xs ≡ []
 head_none [] e = refl
-head_none (x ∷ xs) e = absurd (none-ne-some x (sym e))
+head_none (x ∷ xs) e = absurd (none-some x (sym e))
 
-head_some : {A : Type 0} (xs : List A) (x : A) → head? xs ≡ some x → is_nil xs ≡ false
-head_some [] x e = absurd (none-ne-some x e)
+head_some : {A : Type 0} (xs : List A) (x : A) → head_of xs ≡ Some x → is_nil xs ≡ false
+head_some [] x e = absurd (none-some x e)
 head_some (y ∷ xs) x e = refl
 
 -- on from a node that is not listed, by what the filter says of it
@@ -56,7 +56,7 @@ module _ (side : Side) (s : List ℕ) (h : Sound s) where
   f = (view s).forest
 
   -- from the first child on the children are met
-  pub met_children : (i c : ℕ) → i < slots_of s → slot_id s c ≡ head? (turned side (child_ids f (id_in s i)))
+  pub met_children : (i c : ℕ) → i < slots_of s → slot_id s c ≡ head_of (turned side (child_ids f (id_in s i)))
       → met_from side s (record { slot = c; level = 0 }) ≡ turned side (child_ids f (id_in s i))
   met_children i c there e = go (dec_lt c (slots_of s))
     where
@@ -105,34 +105,34 @@ module _ (side : Side) (s : List ℕ) (h : Sound s) where
         go (no l) = let past : slots_of s ≤ r.slot = omega arith in rw (listed_nil r past) (omega arith)
 
     -- the node at a place of it
-    pub at_first : (r : Place) → slot_id s r.slot ≡ get_elem? (listed r) 0
+    pub at_first : (r : Place) → slot_id s r.slot ≡ slice_get (listed r) 0
     at_first r = sym (head_listed filter side s r) ∙ go (listed r)
       where
-        go : (l : List FullNodeId) → head? l ≡ get_elem? l 0
+        go : (l : List FullNodeId) → head_of l ≡ slice_get l 0
         go [] = refl
         go (x ∷ l) = refl
 
-    pub at_end : (r : Place) (n left : ℕ) → slots_of s ≤ r.slot → n ≡ slots_of s → slot_id s n ≡ get_elem? (listed r) left
-    at_end r n left l q = slot_id_none s n (omega arith) ∙ sym (ap (λ (ys : List FullNodeId). get_elem? ys left) (listed_nil r l))
+    pub at_end : (r : Place) (n left : ℕ) → slots_of s ≤ r.slot → n ≡ slots_of s → slot_id s n ≡ slice_get (listed r) left
+    at_end r n left l q = slot_id_none s n (omega arith) ∙ sym (ap (λ (ys : List FullNodeId). slice_get ys left) (listed_nil r l))
 
     pub at_next : (r next : Place) (left : ℕ) → r.slot < slots_of s → ListsAhead filter side s r.level next f (id_in s r.slot) → 0 < left
-        → get_elem? (listed next) (left - 1) ≡ get_elem? (listed r) left
+        → slice_get (listed next) (left - 1) ≡ slice_get (listed r) left
     at_next r next left l e m =
         let one : left ≡ suc (left - 1) = omega arith in
-        sym (ap (λ (ys : List FullNodeId). get_elem? ys left) (listed_cons r next l e) ∙ ap (get_elem? (id_in s r.slot ∷ listed next)) one)
+        sym (ap (λ (ys : List FullNodeId). slice_get ys left) (listed_cons r next l e) ∙ ap (slice_get (id_in s r.slot ∷ listed next)) one)
 
     -- ## The first child on a side
 
-    child_on : (x : FullNodeId) → head? (flat_map (shown filter side f) (turned side (child_ids f x))) ≡ filtered_child_on side filter f x
+    child_on : (x : FullNodeId) → head_of (flat_map (shown filter side f) (turned side (child_ids f x))) ≡ filtered_child_on side filter f x
     unfolding filtered_child_on first_filtered_child last_filtered_child filtered_children turned
     child_on x = go side
       where
-        go : (c : Side) → head? (flat_map (shown filter c f) (turned c (child_ids f x))) ≡ filtered_child_on c filter f x
+        go : (c : Side) → head_of (flat_map (shown filter c f) (turned c (child_ids f x))) ≡ filtered_child_on c filter f x
         go Following = refl
-        go Preceding = ap head? (sym (children_reverse filter f x))
+        go Preceding = ap head_of (sym (children_reverse filter f x))
 
     pub child_found : (r : Place) (x : FullNodeId) → ListsBelow filter side s r f x → slot_id s r.slot ≡ filtered_child_on side filter f x
-    child_found r x e = sym (head_listed filter side s r) ∙ ap head? (sym e) ∙ child_on x
+    child_found r x e = sym (head_listed filter side s r) ∙ ap head_of (sym e) ∙ child_on x
 
     -- ## The deepest child on a side
 
@@ -155,11 +155,11 @@ module _ (side : Side) (s : List ℕ) (h : Sound s) where
         go Following = refl
         go Preceding = refl
 
-    deepest_after : (x y : FullNodeId) → present f.nodes x ≡ true → child_of x ≡ some y → deepest_on side filter f x ≡ or_else y (deepest_on side filter f y)
+    deepest_after : (x y : FullNodeId) → present f.nodes x ≡ true → child_of x ≡ Some y → deepest_on side filter f x ≡ or_else y (deepest_on side filter f y)
     deepest_after x y there e =
         deepest_by x ∙ deepest_step f (slot_shape s h) child_of child_deepens x y there e ∙ ap (or_else y) (sym (deepest_by y))
 
-    deepest_last : (x : FullNodeId) → child_of x ≡ none → deepest_on side filter f x ≡ none
+    deepest_last : (x : FullNodeId) → child_of x ≡ None → deepest_on side filter f x ≡ None
     deepest_last x e = deepest_by x ∙ deepest_none f (slot_shape s h) child_of child_deepens x e
 
     -- the deepest from x is the node in slot d, or the deepest from there
@@ -184,8 +184,8 @@ module _ (side : Side) (s : List ℕ) (h : Sound s) where
           ∙ go (deepest_on side filter f (id_in s next))
         where
           go : (o : Option FullNodeId) → or_else (id_in s d) (or_else (id_in s next) o) ≡ or_else (id_in s next) o
-          go none = refl
-          go (some y) = refl
+          go None = refl
+          go (Some y) = refl
 
       -- it is deeper
       pub deepest_less : next < slots_of s → length f.nodes - length (ancestors f (id_in s next)) < length f.nodes - length (ancestors f (id_in s d))
@@ -199,7 +199,7 @@ module _ (side : Side) (s : List ℕ) (h : Sound s) where
     -- ## Filtered siblings
 
     module _ (x : FullNodeId) where
-      orphan : filtered_parent filter f x ≡ none → filtered_siblings filter side f x ≡ []
+      orphan : filtered_parent filter f x ≡ None → filtered_siblings filter side f x ≡ []
       unfolding filtered_siblings has_filtered_siblings
       orphan e = rw (e, has_filtered_siblings) refl
 
@@ -211,11 +211,11 @@ module _ (side : Side) (s : List ℕ) (h : Sound s) where
           go true = rw (climbed_ahead filter side f x, ← l, e) refl
           go false = refl
 
-      childless : (p : FullNodeId) → filtered_parent filter f x ≡ some p → first_filtered_child filter f p ≡ none → filtered_siblings filter side f x ≡ []
+      childless : (p : FullNodeId) → filtered_parent filter f x ≡ Some p → first_filtered_child filter f p ≡ None → filtered_siblings filter side f x ≡ []
       unfolding filtered_siblings has_filtered_siblings first_filtered_child
       childless p e q = rw (e, has_filtered_siblings, head_none (filtered_children filter f p) q) refl
 
-      parented : (p c : FullNodeId) (level : ℕ) → filtered_parent filter f x ≡ some p → first_filtered_child filter f p ≡ some c
+      parented : (p c : FullNodeId) (level : ℕ) → filtered_parent filter f x ≡ Some p → first_filtered_child filter f p ≡ Some c
           → level ≡ length (leading (is_excluded_node filter) (ancestors f x))
           → filtered_siblings filter side f x ≡ flat_map (shown filter side f) (ahead side f level x)
       unfolding filtered_siblings has_filtered_siblings first_filtered_child
@@ -238,7 +238,7 @@ module _ (side : Side) (s : List ℕ) (h : Sound s) where
       siblings_orphan l past = orphan x (sym parent_is ∙ slot_id_none s p l) ∙ sym (listed_nil r past)
 
       module _ (there : p < slots_of s) (c : ℕ) (first : slot_id s c ≡ filtered_child_on Following filter f (id_in s p)) where
-        parent_at : filtered_parent filter f x ≡ some (id_in s p)
+        parent_at : filtered_parent filter f x ≡ Some (id_in s p)
         parent_at = sym parent_is ∙ slot_id_some s p there
 
         first_is : slot_id s c ≡ first_filtered_child filter f (id_in s p)

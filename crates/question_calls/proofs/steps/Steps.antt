@@ -1,6 +1,8 @@
 -- Each step of a walk, by the slots that it reads. Assumes nothing.
-use mathlib.Core.List.{List, [], ◌∷◌, ◌++◌, head?}
-use mathlib.Core.Option.{none, none-ne-some}
+use mathlib.Core.List.{List, [], ◌∷◌, ◌++◌}
+use Rattle.base.specs.Tests.{head_of}
+use Rattle.std.specs.Prelude.{None}
+use Rattle.std.proofs.lemmas.Option.{none-some}
 use mathlib.Core.Path.{◌≡◌, refl, sym, ap, ◌∙◌}
 use Prim.Native.Nat.{ℕ, suc, ◌-◌, ◌≤◌, ◌<◌}
 use native.Mathlib.Decide.{dec_lt}
@@ -22,9 +24,9 @@ use Rattle.question_calls.specs.Slots.{Sound, slot_id}
 use Rattle.question_calls.proofs.links.Slots.{slot_id_some, slot_id_none, slot_shape, slot_present}
 use Rattle.question_calls.specs.Places.{met_from, one_more}
 
-head_none : {A : Type 0} (xs : List A) → head? xs ≡ none → xs ≡ []
+head_none : {A : Type 0} (xs : List A) → head_of xs ≡ None → xs ≡ []
 head_none [] e = refl
-head_none (x ∷ xs) e = absurd (none-ne-some x (sym e))
+head_none (x ∷ xs) e = absurd (none-some x (sym e))
 
 module _ (side : Side) (s : List ℕ) where
   -- a walk at a slot, and at its end
@@ -38,17 +40,17 @@ module _ (side : Side) (s : List ℕ) where
 
   module _ (sound : Sound s) (i level : ℕ) (there : i < slots_of s) (next : ℕ) where
     -- aside to the next sibling
-    pub step_aside : slot_id s next ≡ head? (siblings side (view s).forest (id_in s i)) → next < slots_of s
+    pub step_aside : slot_id s next ≡ head_of (siblings side (view s).forest (id_in s i)) → next < slots_of s
         → met_from side s (record { slot = next; level = level }) ≡ ahead side (view s).forest level (id_in s i)
     step_aside e h =
         let y = id_in s next in
         met_at next level h ∙ sym (ahead_aside side (view s).forest (slot_shape s sound) level (id_in s i) y (sym e ∙ slot_id_some s next h)).rest
 
-    no_sibling : slot_id s next ≡ head? (siblings side (view s).forest (id_in s i)) → slots_of s ≤ next → siblings side (view s).forest (id_in s i) ≡ []
+    no_sibling : slot_id s next ≡ head_of (siblings side (view s).forest (id_in s i)) → slots_of s ≤ next → siblings side (view s).forest (id_in s i) ≡ []
     no_sibling e h = head_none _ (sym e ∙ slot_id_none s next h)
 
     -- the end, where no level is left
-    pub step_end : slot_id s next ≡ head? (siblings side (view s).forest (id_in s i)) → slots_of s ≤ next → level ≡ 0
+    pub step_end : slot_id s next ≡ head_of (siblings side (view s).forest (id_in s i)) → slots_of s ≤ next → level ≡ 0
         → [] ≡ ahead side (view s).forest level (id_in s i)
     step_end e h z = sym (ap (λ (k : ℕ). ahead side (view s).forest k (id_in s i)) z ∙ ahead_end side (view s).forest (slot_shape s sound) (id_in s i) (no_sibling e h))
 
@@ -59,7 +61,7 @@ module _ (side : Side) (s : List ℕ) where
           sym (ahead_top side (view s).forest (slot_shape s sound) level (id_in s i) (parentless_link _ (id_in s i) (sym up ∙ slot_id_none s parent h)))
 
       -- up to the parent
-      pub step_up : slot_id s next ≡ head? (siblings side (view s).forest (id_in s i)) → slots_of s ≤ next → 0 < level → parent < slots_of s
+      pub step_up : slot_id s next ≡ head_of (siblings side (view s).forest (id_in s i)) → slots_of s ≤ next → 0 < level → parent < slots_of s
           → ahead side (view s).forest (level - 1) (id_in s parent) ≡ ahead side (view s).forest level (id_in s i)
       step_up e h l k =
           let z = parent_link _ (id_in s i) (id_in s parent) (sym up ∙ slot_id_some s parent k) in
@@ -85,7 +87,7 @@ module _ (side : Side) (s : List ℕ) where
             rw (le-ltb level 320 past, take_all level _ enough, take_all (suc level) _ more) refl
 
     -- down to the first child on this side
-    pub step_into : slot_id s next ≡ head? (turned side (child_ids (view s).forest (id_in s i))) → next < slots_of s
+    pub step_into : slot_id s next ≡ head_of (turned side (child_ids (view s).forest (id_in s i))) → next < slots_of s
         → met_from side s (record { slot = next; level = one_more level })
         ≡ turned side (child_ids (view s).forest (id_in s i)) ++ ahead side (view s).forest level (id_in s i)
     step_into e h =
@@ -94,7 +96,7 @@ module _ (side : Side) (s : List ℕ) where
         ∙ sym (ahead_into side (view s).forest (slot_shape s sound) level (id_in s i) (id_in s next) (slot_present s sound i there) (sym e ∙ slot_id_some s next h)).rest
 
     -- or on, where there is none
-    pub step_childless : slot_id s next ≡ head? (turned side (child_ids (view s).forest (id_in s i))) → slots_of s ≤ next
+    pub step_childless : slot_id s next ≡ head_of (turned side (child_ids (view s).forest (id_in s i))) → slots_of s ≤ next
         → ahead side (view s).forest level (id_in s i) ≡ turned side (child_ids (view s).forest (id_in s i)) ++ ahead side (view s).forest level (id_in s i)
     step_childless e h =
         let childless : turned side (child_ids (view s).forest (id_in s i)) ≡ [] = head_none _ (sym e ∙ slot_id_none s next h) in

@@ -1,28 +1,25 @@
 -- Laws of one call of a kept walk. Assumes nothing.
 use mathlib.Core.Bool.{Bool, true, false, not}
 use mathlib.Core.List.{List, [], ◌∷◌}
-use mathlib.Core.Option.{Option, none, some}
 use mathlib.Core.Path.{◌≡◌, refl, sym, ap, ◌∙◌}
 use Prim.Native.Nat.{ℕ, zero, suc, ◌+◌, ◌≤◌, ◌<◌}
 use native.Mathlib.Numerals.{add-one}
 use native.Mathlib.Omega.{arith}
-use lib.Dec.{eqb, ltb}
-use lib.ListN.{length, get_elem?}
-use borrow.Author.Tests.{lt-ltb, ltb-false}
-use Rattle.std.specs.Prelude.{if◌then◌else◌}
+use lib.Dec.{ltb}
+use lib.ListN.{length}
+use borrow.Author.Tests.{lt-ltb, le-ltb}
+use Rattle.std.specs.Prelude.{Option, None, Some, Result, Ok, Err, IsErrAnd, slice_get}
 use Rattle.base.specs.Tests.{◌and◌, is_some}
 use Rattle.base.specs.Tables.{row, first}
+use Rattle.base.proofs.Tables.{first_append}
 use Rattle.ids.specs.declared.FullNodeId.{FullNodeId}
 use Rattle.state.specs.State.{Forest, State, present}
 use Rattle.state.specs.Sound.{sound}
 use Rattle.state_array.specs.View.{id_in, slots_of, view}
-use Rattle.state_focus.specs.declared.FoundNode.{FoundNode}
-use Rattle.state_focus.specs.declared.FoundNode.TheVariants as found
-use Rattle.state_focus.specs.Focus.{found_of}
 use Rattle.questions.specs.declared.Side.{Side}
 use Rattle.questions.specs.declared.Filter.{Filter}
 use Rattle.questions.specs.declared.Walk.{Walk}
-use Rattle.questions.specs.Answers.{ask_number, after}
+use Rattle.questions.specs.Answers.{ask_number, state_number, after}
 use Rattle.questions.specs.Filters.{Seen, seen, filter_of}
 use Rattle.questions.specs.Links.{siblings}
 use Rattle.questions.specs.Walks.{filtered_siblings}
@@ -30,11 +27,15 @@ use Rattle.questions.specs.Kept.{side_of, filter_choice, sibling_list, walk_list
 use Rattle.questions.proofs.Answers.{after_refused}
 use Rattle.questions.proofs.Few.{siblings_few, filtered_few}
 use Rattle.questions.proofs.Places.{take_more, place_out}
-use Rattle.node_answers.specs.Answers.{found_node}
+use Rattle.node_answers.specs.declared.Refusal.{Refusal}
+use Rattle.node_answers.specs.declared.Refusal.TheVariants.{NotOurs}
+use Rattle.node_answers.specs.Answers.{refusal_number, answer}
+use Rattle.node_answers.proofs.Answers.{refusal_not_0, answer_refused}
+use Rattle.question_calls.specs.Asks.{Asks}
 use Rattle.question_calls.specs.Slots.{Sound, slot_id}
 use Rattle.question_calls.proofs.links.Slots.{slot_id_some, slot_id_none, slot_shape, slot_present}
 use Rattle.question_calls.proofs.lists.Lists.{few_nodes}
-use Rattle.question_calls.specs.Walk.{stepped_of, handed_out, number_for, Ours, FindsAt}
+use Rattle.question_calls.specs.Walk.{stepped_of, handed_out, AsksWalk, FindsAt}
 
 -- ## The numbers of a walk
 
@@ -53,46 +54,59 @@ filter_ours (suc (suc zero)) = refl
 filter_ours (suc (suc (suc zero))) = refl
 filter_ours (suc (suc (suc (suc n)))) = ap not (sym (lt-ltb 3 (suc (suc (suc (suc n)))) (omega arith)))
 
--- 2 stands between 1 and 22
-pub number_walk : (v : Forest) (w : Walk) → number_for (ask_number v w.node) w.side w.filter ≡ walk_number v w
-unfolding number_for ask_number walk_number first ◌and◌
-number_walk v w =
-    go (sound v) (present v.nodes w.node) (ltb 1 w.side) (ltb 3 w.filter) (is_some (side_of w.side)) (is_some (filter_choice w.filter))
-    (side_ours w.side) (filter_ours w.filter)
-  where
-    go : (a b c d s f : Bool) → s ≡ not c → f ≡ not d
-        → (if eqb (first (row 1 (not a) ∷ row 22 (not b) ∷ [])) 1 then 1 else if c then 2 else if d then 2 else first (row 1 (not a) ∷ row 22 (not b) ∷ []))
-        ≡ first (row 1 (not a) ∷ row 2 (not (s and f)) ∷ row 22 (not b) ∷ [])
-    go false b c d s f p q = refl
-    go true true true d s f p q = rw p refl
-    go true true false true s f p q = rw (p, q) refl
-    go true true false false s f p q = rw (p, q) refl
-    go true false true d s f p q = rw p refl
-    go true false false true s f p q = rw (p, q) refl
-    go true false false false s f p q = rw (p, q) refl
+module _ (v : Forest) (w : Walk) where
+  -- 1 comes first
+  walk_unsound : (r : Refusal) → refusal_number r ≡ state_number v → refusal_number r ≡ walk_number v w
+  unfolding state_number walk_number
+  walk_unsound r e = e ∙ sym (first_append (row 1 (not (sound v)) ∷ []) _ (λ z. refusal_not_0 r (e ∙ z)))
 
--- a walk with the number 0 has numbers of ours
-pub numbers_ours : (asked side filter : ℕ) → number_for asked side filter ≡ 0 → (asked ≡ 0) × Ours side filter
-unfolding number_for
-numbers_ours asked side filter e = go (eqb asked 1) (ltb 1 side) refl (ltb 3 filter) refl e
-  where
-    go : (a b : Bool) → ltb 1 side ≡ b → (c : Bool) → ltb 3 filter ≡ c → (if a then 1 else if b then 2 else if c then 2 else asked) ≡ 0 → (asked ≡ 0) × Ours side filter
-    go true b p c q e = absurd (omega arith)
-    go false true p c q e = absurd (omega arith)
-    go false false p true q e = absurd (omega arith)
-    go false false p false q e = (
-      e,
-      record { a_side = omega (arith, ltb-false 1 side p); a_filter = omega (arith, ltb-false 3 filter q) },
-    )
+  module _ (e : sound v ≡ true) where
+    -- then 2
+    not_our_side : 1 < w.side → 2 ≡ walk_number v w
+    unfolding walk_number first ◌and◌
+    not_our_side l = rw (e, side_ours w.side, lt-ltb 1 w.side l) refl
+
+    not_our_filter : 3 < w.filter → 2 ≡ walk_number v w
+    unfolding walk_number first ◌and◌
+    not_our_filter l = rw (e, filter_ours w.filter, lt-ltb 3 w.filter l) (go (is_some (side_of w.side)))
+      where
+        go : (b : Bool) → 2 ≡ first (row 1 false ∷ row 2 (not (b and false)) ∷ row 22 (not (present v.nodes w.node)) ∷ [])
+        go true = refl
+        go false = refl
+
+    -- then 22
+    number_walk : w.side ≤ 1 → w.filter ≤ 3 → ask_number v w.node ≡ walk_number v w
+    unfolding ask_number walk_number first ◌and◌
+    number_walk l k = rw (e, side_ours w.side, le-ltb 1 w.side l, filter_ours w.filter, le-ltb 3 w.filter k) refl
+
+module _ (s : List ℕ) (w : Walk) where
+  pub asks_walk_unsound : (result : Result ℕ Refusal) (r : Refusal) → IsErrAnd result (λ d. d ≡ r) → refusal_number r ≡ state_number (view s).forest → AsksWalk s w result
+  asks_walk_unsound (Ok i) r q e = absurd q
+  asks_walk_unsound (Err d) r q e = record { number_is = walk_unsound _ w d (rw q e); stands = tt; ours = tt }
+
+  module _ (e : Sound s) where
+    pub asks_walk_side : 1 < w.side → AsksWalk s w (Err NotOurs)
+    asks_walk_side l = record { number_is = not_our_side _ w e l; stands = tt; ours = tt }
+
+    pub asks_walk_filter : 3 < w.filter → AsksWalk s w (Err NotOurs)
+    asks_walk_filter l = record { number_is = not_our_filter _ w e l; stands = tt; ours = tt }
+
+    pub asks_walk : w.side ≤ 1 → w.filter ≤ 3 → (r : Result ℕ Refusal) → Asks s w.node r → AsksWalk s w r
+    asks_walk l k (Ok i) a = record {
+      number_is = a.number_is ∙ number_walk _ w e l k;
+      stands = a.stands;
+      ours = record { a_side = omega arith; a_filter = omega arith };
+    }
+    asks_walk l k (Err r) a = record { number_is = a.number_is ∙ number_walk _ w e l k; stands = tt; ours = tt }
 
 -- ## The list of a walk
 
-module _ (v : Seen) (w : Walk) (side : Side) (on : side_of w.side ≡ some side) where
+module _ (v : Seen) (w : Walk) (side : Side) (on : side_of w.side ≡ Some side) where
   pub list_plain : w.filter ≡ 0 → walk_list v w ≡ siblings side v.forest w.node
   unfolding walk_list filter_choice sibling_list
   list_plain e = rw (on, walk_list, ap filter_choice e) refl
 
-  pub list_filtered : (filter : Filter) → filter_choice w.filter ≡ some (some filter) → walk_list v w ≡ filtered_siblings (filter_of filter v) side v.forest w.node
+  pub list_filtered : (filter : Filter) → filter_choice w.filter ≡ Some (Some filter) → walk_list v w ≡ filtered_siblings (filter_of filter v) side v.forest w.node
   unfolding walk_list sibling_list
   list_filtered filter e = rw (on, walk_list, e) refl
 
@@ -110,78 +124,74 @@ walk_few s h i there w e = go (side_of w.side) (filter_choice w.filter)
 
     go : (o : Option Side) (c : Option (Option Filter))
         → length {A = FullNodeId} (elim o as (λ _. List FullNodeId) [
-          | none ↦ []
-          | some side ↦ elim c [ none ↦ [] | some choice ↦ sibling_list (seen (view s)) w.node side choice ]
+          | None ↦ []
+          | Some side ↦ elim c [ None ↦ [] | Some choice ↦ sibling_list (seen (view s)) w.node side choice ]
         ]) ≤ 256
-    go none c = omega arith
-    go (some side) none = omega arith
-    go (some side) (some none) = plain side
-    go (some side) (some (some filter)) = under side filter
+    go None c = omega arith
+    go (Some side) None = omega arith
+    go (Some side) (Some None) = plain side
+    go (Some side) (Some (Some filter)) = under side filter
 
 -- ## One call
 
 module _ (v : State) (w : Walk) where
   -- a call that is refused
-  pub step_refused : (n : ℕ) → n ≡ walk_number v.forest w → (n ≡ 0 → ⊥) → handed_out w w.count n found.Nothing ≡ stepped_of (next_of v w)
-  unfolding stepped_of next_of stepped found_node
-  step_refused n e h = rw (← e, after_refused none (get_elem? (walk_list (seen v) w) w.count) n h) refl
+  pub step_refused : (r : Refusal) → refusal_number r ≡ walk_number v.forest w → handed_out w w.count (Err r) ≡ stepped_of (next_of v w)
+  unfolding stepped_of next_of stepped
+  step_refused r e =
+      rw (← e, after_refused None (slice_get (walk_list (seen v) w) w.count) (refusal_number r) (refusal_not_0 r), answer_refused {A = Option FullNodeId} None r refl) refl
 
-  module _ (z : walk_number v.forest w ≡ 0) (r : FoundNode) (e : found_of r ≡ get_elem? (walk_list (seen v) w) w.count) where
-    by_place : (o : Option FullNodeId) → found_of r ≡ o → next_of v w ≡ stepped 0 w o
+  module _ (z : walk_number v.forest w ≡ 0) (r : Option FullNodeId) (e : r ≡ slice_get (walk_list (seen v) w) w.count) where
+    by_place : (o : Option FullNodeId) → r ≡ o → next_of v w ≡ stepped 0 w o
     unfolding next_of after
     by_place o q = rw (z, sym e ∙ q) refl
 
     -- the end
-    pub step_end : r ≡ found.Nothing → handed_out w w.count 0 r ≡ stepped_of (next_of v w)
-    unfolding stepped_of stepped found_node found_of
-    step_end q = rw (by_place none (ap found_of q), q) refl
+    pub step_end : r ≡ None → handed_out w w.count (Ok None) ≡ stepped_of (next_of v w)
+    unfolding stepped_of stepped answer
+    step_end q = rw (by_place None q) refl
 
     -- the next sibling
-    pub step_found : (x : FullNodeId) (count : ℕ) → r ≡ found.At x → count ≡ w.count + 1 → handed_out w count 0 r ≡ stepped_of (next_of v w)
-    unfolding stepped_of stepped found_node found_of
-    step_found x count q k = rw (by_place (some x) (ap found_of q), q, k, add-one w.count) refl
+    pub step_found : (x : FullNodeId) (count : ℕ) → r ≡ Some x → count ≡ w.count + 1 → handed_out w count (Ok r) ≡ stepped_of (next_of v w)
+    unfolding stepped_of stepped answer
+    step_found x count q k = rw (by_place (Some x) q, q, k, add-one w.count) refl
 
     -- there the count is a small number
-    pub step_room : (x : FullNodeId) → length (walk_list (seen v) w) ≤ 256 → r ≡ found.At x → w.count < 256
-    unfolding found_of
-    step_room x few q = omega (arith, few, (take_more (walk_list (seen v) w) w.count x (sym e ∙ ap found_of q)).1)
+    pub step_room : (x : FullNodeId) → length (walk_list (seen v) w) ≤ 256 → r ≡ Some x → w.count < 256
+    step_room x few q = omega (arith, few, (take_more (walk_list (seen v) w) w.count x (sym e ∙ q)).1)
 
 -- the walk about the node in its slot
-pub finds_asked : (s : List ℕ) (i : ℕ) (w : Walk) (r : FoundNode) → id_in s i ≡ w.node → FindsAt s i w.side w.filter w.count r
-    → found_of r ≡ get_elem? (walk_list (seen (view s)) w) w.count
+pub finds_asked : (s : List ℕ) (i : ℕ) (w : Walk) (r : Option FullNodeId) → id_in s i ≡ w.node → FindsAt s i w.side w.filter w.count r
+    → r ≡ slice_get (walk_list (seen (view s)) w) w.count
 finds_asked s i w r e q =
-    q ∙ ap (λ (x : FullNodeId). get_elem? (walk_list (seen (view s)) (record { node = x; side = w.side; filter = w.filter; count = w.count })) w.count) e
+    q ∙ ap (λ (x : FullNodeId). slice_get (walk_list (seen (view s)) (record { node = x; side = w.side; filter = w.filter; count = w.count })) w.count) e
 
 -- ## The node in a slot, the sibling at a place
 
-pub slot_nothing : (s : List ℕ) (k n : ℕ) (o : Option FullNodeId) → n ≡ slots_of s → n ≤ k → slot_id s k ≡ o → found_of found.Nothing ≡ o
-unfolding found_of
+pub slot_nothing : (s : List ℕ) (k n : ℕ) (o : Option FullNodeId) → n ≡ slots_of s → n ≤ k → slot_id s k ≡ o → None ≡ o
 slot_nothing s k n o e h q = sym (slot_id_none s k (omega arith)) ∙ q
 
-pub slot_found : (s : List ℕ) (k n : ℕ) (x : FullNodeId) (o : Option FullNodeId) → n ≡ slots_of s → k < n → x ≡ id_in s k → slot_id s k ≡ o → found_of (found.At x) ≡ o
-unfolding found_of
-slot_found s k n x o e h p q = ap some p ∙ sym (slot_id_some s k (omega arith)) ∙ q
+pub slot_found : (s : List ℕ) (k n : ℕ) (x : FullNodeId) (o : Option FullNodeId) → n ≡ slots_of s → k < n → x ≡ id_in s k → slot_id s k ≡ o → Some x ≡ o
+slot_found s k n x o e h p q = ap Some p ∙ sym (slot_id_some s k (omega arith)) ∙ q
 
-pub place_nothing : (xs : List FullNodeId) (k : ℕ) → length xs ≤ k → found_of found.Nothing ≡ get_elem? xs k
-unfolding found_of
+pub place_nothing : (xs : List FullNodeId) (k : ℕ) → length xs ≤ k → None ≡ slice_get xs k
 place_nothing xs k h = sym (place_out xs k h)
 
-pub place_found : (xs : List FullNodeId) (k : ℕ) (x y : FullNodeId) → x ≡ y → get_elem? xs k ≡ some y → found_of (found.At x) ≡ get_elem? xs k
-unfolding found_of
-place_found xs k x y e q = ap some e ∙ sym q
+pub place_found : (xs : List FullNodeId) (k : ℕ) (x y : FullNodeId) → x ≡ y → slice_get xs k ≡ Some y → Some x ≡ slice_get xs k
+place_found xs k x y e q = ap Some e ∙ sym q
 
 -- a place of the list that starts at r
-pub listed_place : (s : List ℕ) (k : ℕ) (xs ys : List FullNodeId) (count : ℕ) → slot_id s k ≡ get_elem? ys count → xs ≡ ys → slot_id s k ≡ get_elem? xs count
-listed_place s k xs ys count e q = e ∙ ap (λ (l : List FullNodeId). get_elem? l count) (sym q)
+pub listed_place : (s : List ℕ) (k : ℕ) (xs ys : List FullNodeId) (count : ℕ) → slot_id s k ≡ slice_get ys count → xs ≡ ys → slot_id s k ≡ slice_get xs count
+listed_place s k xs ys count e q = e ∙ ap (λ (l : List FullNodeId). slice_get l count) (sym q)
 
 -- the list that the numbers mean
-module _ (s : List ℕ) (i side filter count : ℕ) (r : FoundNode) (on : Side) (e : side_of side ≡ some on) where
+module _ (s : List ℕ) (i side filter count : ℕ) (r : Option FullNodeId) (on : Side) (e : side_of side ≡ Some on) where
   abbrev walk : Walk
   walk = record { node = id_in s i; side = side; filter = filter; count = count }
 
-  pub finds_plain : filter ≡ 0 → found_of r ≡ get_elem? (siblings on (view s).forest (id_in s i)) count → FindsAt s i side filter count r
-  finds_plain z q = q ∙ ap (λ (l : List FullNodeId). get_elem? l count) (sym (list_plain (seen (view s)) walk on e z))
+  pub finds_plain : filter ≡ 0 → r ≡ slice_get (siblings on (view s).forest (id_in s i)) count → FindsAt s i side filter count r
+  finds_plain z q = q ∙ ap (λ (l : List FullNodeId). slice_get l count) (sym (list_plain (seen (view s)) walk on e z))
 
-  pub finds_filtered : (under : Filter) → filter_choice filter ≡ some (some under)
-      → found_of r ≡ get_elem? (filtered_siblings (filter_of under (seen (view s))) on (view s).forest (id_in s i)) count → FindsAt s i side filter count r
-  finds_filtered under c q = q ∙ ap (λ (l : List FullNodeId). get_elem? l count) (sym (list_filtered (seen (view s)) walk on e under c))
+  pub finds_filtered : (under : Filter) → filter_choice filter ≡ Some (Some under)
+      → r ≡ slice_get (filtered_siblings (filter_of under (seen (view s))) on (view s).forest (id_in s i)) count → FindsAt s i side filter count r
+  finds_filtered under c q = q ∙ ap (λ (l : List FullNodeId). slice_get l count) (sym (list_filtered (seen (view s)) walk on e under c))

@@ -1,10 +1,7 @@
 -- `reasons_shape::disorder` meets its contract: each id passed comes before all that follow. Assumes nothing.
-use Rattle.reasons_shape.proofs.Slots.{ascending_start, ascending_more, ascending_fails, ascending_end}
+use Rattle.reasons_shape.proofs.Slots.{ascending_more, ascending_fails, ascending_end}
 use borrow.Author.Rules.{rules}
 use Rattle.reasons_shape.proofs.disorder.Goals as goal
-
-pub loop-i-init : goal.loop-i-init
-loop-i-init c = search (rules, ascending_start)
 
 pub returns-then-not-is_first_after : goal.returns-then-not-is_first_after
 returns-then-not-is_first_after c = search (rules, ascending_fails)

@@ -1,10 +1,7 @@
 -- `reasons_shape::fields` meets its contract: the fields of each node passed obey the rules. Assumes nothing.
-use Rattle.reasons_shape.proofs.Slots.{seeking_start, seeking_more, spot_kept, spot_broken, fields_at, field_says}
+use Rattle.reasons_shape.proofs.Slots.{seeking_more, spot_kept, spot_broken, fields_at, field_says}
 use borrow.Author.Rules.{rules}
 use Rattle.reasons_shape.proofs.fields.Goals as goal
-
-pub loop-i-init : goal.loop-i-init
-loop-i-init c = search (rules, seeking_start)
 
 pub returns-then-not-fields_ok_at : goal.returns-then-not-fields_ok_at
 returns-then-not-fields_ok_at c = search (rules, spot_broken, fields_at, field_says)

@@ -1,5 +1,4 @@
 -- `reasons_shape::fields` meets its contract: the fields of each node passed obey the rules. Assumes nothing.
-use Prim.Native.Nat.{◌-◌}
 use Rattle.reasons_shape.proofs.Slots.{Seeking}
 use Rattle.record.specs.Batch.{fields_ok}
 use mathlib.Core.Bool.{not}
@@ -7,6 +6,3 @@ use Rattle.reasons_shape.proofs.fields.Given as goal
 
 abbrev pub invariant-loop-i : goal.invariant-loop-i
 invariant-loop-i l = Seeking l.state (λ n. not (fields_ok n.body)) l.i
-
-abbrev pub decreases-loop-i : goal.decreases-loop-i
-decreases-loop-i l = l.n - l.i

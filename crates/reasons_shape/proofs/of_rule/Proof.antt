@@ -1,11 +1,9 @@
 -- `reasons_shape::of_rule` meets its contract: a node's reason without nodes. Assumes nothing.
-use Rattle.reasons_why.specs.Why.{found}
 use borrow.Author.Rules.{rules}
 use Rattle.reasons_shape.proofs.of_rule.Statement.{statement}
 use Rattle.reasons_shape.proofs.of_rule.Tie as tie
 
 pub of_rule_spec : {M : Type 1} → statement M
-unfolding found
 of_rule_spec =
     tie.close
     (tie.spec

@@ -1,4 +1,5 @@
 -- Looking for an id one step below a node, place by place: a law for each way on and out. Assumes nothing.
+use Rattle.std.specs.Prelude.{Option, None, Some}
 use mathlib.Core.Bool.{Bool, true, false}
 use mathlib.Core.List.{List, []}
 use mathlib.Core.Path.{◌≡◌, refl, sym, ap, ◌∙◌}
@@ -15,8 +16,6 @@ use Rattle.reasons.specs.Shape.{ids_below}
 use Rattle.state.specs.Down.{met_under}
 use Rattle.state_array.specs.View.{id_in, shape_in, slots_of}
 use Rattle.state_rules.specs.Parts.{below_in, KidSays}
-use Rattle.state_rules.specs.declared.Kid.{Kid}
-use Rattle.state_rules.specs.declared.Kid.TheVariants as kid
 use Rattle.state_rules.proofs.Kids.{kid_past, kid_end}
 use Rattle.reasons_shape.specs.Reached.{Few, below_at}
 
@@ -40,12 +39,12 @@ module _ {s : List ℕ} {x : FullNodeId} {p j : ℕ} (g : Looking s x p j) where
   looking_end few l h b = let e : j ≡ 256 = omega arith in rw (e, below_end s p few l) at g.rest
 
   -- what is met at the next place
-  module _ {k : Kid} (says : KidSays (below_in s p) j (id_in s p) k) where
-    pub looking_none : k ≡ kid.Nothing → false ≡ below_at s x p
+  module _ {k : Option FullNodeId} (says : KidSays (below_in s p) j (id_in s p) k) where
+    pub looking_none : k ≡ None → false ≡ below_at s x p
     unfolding KidSays
     looking_none q = sym (ap (any (λ m. same_id x m.id)) (rw q at says)) ∙ g.rest
 
-    module _ {y : FullNodeId} (q : k ≡ kid.At y) {r : Bool} (test : r ≡ same_id x y) where
+    module _ {y : FullNodeId} (q : k ≡ Some y) {r : Bool} (test : r ≡ same_id x y) where
       pub looking_hit : r ≡ true → true ≡ below_at s x p
       unfolding KidSays met_under
       looking_hit t = let same : same_id x y ≡ true = sym test ∙ t in rw (rw q at says, same) at g.rest

@@ -8,7 +8,7 @@ use lib.Dec.{eqb}
 use lib.ListN.{length, get_or, set, replicate, length-set, length-replicate, get_or-replicate}
 use lib.Seq.{get_or-set_same, get_or-set_other}
 use borrow.Author.Tests.{eq-eqb, ne_eqb, eqb-true}
-use Rattle.std.specs.Prelude.{if◌then◌else◌}
+use Rattle.std.specs.Prelude.{if◌then◌else◌, Option, None, Some}
 use Rattle.base.specs.Tests.{◌and◌, any, has}
 use Rattle.base.specs.Bytes.{all_below}
 use Rattle.base.proofs.Cases.{by_test, by_last}
@@ -21,31 +21,26 @@ use Rattle.ids.proofs.Ids.{same_id→≡, same_id_refl}
 use Rattle.ids.specs.declared.FullNodeId.{FullNodeId}
 use Rattle.reasons.specs.Shape.{ids_below, wider, widened, reached}
 use Rattle.state.specs.State.{Forest, NodeState, ids_of, subtree_of}
+use Rattle.state.specs.declared.SubtreeState.{SubtreeState}
 use Rattle.state.specs.Down.{root_of}
 use Rattle.state_array.specs.View.{id_in, node_in, slots_of, view}
 use Rattle.state_array.proofs.View.{view_ids}
-use Rattle.state_lookup.specs.declared.Ends.{Ends}
-use Rattle.state_lookup.specs.declared.FoundTree.{FoundTree}
-use Rattle.state_lookup.specs.declared.FoundTree.TheVariants as tree
-use Rattle.state_lookup.specs.Lookup.{ends_of}
 use Rattle.reasons_shape.specs.Reached.{reached_in, Marks, Marked, below_at, leads_to, none_leads, next_mark, root_mark}
 
 -- ## Storing
 
 -- of n marks the first i are stored
 pub record Storing (n : ℕ) (mark : ℕ → ℕ) (marks : List ℕ) (i : ℕ) : Type 0 where
-  pub within : i ≤ n
   pub room : n ≤ 320
   pub long : length marks ≡ 320
   pub each : (k : ℕ) → k < i → get_or marks k 0 ≡ mark k
 
 pub storing_start : {n : ℕ} {mark : ℕ → ℕ} → n ≤ 320 → Storing n mark (replicate 320 0) 0
-storing_start h = record { within = omega arith; room = h; long = length-replicate {A = ℕ} 320 0; each = λ k l. absurd (omega arith) }
+storing_start h = record { room = h; long = length-replicate {A = ℕ} 320 0; each = λ k l. absurd (omega arith) }
 
 module _ {n : ℕ} {mark : ℕ → ℕ} {marks : List ℕ} {i : ℕ} (g : Storing n mark marks i) where
   pub storing_more : {v : ℕ} → i < n → v ≡ mark i → Storing n mark (set marks i v) (i + 1)
   storing_more {v} h e = record {
-    within = omega arith;
     room = g.room;
     long = length-set marks i v ∙ g.long;
     each = λ k l. by_last k i l (λ q. rw q (get_or-set_same marks i v 0 (omega (arith, g.long, g.room)) ∙ e))
@@ -191,26 +186,24 @@ module _ {s : List ℕ} {xs : List FullNodeId} {marks : List ℕ} (g : Spread s 
 
 -- after k steps of n
 pub record Reaching (s : List ℕ) (n k : ℕ) (marks : List ℕ) : Type 0 where
-  pub within : k ≤ n
   pub slots : n ≡ slots_of s
   pub rest : (xs : List FullNodeId) × Spread s xs marks × (widened (n - k) (view s).forest xs ≡ reached_in s)
 
 -- without ROOT none is reached
-module _ (s : List ℕ) {o : FoundTree} (ends : ends_of o ≡ subtree_of (view s).forest ROOT) where
-  pub reached_none : o ≡ tree.Nothing → Marked s (reached_in s) (replicate 320 0)
-  unfolding reached root_of ends_of
-  reached_none q = rw (sym ends ∙ ap ends_of q, reached, root_of) (record {
+module _ (s : List ℕ) {o : Option SubtreeState} (ends : o ≡ subtree_of (view s).forest ROOT) where
+  pub reached_none : o ≡ None → Marked s (reached_in s) (replicate 320 0)
+  unfolding reached root_of
+  reached_none q = rw (sym ends ∙ q, reached, root_of) (record {
     long = length-replicate {A = ℕ} 320 0;
     says = λ i l. ap (λ z. not (eqb z 0)) (get_or-replicate {A = ℕ} 320 i 0 0 (omega arith));
   })
 
-  pub reaching_start : {e : Ends} → o ≡ tree.At e → {n : ℕ} → n ≡ slots_of s → {marks : List ℕ} → Marks (slots_of s) (root_mark s e.root) marks
+  pub reaching_start : {e : SubtreeState} → o ≡ Some e → {n : ℕ} → n ≡ slots_of s → {marks : List ℕ} → Marks (slots_of s) (root_mark s e.root) marks
       → Reaching s n 0 marks
-  unfolding reached root_of ends_of view
+  unfolding reached root_of view
   reaching_start {e} q {n} slots m = let whole : n - 0 ≡ n = omega arith in record {
-    within = omega arith;
     slots = slots;
-    rest = (e.root ∷ [], spread_root m, rw (whole, slots, sym ends ∙ ap ends_of q, reached, root_of, length_list_of (slots_of s) (node_in s)));
+    rest = (e.root ∷ [], spread_root m, rw (whole, slots, sym ends ∙ q, reached, root_of, length_list_of (slots_of s) (node_in s)));
   }
 
 module _ {s : List ℕ} {n k : ℕ} {marks : List ℕ} (g : Reaching s n k marks) where
@@ -218,7 +211,7 @@ module _ {s : List ℕ} {n k : ℕ} {marks : List ℕ} (g : Reaching s n k marks
   unfolding widened
   reaching_more h m =
       let left : n - k ≡ suc (n - (k + 1)) = omega arith in
-      record { within = omega arith; slots = g.slots; rest = (wider (view s).forest g.rest.0, spread_more g.rest.1 m, rw left at g.rest.2) }
+      record { slots = g.slots; rest = (wider (view s).forest g.rest.0, spread_more g.rest.1 m, rw left at g.rest.2) }
 
   pub reaching_end : n ≤ k → Marked s (reached_in s) marks
   unfolding widened

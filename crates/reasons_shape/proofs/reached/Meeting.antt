@@ -1,13 +1,12 @@
 -- The links under which a node is met, gathered place by place and node by node. Assumes nothing.
 use mathlib.Core.Bool.{Bool, true, false, not}
 use mathlib.Core.List.{List, [], ◌∷◌, ◌++◌, map, append_assoc, append-nil}
-use mathlib.Core.Option.{Option, none, some}
 use mathlib.Core.Path.{◌≡◌, refl, sym, ap, ◌∙◌}
 use Prim.Native.Nat.{ℕ, ◌+◌, ◌≤◌, ◌<◌}
 use native.Mathlib.Omega.{arith}
 use lib.ListN.{get_or, drop, length-append}
 use borrow.Author.Tests.{eq-eqb, ne_eqb}
-use Rattle.std.specs.Prelude.{if◌then◌else◌}
+use Rattle.std.specs.Prelude.{if◌then◌else◌, Option, None, Some}
 use Rattle.base.specs.Tests.{keep, same_option, has}
 use Rattle.base.specs.Bytes.{list_of}
 use Rattle.base.proofs.Bytes.{list_of_more}
@@ -16,16 +15,11 @@ use Rattle.ids.specs.Ids.{ROOT, same_id}
 use Rattle.ids.specs.declared.FullNodeId.{FullNodeId}
 use Rattle.reasons.specs.Shape.{links_below, links_from, met_links}
 use Rattle.state.specs.State.{ParentAndIndex, NodeState, Forest, subtree_of}
+use Rattle.state.specs.declared.SubtreeState.{SubtreeState}
 use Rattle.state.specs.Down.{Met, met_under, root_of}
 use Rattle.state_array.specs.View.{id_in, node_in, link_of, slots_of, view}
 use Rattle.state_array.specs.declared.LinkRow.{LinkRow}
-use Rattle.state_lookup.specs.declared.Ends.{Ends}
-use Rattle.state_lookup.specs.declared.FoundTree.{FoundTree}
-use Rattle.state_lookup.specs.declared.FoundTree.TheVariants as tree
-use Rattle.state_lookup.specs.Lookup.{ends_of}
 use Rattle.state_rules.specs.Parts.{below_in, KidSays}
-use Rattle.state_rules.specs.declared.Kid.{Kid}
-use Rattle.state_rules.specs.declared.Kid.TheVariants as kid
 use Rattle.reasons_shape.specs.declared.reached.Links.{Links}
 use Rattle.reasons_shape.specs.Reached.{Few, reached_in, Marked, first_link, Tells}
 use Rattle.reasons_shape.proofs.reached.Below.{below_end}
@@ -50,21 +44,21 @@ link_later l (k ∷ ls) r e t = record { count = rw (length-append ls (link_of l
 
 -- the links of the root
 abbrev pub as_root : Forest → FullNodeId → List (Option ParentAndIndex)
-as_root f x = if same_option same_id (root_of f) (some x) then none ∷ [] else []
+as_root f x = if same_option same_id (root_of f) (Some x) then None ∷ [] else []
 
-module _ (s : List ℕ) (x : FullNodeId) {o : FoundTree} (ends : ends_of o ≡ subtree_of (view s).forest ROOT) {r : Links} where
-  pub root_nowhere : o ≡ tree.Nothing → (r.count ≡ 0) × (link_of r.first ≡ none) → Tells (as_root (view s).forest x) r
-  unfolding root_of ends_of first_link
-  root_nowhere q t = rw (sym ends ∙ ap ends_of q, root_of) (record { count = t.0; first = t.1 })
+module _ (s : List ℕ) (x : FullNodeId) {o : Option SubtreeState} (ends : o ≡ subtree_of (view s).forest ROOT) {r : Links} where
+  pub root_nowhere : o ≡ None → (r.count ≡ 0) × (link_of r.first ≡ None) → Tells (as_root (view s).forest x) r
+  unfolding root_of first_link
+  root_nowhere q t = rw (sym ends ∙ q, root_of) (record { count = t.0; first = t.1 })
 
-  module _ {e : Ends} (q : o ≡ tree.At e) {z : Bool} (test : z ≡ same_id e.root x) where
-    pub root_here : z ≡ true → (r.count ≡ 1) × (link_of r.first ≡ none) → Tells (as_root (view s).forest x) r
-    unfolding root_of ends_of first_link
-    root_here h t = rw (sym ends ∙ ap ends_of q, root_of, sym test ∙ h) (record { count = t.0; first = t.1 })
+  module _ {e : SubtreeState} (q : o ≡ Some e) {z : Bool} (test : z ≡ same_id e.root x) where
+    pub root_here : z ≡ true → (r.count ≡ 1) × (link_of r.first ≡ None) → Tells (as_root (view s).forest x) r
+    unfolding root_of first_link
+    root_here h t = rw (sym ends ∙ q, root_of, sym test ∙ h) (record { count = t.0; first = t.1 })
 
-    pub root_other : z ≡ false → (r.count ≡ 0) × (link_of r.first ≡ none) → Tells (as_root (view s).forest x) r
-    unfolding root_of ends_of first_link
-    root_other h t = rw (sym ends ∙ ap ends_of q, root_of, sym test ∙ h) (record { count = t.0; first = t.1 })
+    pub root_other : z ≡ false → (r.count ≡ 0) × (link_of r.first ≡ None) → Tells (as_root (view s).forest x) r
+    unfolding root_of first_link
+    root_other h t = rw (sym ends ∙ q, root_of, sym test ∙ h) (record { count = t.0; first = t.1 })
 
 -- ## Below one node
 
@@ -87,12 +81,12 @@ module _ {s : List ℕ} {x : FullNodeId} {p j : ℕ} {r₀ r : Links} (g : Addin
   adding_end few l h b = let e : j ≡ 256 = omega arith in gathered_end (rw (e, below_end s p few l) at g.all)
 
   -- what is met at the next place
-  module _ {k : Kid} (says : KidSays (below_in s p) j (id_in s p) k) where
-    pub adding_none : k ≡ kid.Nothing → (ls : List (Option ParentAndIndex)) → Tells ls r₀ → Tells (ls ++ links_below (view s).forest x (node_in s p)) r
+  module _ {k : Option FullNodeId} (says : KidSays (below_in s p) j (id_in s p) k) where
+    pub adding_none : k ≡ None → (ls : List (Option ParentAndIndex)) → Tells ls r₀ → Tells (ls ++ links_below (view s).forest x (node_in s p)) r
     unfolding KidSays links_below
     adding_none q = gathered_end (rw (rw q at says) at g.all)
 
-    module _ {y : FullNodeId} (q : k ≡ kid.At y) {t : Bool} (test : t ≡ same_id x y) where
+    module _ {y : FullNodeId} (q : k ≡ Some y) {t : Bool} (test : t ≡ same_id x y) where
       pub adding_other : t ≡ false → Adding s x p r₀ (j + 1) r
       unfolding KidSays met_under
       adding_other h = let differs : same_id x y ≡ false = call_false test h in record { all = rw (rw q at says, differs) at g.all }
@@ -115,28 +109,26 @@ links_more f xs x [] n = append-nil (if has same_id xs n.id then links_below f x
 links_more f xs x (k ∷ ns) n =
     rw (links_more f xs x ns n) (sym (append_assoc (if has same_id xs k.id then links_below f x k else []) (links_from f xs x ns) _))
 
--- the nodes before i, of n, have been gone down from
-pub record Meeting (s : List ℕ) (x : FullNodeId) (n i : ℕ) (r : Links) : Type 0 where
-  pub within : i ≤ n
+-- the nodes before i have been gone down from
+pub record Meeting (s : List ℕ) (x : FullNodeId) (i : ℕ) (r : Links) : Type 0 where
   pub told : Tells (as_root (view s).forest x ++ links_from (view s).forest (reached_in s) x (list_of i (node_in s))) r
 
-pub meeting_start : {s : List ℕ} {x : FullNodeId} {n : ℕ} {r : Links} → Tells (as_root (view s).forest x) r → Meeting s x n 0 r
+pub meeting_start : {s : List ℕ} {x : FullNodeId} {r : Links} → Tells (as_root (view s).forest x) r → Meeting s x 0 r
 unfolding links_from list_of
-meeting_start {s} {x} {r = r} t = record { within = omega arith; told = rw (append-nil (as_root (view s).forest x)) t }
+meeting_start {s} {x} t = record { told = rw (append-nil (as_root (view s).forest x)) t }
 
-module _ {s : List ℕ} {x : FullNodeId} {n i : ℕ} {r : Links} (g : Meeting s x n i r) where
-  pub meeting_end : n ≡ slots_of s → n ≤ i → Tells (met_links (view s).forest (reached_in s) x) r
+module _ {s : List ℕ} {x : FullNodeId} {i : ℕ} {r : Links} (g : Meeting s x i r) where
+  pub meeting_end : {n : ℕ} → n ≡ slots_of s → n ≤ i → i ≤ n → Tells (met_links (view s).forest (reached_in s) x) r
   unfolding met_links view
-  meeting_end e h = let last : i ≡ slots_of s = omega (arith, g.within) in rw last at g.told
+  meeting_end e h b = let last : i ≡ slots_of s = omega arith in rw last at g.told
 
-  module _ {marks : List ℕ} (marked : Marked s (reached_in s) marks) (slots : n ≡ slots_of s) (l : i < n) where
+  module _ {marks : List ℕ} (marked : Marked s (reached_in s) marks) {n : ℕ} (slots : n ≡ slots_of s) (l : i < n) where
     -- a node that is not reached
-    pub meeting_skips : get_or marks i 0 ≡ 0 → Meeting s x n (i + 1) r
+    pub meeting_skips : get_or marks i 0 ≡ 0 → Meeting s x (i + 1) r
     unfolding node_in
     meeting_skips e =
         let out : has same_id (reached_in s) (id_in s i) ≡ false = sym (marked.says i (omega arith)) ∙ ap not (eq-eqb _ 0 e) in
         record {
-          within = omega arith;
           told =
               rw (
                 list_of_more i (node_in s),
@@ -148,12 +140,11 @@ module _ {s : List ℕ} {x : FullNodeId} {n i : ℕ} {r : Links} (g : Meeting s 
 
     -- one that is
     pub meeting_more : (get_or marks i 0 ≡ 0 → ⊥) → {z : Links}
-        → ((ls : List (Option ParentAndIndex)) → Tells ls r → Tells (ls ++ links_below (view s).forest x (node_in s i)) z) → Meeting s x n (i + 1) z
+        → ((ls : List (Option ParentAndIndex)) → Tells ls r → Tells (ls ++ links_below (view s).forest x (node_in s i)) z) → Meeting s x (i + 1) z
     unfolding node_in
     meeting_more e step =
         let inside : has same_id (reached_in s) (id_in s i) ≡ true = sym (marked.says i (omega arith)) ∙ ap not (ne_eqb _ 0 e) in
         record {
-          within = omega arith;
           told =
               rw (list_of_more i (node_in s), links_more (view s).forest (reached_in s) x (list_of i (node_in s)) (node_in s i), inside)
               (rw append_assoc at (step _ g.told));

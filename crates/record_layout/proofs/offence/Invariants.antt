@@ -2,7 +2,7 @@
 -- label bytes. Assumes nothing.
 use mathlib.Core.List.{List}
 use mathlib.Core.Path.{◌≡◌}
-use Prim.Native.Nat.{ℕ, ◌*◌, ◌-◌, ◌≤◌}
+use Prim.Native.Nat.{ℕ, ◌*◌, ◌≤◌}
 use Rattle.base.specs.Tests.{is_none}
 use Rattle.base.proofs.Scan.{Passed}
 use Rattle.record.specs.Parse.{children_before, labels_before}
@@ -19,6 +19,3 @@ pub record Counted (s : List ℕ) (n children labels i : ℕ) : Type 0 where
 
 abbrev pub invariant-loop-i : goal.invariant-loop-i
 invariant-loop-i l = Counted l.batch l.nodes l.children l.labels l.i
-
-abbrev pub decreases-loop-i : goal.decreases-loop-i
-decreases-loop-i l = l.nodes - l.i

@@ -1,10 +1,6 @@
--- `record_reader::half` meets its contract: the number within the record where there is one, 0 past the last node. Assumes nothing.
-use mathlib.Core.Path.{sym, ◌∙◌}
-use Rattle.record_reader.proofs.Reader.{field_here, field_past}
+-- `record_reader::half` meets its contract. Assumes nothing.
+use mathlib.Core.Path.{◌∙◌}
 use Rattle.record_reader.proofs.half.Goals as goal
 
-pub returns-then-u16_at-i : goal.returns-then-u16_at-i
-returns-then-u16_at-i c = sym (field_past _ _ 2 _ c.u16_at.ensures c.if-u16_at-i.true)
-
 pub returns : goal.returns
-returns c = c.u16_at-2.ensures ∙ sym (field_here _ _ 2 _ c.u16_at.ensures c.if-u16_at-i.false)
+returns c = c.u16_at.ensures ∙ c.place.ensures _

@@ -17,8 +17,8 @@ returns c =
     let a = c.args in
     let s = a.batch.now in
     let at = record_at a.i in
-    let start_is : c.least-start.result ≡ min (labels_at s + label_start s at) (length s) =
-    rw (← c.u16_at-2.ensures, ← c.u16_at.ensures, ← c.u16_at-nodes.ensures) c.least-start.ensures in
-    let stop_is : c.least-end.result ≡ min (c.least-start.result + label_length s at) (length s) =
-    rw (← c.u16_at-3.ensures) c.least-end.ensures in
+    let start_is : c.min-start.result ≡ min (labels_at s + label_start s at) (length s) =
+    rw (← c.u16_at-2.ensures, ← c.u16_at.ensures, ← c.u16_at-nodes.ensures) c.min-start.ensures in
+    let stop_is : c.min-end.result ≡ min (c.min-start.result + label_length s at) (length s) =
+    rw (← c.u16_at-3.ensures) c.min-end.ensures in
     label_is s a.i _ _ (rw (← c.u16_at-nodes.ensures) c.if-nodes-i.false) start_is stop_is

@@ -1,7 +1,6 @@
 -- `replies::plain_id` meets its contract: by the variant. Assumes nothing.
 use mathlib.Core.Path.{◌∙◌}
 use borrow.Author.Rules.{rules}
-use Rattle.state_focus.specs.Focus.{found_of}
 use Rattle.replies.specs.Replies.{plain_id}
 use Rattle.replies.proofs.plain_id.Goals as goal
 
@@ -9,9 +8,8 @@ pub enum_told-1 : goal.enum_told-1
 enum_told-1 c = search rules
 
 pub returns-in_default : goal.returns-in_default
-unfolding found_of
 returns-in_default c = c.no_id.ensures ∙ rw c.in_default.is
 
 pub returns : goal.returns
-unfolding found_of plain_id
-returns c = rw c.in-At.is
+unfolding plain_id
+returns c = rw c.in-Some.is

@@ -1,13 +1,7 @@
 -- `state_array::label_at` meets its contract: four words. Assumes nothing.
-use Rattle.base.specs.Bytes.{list_of}
+use Rattle.std.proofs.Common.{rules}
+use Rattle.state_array.proofs.Made.{array_made}
 use Rattle.state_array.proofs.label_at.Goals as goal
 
 pub returns : goal.returns
-unfolding list_of
-returns c =
-    rw (
-      c.label_word-4.ensures,
-      c.label_word-3.ensures,
-      c.label_word-2.ensures,
-      c.label_word.ensures,
-    )
+returns c = array_made _ _ _ _ (λ i y q k. search rules) 4 c.from_fn.ensures.items

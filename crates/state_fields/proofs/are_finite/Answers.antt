@@ -10,6 +10,3 @@ returns-then-not-finite_bits c = search (scan, ← c.word_at.ensures)
 
 pub loop-k-preserved : goal.loop-k-preserved
 loop-k-preserved c = search (scan, ← c.word_at.ensures)
-
-pub returns : goal.returns
-returns c = search scan

@@ -11,6 +11,3 @@ returns-then-word_at-ne0 c = search (scan, word_nonzero)
 
 pub loop-k-preserved : goal.loop-k-preserved
 loop-k-preserved c = search (scan, word_zero)
-
-pub returns : goal.returns
-returns c = search scan

@@ -1,5 +1,4 @@
 -- `state_lookup::find_tree` meets its contract: no number passed has the tree id. Assumes nothing.
-use Prim.Native.Nat.{◌-◌}
 use Rattle.base.proofs.Scan.{Missed}
 use Rattle.ids.specs.Ids.{same_tree}
 use Rattle.state_array.specs.View.{tree_in}
@@ -7,6 +6,3 @@ use Rattle.state_lookup.proofs.find_tree.Given as goal
 
 abbrev pub invariant-loop-k : goal.invariant-loop-k
 invariant-loop-k l = Missed (λ i. same_tree l.id (tree_in l.state i).id) l.m l.k
-
-abbrev pub decreases-loop-k : goal.decreases-loop-k
-decreases-loop-k l = l.m - l.k

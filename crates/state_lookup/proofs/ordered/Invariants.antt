@@ -6,7 +6,4 @@ use Rattle.state_array.specs.View.{id_in}
 use Rattle.state_lookup.proofs.ordered.Given as goal
 
 abbrev pub invariant-loop-i : goal.invariant-loop-i
-invariant-loop-i l = Passed (λ k. before (id_in l.state k) (id_in l.state (k + 1))) (l.n - 1) l.i
-
-abbrev pub decreases-loop-i : goal.decreases-loop-i
-decreases-loop-i l = l.n - l.i
+invariant-loop-i l = Passed (λ k. before (id_in l.state k) (id_in l.state (k + 1))) (l.n - 1) (l.i - 1)

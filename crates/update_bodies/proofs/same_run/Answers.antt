@@ -8,7 +8,7 @@ use Rattle.base.proofs.Indexed.{all_below_end}
 use Rattle.update_bodies.proofs.same_run.Goals as goal
 
 pub loop-k-init : goal.loop-k-init
-loop-k-init c = (omega arith, all_below_none _)
+loop-k-init c = all_below_none _
 
 pub returns-then-word_in : goal.returns-then-word_in
 unfolding same_run
@@ -19,7 +19,7 @@ returns-then-word_in c =
 pub loop-k-preserved : goal.loop-k-preserved
 loop-k-preserved c =
     let l = c.loop-k in
-    (omega arith, all_below_more _ l.k l.invariant.1 (eq-eqb _ _ (sym c.word_in.ensures ∙ c.if-word_in.false ∙ c.word_in-in-loop-k.ensures)))
+    all_below_more _ l.k l.invariant (eq-eqb _ _ (sym c.word_in.ensures ∙ c.if-word_in.false ∙ c.word_in-in-loop-k.ensures))
 
 pub returns : goal.returns
-returns c = unfold same_run in (sym (all_below_end _ _ _ (omega arith) c.loop-k.invariant.1))
+returns c = unfold same_run in (sym (all_below_end _ _ _ (omega arith) c.loop-k.invariant))

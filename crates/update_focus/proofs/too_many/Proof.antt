@@ -1,6 +1,5 @@
 -- `update_focus::too_many` meets its contract. Assumes nothing.
 use borrow.Author.Rules.{rules}
-use Rattle.reasons_why.specs.Why.{found}
 use Rattle.update_focus.proofs.Focus.{why_few, why_many}
 use Rattle.update_focus.proofs.too_many.Statement.{statement}
 use Rattle.update_focus.proofs.too_many.Tie as tie
@@ -11,4 +10,4 @@ too_many_spec =
     (tie.spec
     (λ c κs. search rules) (λ c κs. search rules)
     (λ c. search (rules, why_few))
-    (λ c. unfold found in (search (rules, why_many))))
+    (λ c. search (rules, why_many)))

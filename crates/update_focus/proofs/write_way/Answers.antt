@@ -8,9 +8,6 @@ use Rattle.update_focus.proofs.write_way.Goals as goal
 pub loop-j-init : goal.loop-j-init
 loop-j-init c = filling_begins (omega arith)
 
-pub bounds-way-j : goal.bounds-way-j
-bounds-way-j c = omega (arith, c.size-most.ensures.0)
-
 pub loop-j-preserved : goal.loop-j-preserved
 loop-j-preserved c = search (rules, words_go)
 

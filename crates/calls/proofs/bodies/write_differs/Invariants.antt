@@ -1,12 +1,8 @@
 -- `bodies::write_differs` meets its contract. Assumes nothing.
-use Prim.Native.Nat.{◌-◌}
 use Rattle.calls.specs.Layout.{DIFFERS}
 use Rattle.calls.specs.Says.{differ_word}
 use Rattle.base.proofs.Loops.{Filling}
 use Rattle.calls.proofs.bodies.write_differs.Given as goal
 
 abbrev pub invariant-loop-i : goal.invariant-loop-i
-invariant-loop-i l = Filling DIFFERS 64 l.k (differ_word l.state l.batch l.scope) l.initial.notes l.i l.notes
-
-abbrev pub decreases-loop-i : goal.decreases-loop-i
-decreases-loop-i l = l.k - l.i
+invariant-loop-i l = Filling DIFFERS 64 l.i-end (differ_word l.state l.batch l.scope) l.initial.notes l.i l.notes

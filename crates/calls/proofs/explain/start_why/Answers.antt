@@ -1,18 +1,18 @@
 -- `explain::start_why` meets its contract. Assumes nothing.
 use native.Mathlib.Omega.{arith}
-use mathlib.Core.Path.{ap, sym, ◌∙◌}
-use Rattle.calls.specs.declared.notes.Refusal.{Refusal}
+use mathlib.Core.Path.{refl}
+use Rattle.calls.proofs.notes.Verdicts.{verdict_fails, verdict_passes}
 use Rattle.calls.proofs.explain.Calls.{first_start_explains}
 use Rattle.calls.proofs.explain.start_why.Goals as goal
 
-pub returns-then-refusal-ne0 : goal.returns-then-refusal-ne0
-returns-then-refusal-ne0 c =
-    first_start_explains _ (λ i. omega (arith, c.type_inv.batch i)) (ap (λ (q : Refusal). q.number) c.start_rows-refusal.ensures) c.if-refusal-ne0.true
+pub returns-then-is_err : goal.returns-then-is_err
+returns-then-is_err c =
+    first_start_explains _ (λ i. omega (arith, c.type_inv.batch i)) refl (verdict_fails _ c.start_rows.ensures c.is_err.ensures.value c.if-is_err.true)
     c.first_start_why.ensures c.clear.ensures
 
 pub later_start_why-requires : goal.later_start_why-requires
 later_start_why-requires c = record {
-  batch_value = sym (ap (λ (q : Refusal). q.number) c.start_rows-refusal.ensures) ∙ c.if-refusal-ne0.false;
+  batch_value = verdict_passes _ c.start_rows.ensures c.is_err.ensures.value c.if-is_err.false;
   memory_value = c.requires;
   way_value = c.clear.ensures;
 }

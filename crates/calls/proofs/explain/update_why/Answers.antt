@@ -1,15 +1,15 @@
 -- `explain::update_why` meets its contract. Assumes nothing.
 use native.Mathlib.Omega.{arith}
-use mathlib.Core.Path.{ap, sym, ◌∙◌}
-use Rattle.calls.specs.declared.notes.Refusal.{Refusal}
+use mathlib.Core.Path.{refl}
+use Rattle.calls.proofs.notes.Verdicts.{verdict_fails, verdict_passes}
 use Rattle.calls.proofs.explain.Calls.{first_explains}
 use Rattle.calls.proofs.explain.update_why.Goals as goal
 
-pub returns-then-refusal-ne0 : goal.returns-then-refusal-ne0
-returns-then-refusal-ne0 c =
-    first_explains _ (λ i. omega (arith, c.type_inv.batch i)) _ _ (ap (λ (q : Refusal). q.number) c.first_rows-refusal.ensures) c.if-refusal-ne0.true
+pub returns-then-is_err : goal.returns-then-is_err
+returns-then-is_err c =
+    first_explains _ (λ i. omega (arith, c.type_inv.batch i)) _ _ refl (verdict_fails _ c.first_rows.ensures c.is_err.ensures.value c.if-is_err.true)
     c.first_why.ensures c.clear.ensures
 
 pub later_why-requires : goal.later_why-requires
 later_why-requires c =
-    record { batch_value = sym (ap (λ (q : Refusal). q.number) c.first_rows-refusal.ensures) ∙ c.if-refusal-ne0.false; way_value = c.clear.ensures }
+    record { batch_value = verdict_passes _ c.first_rows.ensures c.is_err.ensures.value c.if-is_err.false; way_value = c.clear.ensures }

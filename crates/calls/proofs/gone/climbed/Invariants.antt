@@ -1,13 +1,7 @@
 -- `gone::climbed` meets its contract. Assumes nothing.
-use Prim.Native.Nat.{◌<◌}
-use Rattle.state_array.specs.View.{slots_of}
-use Rattle.calls.specs.declared.notes.Scope.{Scope}
-use Rattle.calls.specs.Fates.{Fated}
+use Prim.Native.Nat.{◌-◌}
 use Rattle.calls.proofs.gone.Climb.{Climbing}
 use Rattle.calls.proofs.gone.climbed.Given as goal
 
-abbrev pub invariant-loop-room : goal.invariant-loop-room
-invariant-loop-room l = (l.at < 320) × ((scope : Scope) → Fated l.i l.state l.batch scope l.notes → l.i < slots_of l.state → Climbing l.state l.batch scope l.i l.room l.at)
-
-abbrev pub decreases-loop-room : goal.decreases-loop-room
-decreases-loop-room l = l.room
+abbrev pub invariant-loop : goal.invariant-loop
+invariant-loop l = Climbing l.state l.batch l.fn.scope l.i (l.end - l.counter) l.at

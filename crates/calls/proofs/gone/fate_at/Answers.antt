@@ -1,4 +1,6 @@
 -- `gone::fate_at` meets its contract. Assumes nothing.
+use mathlib.Core.Path.{◌≡◌, sym, ◌∙◌}
+use borrow.Author.Tests.{eqb-true, eqb-false}
 use Rattle.calls.proofs.gone.Slots.{parent_within, fate_top, fate_mine, fate_below, fate_root}
 use native.Mathlib.Omega.{arith}
 use Rattle.calls.proofs.gone.fate_at.Goals as goal
@@ -15,14 +17,22 @@ offset_bounds-notes-slot c = omega (arith, parent_within c.requires.told c.requi
 pub bounds-notes-slot : goal.bounds-notes-slot
 bounds-notes-slot c = omega (arith, parent_within c.requires.told c.requires.i_bound c.id_at-x.ensures c.link_at-l.ensures c.if-l-eq0.false)
 
-pub returns-then-x-scope : goal.returns-then-x-scope
-returns-then-x-scope c = search fate_mine
+pub returns-then-eq : goal.returns-then-eq
+returns-then-eq c =
+    let mine : c.id_at-x.result.tree.0 ≡ c.args.scope.tree.0 = eqb-true _ _ (sym c.eq.ensures ∙ c.if-eq.true) in
+    search fate_mine
 
-pub returns-then-p-x : goal.returns-then-p-x
-returns-then-p-x c = search fate_below
+pub returns-then-eq-2 : goal.returns-then-eq-2
+returns-then-eq-2 c =
+    let other : c.id_at-x.result.tree.0 ≡ c.args.scope.tree.0 → ⊥ = eqb-false _ _ (sym c.eq.ensures ∙ c.if-eq.false) in
+    let own : c.link_at-l.result.parent.tree.0 ≡ c.id_at-x.result.tree.0 = eqb-true _ _ (sym c.eq-2.ensures ∙ c.if-eq-2.true) in
+    search fate_below
 
 pub fate_under-requires : goal.fate_under-requires
 fate_under-requires c = record { told = c.requires.told; slot_bound = parent_within c.requires.told c.requires.i_bound c.id_at-x.ensures c.link_at-l.ensures c.if-l-eq0.false }
 
 pub returns : goal.returns
-returns c = search fate_root
+returns c =
+    let other : c.id_at-x.result.tree.0 ≡ c.args.scope.tree.0 → ⊥ = eqb-false _ _ (sym c.eq.ensures ∙ c.if-eq.false) in
+    let apart : c.link_at-l.result.parent.tree.0 ≡ c.id_at-x.result.tree.0 → ⊥ = eqb-false _ _ (sym c.eq-2.ensures ∙ c.if-eq-2.false) in
+    search fate_root

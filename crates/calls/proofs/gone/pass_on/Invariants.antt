@@ -1,16 +1,8 @@
 -- `gone::pass_on` meets its contract. Assumes nothing.
-use mathlib.Core.Path.{◌≡◌}
-use Prim.Native.Nat.{◌<◌}
-use Rattle.state_array.specs.View.{slots_of}
-use Rattle.calls.specs.declared.notes.Scope.{Scope}
-use Rattle.calls.specs.Says.{goes_word}
+use Prim.Native.Nat.{◌-◌}
 use Rattle.calls.specs.Fates.{Fated}
 use Rattle.calls.proofs.gone.Climb.{Climbing}
 use Rattle.calls.proofs.gone.pass_on.Given as goal
 
-abbrev pub invariant-loop-room : goal.invariant-loop-room
-invariant-loop-room l = (l.at < 320) × ((scope : Scope) → Fated l.i l.state l.batch scope l.initial.notes → l.i < slots_of l.state → l.goes ≡ goes_word l.state l.batch scope l.i
-    → Climbing l.state l.batch scope l.i l.room l.at × Fated l.i l.state l.batch scope l.notes)
-
-abbrev pub decreases-loop-room : goal.decreases-loop-room
-decreases-loop-room l = l.room
+abbrev pub invariant-loop : goal.invariant-loop
+invariant-loop l = Climbing l.state l.batch l.fn.scope l.i (l.end - l.counter) l.at × Fated l.i l.state l.batch l.fn.scope l.notes

@@ -4,4 +4,4 @@ use Rattle.calls.proofs.gone.Fates.{replaced_is}
 use Rattle.calls.proofs.gone.replaced.Goals as goal
 
 pub returns : goal.returns
-returns c = unfold ◌and◌ in (replaced_is _ _ c.is_root.ensures)
+returns c = unfold ◌and◌ in (rw c.eq.ensures (replaced_is _ _ c.is_root.ensures))

@@ -15,4 +15,4 @@ loop-i-preserved c = filling_goes c.loop-i.invariant c.loop-i-test.true (rw c.li
 pub returns : goal.returns
 returns c =
     let told = c.requires in
-    told_filled _ _ _ _ _ READ _ _ told (omega arith) (filling_ends c.loop-i.invariant c.loop-i-test.false) c.slots-n.ensures (λ j h. above_is _ _ _ j h)
+    told_filled _ _ _ _ _ READ _ _ told (omega arith) (filling_ends c.loop-i.invariant c.loop-i-test.false) c.slots-i-end.ensures (λ j h. above_is _ _ _ j h)

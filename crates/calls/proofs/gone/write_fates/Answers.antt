@@ -14,7 +14,7 @@ loop-i-init c = filling_begins (omega arith)
 pub fate_at-fate-requires : goal.fate_at-fate-requires
 fate_at-fate-requires c =
     let told = c.requires in
-    record { told = rw c.loop-i.invariant.filled (told_fill _ _ _ _ ABOVE_TOLD told FATES _ _ (omega arith)); i_bound = omega (arith, c.slots-n.ensures) }
+    record { told = rw c.loop-i.invariant.filled (told_fill _ _ _ _ ABOVE_TOLD told FATES _ _ (omega arith)); i_bound = omega (arith, c.slots-i-end.ensures) }
 
 pub loop-i-preserved : goal.loop-i-preserved
 loop-i-preserved c = search filling_goes
@@ -22,5 +22,5 @@ loop-i-preserved c = search filling_goes
 pub returns : goal.returns
 returns c =
     let told = c.requires in
-    rw (filling_ends c.loop-i.invariant c.loop-i-test.false, c.slots-n.ensures)
+    rw (filling_ends c.loop-i.invariant c.loop-i-test.false, c.slots-i-end.ensures)
     (fated _ _ _ _ (told_fill _ _ _ _ ABOVE_TOLD told FATES _ _ (omega arith)) (holds_fill FATES _ _ _ (omega (arith, told.long))))

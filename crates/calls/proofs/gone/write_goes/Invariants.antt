@@ -1,10 +1,6 @@
 -- `gone::write_goes` meets its contract. Assumes nothing.
-use Prim.Native.Nat.{◌-◌, ◌≤◌}
 use Rattle.calls.specs.Fates.{Fated}
 use Rattle.calls.proofs.gone.write_goes.Given as goal
 
 abbrev pub invariant-loop-i : goal.invariant-loop-i
-invariant-loop-i l = (l.i ≤ l.n) × Fated l.i l.state l.batch l.scope l.notes
-
-abbrev pub decreases-loop-i : goal.decreases-loop-i
-decreases-loop-i l = l.n - l.i
+invariant-loop-i l = Fated l.i l.state l.batch l.scope l.notes

@@ -4,17 +4,17 @@ use Rattle.calls.proofs.links.Elsewhere.{elsewhere_own, elsewhere_kept, elsewher
 use native.Mathlib.Omega.{arith}
 use Rattle.calls.proofs.links.link_elsewhere.Goals as goal
 
-pub returns-then-was-x : goal.returns-then-was-x
-returns-then-was-x c = search elsewhere_own
+pub returns-then-was-eq : goal.returns-then-was-eq
+returns-then-was-eq c = let own = rw c.eq.ensures at c.if-was-eq.true in search elsewhere_own
 
 pub claimed_from-i-requires : goal.claimed_from-i-requires
 claimed_from-i-requires c = search few_listed
 
 pub returns-then-k-i : goal.returns-then-k-i
-returns-then-k-i c = search elsewhere_kept
+returns-then-k-i c = let other = rw c.eq.ensures at c.if-was-eq.false in search elsewhere_kept
 
 pub listed_id-requires : goal.listed_id-requires
 listed_id-requires c = omega (arith, few_listed)
 
 pub returns : goal.returns
-returns c = search elsewhere_claimed
+returns c = let other = rw c.eq.ensures at c.if-was-eq.false in search elsewhere_claimed

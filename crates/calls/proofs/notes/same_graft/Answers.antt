@@ -4,6 +4,7 @@ use mathlib.Core.Path.{ap, ap₂, ◌∙◌}
 use Rattle.base.specs.Tests.{◌and◌}
 use Rattle.base.proofs.Tests.{call_false, call_true}
 use Rattle.ids.specs.Ids.{same_tree}
+use Rattle.ids.proofs.Ids.{tree_test}
 use Rattle.calls.proofs.notes.Grafts.{same_graft_none, same_graft_some}
 use Rattle.calls.proofs.notes.same_graft.Goals as goal
 
@@ -18,5 +19,5 @@ unfolding ◌and◌
 returns c =
     let a = c.args in
     ap₂ ◌and◌ c.grafts_old-old.ensures
-    (c.same_tree.ensures ∙ ap₂ same_tree c.graft.ensures (ap (λ d. d.graft) c.shape_at-d.ensures))
+    (c.eq.ensures ∙ tree_test _ _ ∙ ap₂ same_tree c.graft.ensures (ap (λ d. d.graft) c.shape_at-d.ensures))
     ∙ same_graft_some _ a.state.now a.slot (call_true c.grafts_new.ensures c.if-not-grafts_new.false)

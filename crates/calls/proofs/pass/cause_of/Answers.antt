@@ -7,8 +7,8 @@ use Rattle.calls.proofs.pass.cause_of.Goals as goal
 pub firsts_of-firsts-requires : goal.firsts_of-firsts-requires
 firsts_of-firsts-requires c = search due_room
 
-pub returns-then-number_of-ne0 : goal.returns-then-number_of-ne0
-returns-then-number_of-ne0 c = search row_met
+pub returns-in-Some : goal.returns-in-Some
+returns-in-Some c = search row_met
 
 pub placeless-i-requires : goal.placeless-i-requires
 placeless-i-requires c = search few_listed
@@ -16,14 +16,14 @@ placeless-i-requires c = search few_listed
 pub returns-then-i-scope : goal.returns-then-i-scope
 returns-then-i-scope c =
     let dues = c.dues-due in
-    row_placeless c.fault-met.ensures c.number_of.ensures c.if-number_of-ne0.false c.requires.given.scoped.listed
+    row_placeless c.fault.ensures c.in_default.is c.requires.given.scoped.listed
     (placeless_first c.requires dues.result dues.ensures c.placeless-i.ensures) c.if-i-scope.true
 
 pub returns-then-j-scope : goal.returns-then-j-scope
 returns-then-j-scope c =
     let dues = c.dues-due in
     let scoped = c.requires.given.scoped in
-    row_nowhere c.fault-met.ensures c.number_of.ensures c.if-number_of-ne0.false scoped.listed
+    row_nowhere c.fault.ensures c.in_default.is scoped.listed
     (placeless_first c.requires dues.result dues.ensures c.placeless-i.ensures)
     c.if-i-scope.false scoped.named c.nowhere-j.ensures c.if-j-scope.true
 
@@ -31,6 +31,6 @@ pub returns : goal.returns
 returns c =
     let dues = c.dues-due in
     let scoped = c.requires.given.scoped in
-    row_none c.fault-met.ensures c.number_of.ensures c.if-number_of-ne0.false scoped.listed
+    row_none c.fault.ensures c.in_default.is scoped.listed
     (placeless_first c.requires dues.result dues.ensures c.placeless-i.ensures)
     c.if-i-scope.false scoped.named c.nowhere-j.ensures c.if-j-scope.false

@@ -1,5 +1,4 @@
 -- `pass::dues` meets its contract: the places passed are filled. Assumes nothing.
-use Prim.Native.Nat.{◌-◌}
 use lib.ListN.{replicate}
 use Rattle.base.proofs.Loops.{Filling}
 use Rattle.calls.specs.Setting.{asked, forest}
@@ -7,7 +6,4 @@ use Rattle.calls.specs.Steps.{due_of}
 use Rattle.calls.proofs.pass.dues.Given as goal
 
 abbrev pub invariant-loop-i : goal.invariant-loop-i
-invariant-loop-i l = Filling 0 64 l.k (due_of (forest l.state) (asked l.batch l.scope)) (replicate 64 0) l.i l.out
-
-abbrev pub decreases-loop-i : goal.decreases-loop-i
-decreases-loop-i l = l.k - l.i
+invariant-loop-i l = Filling 0 64 l.i-end (due_of (forest l.state) (asked l.batch l.scope)) (replicate 64 0) l.i l.out

@@ -7,10 +7,6 @@ pub enum_told-1 : goal.enum_told-1
 unfolding cause_number
 enum_told-1 c = search rules
 
-pub enum_told-in-NamedTwice : goal.enum_told-in-NamedTwice
-unfolding cause_number
-enum_told-in-NamedTwice c = search rules
-
 pub enum_told-in-GraftOverChildren : goal.enum_told-in-GraftOverChildren
 unfolding cause_number
 enum_told-in-GraftOverChildren c = search rules
@@ -30,10 +26,6 @@ enum_told-in-WithoutPlace c = search rules
 pub enum_told-in-ChildNowhere : goal.enum_told-in-ChildNowhere
 unfolding cause_number
 enum_told-in-ChildNowhere c = search rules
-
-pub returns-in-Nothing : goal.returns-in-Nothing
-unfolding cause_number
-returns-in-Nothing c = rw c.in-Nothing.is
 
 pub returns-in-NamedTwice : goal.returns-in-NamedTwice
 unfolding cause_number

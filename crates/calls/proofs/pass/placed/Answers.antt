@@ -1,11 +1,11 @@
 -- `pass::placed` meets its contract: a law for each way out. Assumes nothing.
+use mathlib.Core.Path.{◌≡◌, ◌∙◌}
 use native.Mathlib.Omega.{arith}
+use Rattle.ids.specs.Ids.{ROOT, same_tree}
+use Rattle.ids.proofs.Ids.{tree_test}
 use Rattle.calls.proofs.notes.Told.{few_listed}
-use Rattle.calls.proofs.pass.Faults.{placed_past, placed_crowded, placed_claimless, placed_root, placed_claimed, placed_claim}
+use Rattle.calls.proofs.pass.Faults.{placed_crowded, placed_claimless, placed_root, placed_claimed, placed_claim}
 use Rattle.calls.proofs.pass.placed.Goals as goal
-
-pub returns-then-k-i : goal.returns-then-k-i
-returns-then-k-i c = search placed_past
 
 pub returns-then-grafts_new-child_count : goal.returns-then-grafts_new-child_count
 returns-then-grafts_new-child_count c = search placed_crowded
@@ -22,11 +22,17 @@ bounds-notes-i c = omega (arith, few_listed)
 pub returns-then-notes-i-ne1 : goal.returns-then-notes-i-ne1
 returns-then-notes-i-ne1 c = search placed_claimless
 
-pub returns-then-same_tree : goal.returns-then-same_tree
-returns-then-same_tree c = search placed_root
+pub returns-then-eq : goal.returns-then-eq
+returns-then-eq c =
+    let test : c.eq.result ≡ same_tree c.graft-t.result ROOT = c.eq.ensures ∙ tree_test _ _ in
+    search placed_root
 
-pub returns-then-m-k : goal.returns-then-m-k
-returns-then-m-k c = search placed_claimed
+pub returns-then-m-scope : goal.returns-then-m-scope
+returns-then-m-scope c =
+    let test : c.eq.result ≡ same_tree c.graft-t.result ROOT = c.eq.ensures ∙ tree_test _ _ in
+    search placed_claimed
 
 pub returns : goal.returns
-returns c = search placed_claim
+returns c =
+    let test : c.eq.result ≡ same_tree c.graft-t.result ROOT = c.eq.ensures ∙ tree_test _ _ in
+    search placed_claim

@@ -1,12 +1,10 @@
 -- `pass::placeless` meets its contract: none of the listed nodes passed is due after all children. Assumes nothing.
-use Prim.Native.Nat.{◌-◌}
+use mathlib.Core.Bool.{false}
+use mathlib.Core.Path.{◌≡◌}
+use Prim.Native.Nat.{ℕ, ◌<◌}
 use lib.Dec.{ltb}
 use lib.ListN.{get_or}
-use Rattle.base.proofs.Loops.{Passing}
 use Rattle.calls.proofs.pass.placeless.Given as goal
 
 abbrev pub invariant-loop-i : goal.invariant-loop-i
-invariant-loop-i l = Passing (λ m. ltb l.e (get_or l.due m 0)) l.k l.i
-
-abbrev pub decreases-loop-i : goal.decreases-loop-i
-decreases-loop-i l = l.k - l.i
+invariant-loop-i l = (m : ℕ) → m < l.i → ltb l.e (get_or l.due m 0) ≡ false

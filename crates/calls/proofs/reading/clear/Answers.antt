@@ -1,13 +1,15 @@
 -- `reading::clear` meets its contract. Assumes nothing.
+use mathlib.Core.Path.{◌≡◌, sym, ◌∙◌}
+use Prim.Native.Nat.{ℕ}
+use lib.ListN.{replicate, length-replicate}
 use native.Mathlib.Omega.{arith}
-use Rattle.base.proofs.Loops.{filling_begins, filling_goes, filling_ends}
+use borrow.Author.Rules.{rules}
+use Rattle.std.proofs.lemmas.Slice.{put_mid-paste}
+use Rattle.calls.proofs.reading.Reading.{zeros_fill}
 use Rattle.calls.proofs.reading.clear.Goals as goal
 
-pub loop-i-init : goal.loop-i-init
-loop-i-init c = filling_begins (omega arith)
-
-pub loop-i-preserved : goal.loop-i-preserved
-loop-i-preserved c = search filling_goes
-
 pub returns : goal.returns
-returns c = search filling_ends
+returns c =
+    let n = c.args.n in
+    let zeros : c.fill.new.self ≡ replicate n 0 = search rules in
+    put_mid-paste _ _ _ _ (replicate n 0) n zeros (omega arith) (sym (length-replicate {A = ℕ} n 0)) ∙ zeros_fill _ _ _ (omega arith)

@@ -1,5 +1,4 @@
 -- `reports::write_changed` meets its contract: the nodes passed have their words. Assumes nothing.
-use Prim.Native.Nat.{◌-◌}
 use Rattle.calls.specs.Layout.{CHANGED}
 use Rattle.calls.specs.Says.{changed_word}
 use Rattle.base.proofs.Loops.{Filling}
@@ -7,6 +6,3 @@ use Rattle.calls.proofs.reports.write_changed.Given as goal
 
 abbrev pub invariant-loop-r : goal.invariant-loop-r
 invariant-loop-r l = Filling CHANGED l.n l.n (changed_word l.state l.batch l.scope) l.initial.notes l.r l.notes
-
-abbrev pub decreases-loop-r : goal.decreases-loop-r
-decreases-loop-r l = l.n - l.r

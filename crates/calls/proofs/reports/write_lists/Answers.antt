@@ -3,7 +3,6 @@ use mathlib.Core.Path.{◌≡◌, refl}
 use mathlib.Core.List.{List}
 use Prim.Native.Nat.{ℕ, ◌+◌, ◌*◌, ◌≤◌}
 use lib.ListN.{length}
-use borrow.Author.Tests.{lt-leb, le-leb}
 use native.Mathlib.Omega.{arith}
 use Rattle.calls.specs.Layout.{FATES, CHANGED}
 use Rattle.state_array.specs.View.{slots_of}
@@ -23,17 +22,17 @@ room state notes next i j k l m n =
     fits (picked_count 1 notes CHANGED next _ _ i m) (picked_count 2 notes CHANGED next _ _ j m) (picked_count 1 notes FATES state _ _ k n)
     (picked_count 4 notes CHANGED next _ _ l m)
 
-pub returns-then-not-fit : goal.returns-then-not-fit
-returns-then-not-fit c =
+pub returns-then-changes-words : goal.returns-then-changes-words
+returns-then-changes-words c =
     let a = c.args in
     let m = c.slots-m.ensures in
     let n = c.slots-n.ensures in
-    lists_short (changes_noted a.state.now a.notes.now a.next.now) a.changes.now _
+    lists_short (changes_noted a.state.now a.notes.now a.next.now) a.changes.now
     (picked_count 1 a.notes.now CHANGED a.next.now _ _ c.count_of-added.ensures m)
     (picked_count 2 a.notes.now CHANGED a.next.now _ _ c.count_of-updated.ensures m)
     (picked_count 1 a.notes.now FATES a.state.now _ _ c.count_of-removed.ensures n)
     (picked_count 4 a.notes.now CHANGED a.next.now _ _ c.count_of-relinked.ensures m)
-    refl refl (lt-leb _ _ c.if-not-fit.true)
+    refl c.if-changes-words.true
 
 pub write_list-from_updated-requires : goal.write_list-from_updated-requires
 write_list-from_updated-requires c =
@@ -41,7 +40,7 @@ write_list-from_updated-requires c =
     omega (
       arith,
       room a.state.now a.notes.now a.next.now c.count_of-added.ensures c.count_of-updated.ensures c.count_of-removed.ensures c.count_of-relinked.ensures
-          c.slots-m.ensures c.slots-n.ensures c.if-not-fit.false,
+          c.slots-m.ensures c.slots-n.ensures c.if-changes-words.false,
     )
 
 pub write_list-from_removed-requires : goal.write_list-from_removed-requires
@@ -50,7 +49,7 @@ write_list-from_removed-requires c =
     omega (
       arith,
       room a.state.now a.notes.now a.next.now c.count_of-added.ensures c.count_of-updated.ensures c.count_of-removed.ensures c.count_of-relinked.ensures
-          c.slots-m.ensures c.slots-n.ensures c.if-not-fit.false,
+          c.slots-m.ensures c.slots-n.ensures c.if-changes-words.false,
       c.write_list-from_updated.ensures,
     )
 
@@ -60,7 +59,7 @@ write_list-from_relinked-requires c =
     omega (
       arith,
       room a.state.now a.notes.now a.next.now c.count_of-added.ensures c.count_of-updated.ensures c.count_of-removed.ensures c.count_of-relinked.ensures
-          c.slots-m.ensures c.slots-n.ensures c.if-not-fit.false,
+          c.slots-m.ensures c.slots-n.ensures c.if-changes-words.false,
       c.write_list-from_updated.ensures,
       c.write_list-from_removed.ensures,
     )
@@ -71,7 +70,7 @@ write_list-end-requires c =
     omega (
       arith,
       room a.state.now a.notes.now a.next.now c.count_of-added.ensures c.count_of-updated.ensures c.count_of-removed.ensures c.count_of-relinked.ensures
-          c.slots-m.ensures c.slots-n.ensures c.if-not-fit.false,
+          c.slots-m.ensures c.slots-n.ensures c.if-changes-words.false,
       c.write_list-from_updated.ensures,
       c.write_list-from_removed.ensures,
       c.write_list-from_relinked.ensures,
@@ -87,5 +86,5 @@ returns c =
     (picked_count 2 a.notes.now CHANGED a.next.now _ _ c.count_of-updated.ensures m)
     (picked_count 1 a.notes.now FATES a.state.now _ _ c.count_of-removed.ensures n)
     (picked_count 4 a.notes.now CHANGED a.next.now _ _ c.count_of-relinked.ensures m)
-    refl refl (le-leb _ _ c.if-not-fit.false)
+    refl c.if-changes-words.false
     _ _ _ _ _ _ _ _ c.write_list-from_updated.ensures c.write_list-from_removed.ensures c.write_list-from_relinked.ensures c.write_list-end.ensures

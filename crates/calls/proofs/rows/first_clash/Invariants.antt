@@ -1,11 +1,9 @@
 -- `rows::first_clash` meets its contract: none of the nodes passed differs and goes. Assumes nothing.
-use Prim.Native.Nat.{◌-◌}
-use Rattle.base.proofs.Scan.{Missed}
+use mathlib.Core.Bool.{false}
+use mathlib.Core.Path.{◌≡◌}
+use Prim.Native.Nat.{ℕ, ◌<◌}
 use Rattle.calls.specs.Noted.{clash_noted}
 use Rattle.calls.proofs.rows.first_clash.Given as goal
 
 abbrev pub invariant-loop-i : goal.invariant-loop-i
-invariant-loop-i l = Missed (clash_noted l.notes) l.k l.i
-
-abbrev pub decreases-loop-i : goal.decreases-loop-i
-decreases-loop-i l = l.k - l.i
+invariant-loop-i l = (m : ℕ) → m < l.i → clash_noted l.notes m ≡ false

@@ -1,9 +1,9 @@
 -- `rows::scope_of` meets its contract, part by part. Assumes nothing.
-use mathlib.Core.Option.{none, some}
 use mathlib.Core.Path.{ap, ◌∙◌}
-use Rattle.std.specs.Prelude.{if◌then◌else◌}
+use Rattle.std.specs.Prelude.{option_map}
 use Rattle.ids.specs.Ids.{ROOT, same_tree}
 use Rattle.ids.specs.declared.TreeIndex.{TreeIndex}
+use Rattle.ids.specs.declared.NodeId.{NodeId}
 use Rattle.record.specs.Parse.{batch_of}
 use Rattle.record_reader.specs.declared.BatchHeader.{BatchHeader}
 use Rattle.update.specs.Words.{here, with_tree_data}
@@ -16,7 +16,7 @@ unfolding with_tree_data root_in here
 returns c = let a = c.args in
     let header = c.read_header-header.ensures in
     let id = ap (λ (h : BatchHeader). h.tree) header in
-    let after = c.root_after-after in
+    let root = c.root_after-root in
     let tree = number_is a.state.now (batch_of a.batch.now) _ (rw id at c.find_tree-number.ensures) in
     λ formed.
     record {
@@ -25,5 +25,5 @@ returns c = let a = c.args in
       listed = ap (λ (h : BatchHeader). h.nodes) header;
       named = c.entries_of.ensures formed;
       tree_data = ap (λ (h : BatchHeader). h.has_tree_data) header;
-      root = ap (λ (t : TreeIndex). if after.result.rooted then some (record { tree = t; node = after.result.node }) else none) tree ∙ after.ensures;
+      root = ap (λ (t : TreeIndex). option_map (λ (x : NodeId). record { tree = t; node = x }) root.result) tree ∙ root.ensures;
     }

@@ -1,18 +1,12 @@
 -- `trees::own_row` meets its contract: by whether the scope names a root. Assumes nothing.
-use mathlib.Core.Bool.{true, false}
-use mathlib.Core.Path.{◌≡◌}
 use Rattle.state_array.specs.Stored.{tree_row}
 use Rattle.calls.specs.Trees.{own_entry}
 use Rattle.calls.proofs.trees.own_row.Goals as goal
 
-pub returns-then-scope : goal.returns-then-scope
-unfolding own_entry tree_row
-returns-then-scope c =
-    let rooted : c.args.scope.rooted ≡ true = c.if-scope.true in
-    rw (rooted, ← c.tree_id-id.ensures, ← c.tree_focus-focus.ensures)
+pub returns-in_default : goal.returns-in_default
+unfolding own_entry
+returns-in_default c = rw (c.in_default.is, ← c.tree_id-id.ensures) c.absent.ensures
 
 pub returns : goal.returns
-unfolding own_entry
-returns c =
-    let rootless : c.args.scope.rooted ≡ false = c.if-scope.false in
-    rw (rootless, ← c.tree_id-id.ensures) c.absent.ensures
+unfolding own_entry tree_row
+returns c = rw (c.in-Some.is, ← c.tree_id-id.ensures, ← c.tree_focus-focus.ensures)

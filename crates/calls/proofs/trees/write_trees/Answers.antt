@@ -1,7 +1,7 @@
 -- `trees::write_trees` meets its contract. The trees before k are in their places. Assumes nothing.
 use mathlib.Core.List.{List}
 use Rattle.calls.specs.declared.notes.Scope.{Scope}
-use mathlib.Core.Path.{◌≡◌, sym, ◌∙◌}
+use mathlib.Core.Path.{sym, ◌∙◌}
 use Prim.Native.Nat.{◌≤◌, ℕ}
 use lib.ListN.{length}
 use Rattle.base.proofs.Regions.{fills_none}
@@ -18,20 +18,11 @@ few : {state bytes : List ℕ} {c : Scope} → Given state bytes c → length (t
 few g = trees_few _ _ g.kept g.numbered
 
 pub loop-k-init : goal.loop-k-init
-loop-k-init c = (c.tree_count-count.ensures ∙ sym (trees_count c.requires.given), omega arith, search fills_none)
-
-pub tree_after-row-requires : goal.tree_after-row-requires
-tree_after-row-requires c = record { told = c.requires; k_in_bounds = omega (arith, c.loop-k.invariant.0) }
+loop-k-init c = (c.tree_count-count.ensures ∙ sym (trees_count c.requires.given), search fills_none)
 
 pub loop-k-preserved : goal.loop-k-preserved
 loop-k-preserved c =
     let l = c.loop-k in
     let a = c.args in
     let ts = trees_after a.state.now a.batch.now a.scope in
-    (l.invariant.0, omega arith, tree_more ts l.k (omega (arith, few, l.invariant.0)) a.next.now l.invariant.2 c.tree_after-row.ensures c.put_tree.ensures)
-
-pub returns : goal.returns
-returns c =
-    let l = c.loop-k in
-    let done : l.k ≡ c.tree_count-count.result = omega arith in
-    l.invariant.2 ∙ rw (done, l.invariant.0)
+    (l.invariant.0, tree_more ts l.k (omega (arith, few, l.invariant.0)) a.next.now l.invariant.1 c.tree_after-row.ensures c.put_tree.ensures)

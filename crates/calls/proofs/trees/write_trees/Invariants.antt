@@ -1,6 +1,5 @@
 -- `trees::write_trees` meets its contract. The trees before k are in their places. Assumes nothing.
 use mathlib.Core.Path.{◌≡◌}
-use Prim.Native.Nat.{◌-◌, ◌≤◌}
 use lib.ListN.{length}
 use Rattle.base.specs.Regions.{fills}
 use Rattle.state_array.specs.Filled.{trees_regions}
@@ -8,7 +7,4 @@ use Rattle.calls.specs.Trees.{trees_after}
 use Rattle.calls.proofs.trees.write_trees.Given as goal
 
 abbrev pub invariant-loop-k : goal.invariant-loop-k
-invariant-loop-k l = (l.count ≡ length (trees_after l.state l.batch l.scope)) × (l.k ≤ l.count) × (l.next ≡ fills (trees_regions (trees_after l.state l.batch l.scope)) l.k l.initial.next)
-
-abbrev pub decreases-loop-k : goal.decreases-loop-k
-decreases-loop-k l = l.count - l.k
+invariant-loop-k l = (l.count ≡ length (trees_after l.state l.batch l.scope)) × (l.next ≡ fills (trees_regions (trees_after l.state l.batch l.scope)) l.k l.initial.next)

@@ -1,7 +1,6 @@
 -- `why_pass::of_cause` meets its contract: by the variant. Assumes nothing.
 use native.Mathlib.Omega.{arith}
-use Rattle.reasons_why.specs.Why.{why_for}
-use Rattle.calls.specs.Causes.{cause_reason, Within}
+use Rattle.calls.specs.Causes.{Within}
 use Rattle.calls.proofs.notes.Told.{few_listed}
 use Rattle.calls.proofs.why_pass.Words.{within_crowded, within_root, within_claimed, within_placeless, why_crowded, why_root, why_claimed, why_placeless}
 use Rattle.calls.proofs.why_pass.of_cause.Goals as goal
@@ -38,10 +37,6 @@ unfolding Within
 child_nowhere-requires c =
     let p = c.requires in
     record { told = p.told; j_lt_named = omega (arith, rw c.in-ChildNowhere.is at p.within, p.told.given.scoped.named) }
-
-pub returns-in-Nothing : goal.returns-in-Nothing
-unfolding cause_reason why_for
-returns-in-Nothing c = rw c.in-Nothing.is c.no_reason.ensures
 
 pub returns-in-NamedTwice : goal.returns-in-NamedTwice
 returns-in-NamedTwice c = rw c.in-NamedTwice.is c.named_twice.ensures

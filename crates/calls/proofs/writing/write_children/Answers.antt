@@ -23,27 +23,26 @@ kids {state} {bytes} {c} told l = source_children_lem state bytes _ c (batched s
 pub loop-r-init : goal.loop-r-init
 loop-r-init c =
     let told = c.requires in
-    (omega (arith, count_told told, nodes_room told), omega arith, λ scope told. runs_none _ _)
+    (omega (arith, count_told told, nodes_room told), λ scope told. runs_none _ _)
 
 pub write_run-first-requires : goal.write_run-first-requires
 write_run-first-requires c =
     let told = c.requires in
     let l = c.loop-r in
     let among = node_among told c.loop-r-test.true in
-    run_room _ l.r l.first _ _ l.next among (kids told among) (l.invariant.2 _ told) (entries_room told)
+    run_room _ l.r l.first _ _ l.next among (kids told among) (l.invariant.1 _ told) (entries_room told)
 
 pub loop-r-preserved : goal.loop-r-preserved
 loop-r-preserved c =
     let l = c.loop-r in (
       l.invariant.0,
-      omega arith,
       λ scope told.
           let among = node_among told c.loop-r-test.true in
           rw (c.write_run-first.ensures.value, c.write_run-first.ensures.next_after, c.put_first_child.ensures)
-          (runs_more _ l.r l.first _ _ l.next among (omega arith) (kids told among) (l.invariant.2 scope told)),
+          (runs_more _ l.r l.first _ _ l.next among (omega arith) (kids told among) (l.invariant.1 scope told)),
     )
 
 pub returns : goal.returns
 returns c =
     let told = c.requires in
-    runs_all _ c.loop-r.r _ _ _ (omega (arith, count_told told)) (c.loop-r.invariant.2 _ told)
+    runs_all _ c.loop-r.r _ _ _ (omega (arith, count_told told)) (c.loop-r.invariant.1 _ told)

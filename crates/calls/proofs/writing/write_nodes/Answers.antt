@@ -1,5 +1,5 @@
 -- `writing::write_nodes` meets its contract. The nodes before r are in their places. Assumes nothing.
-use mathlib.Core.Path.{◌≡◌, ap, ◌∙◌}
+use mathlib.Core.Path.{ap, ◌∙◌}
 use Prim.Native.Nat.{◌<◌}
 use lib.ListN.{length}
 use Rattle.base.proofs.Regions.{fills_none}
@@ -14,7 +14,7 @@ use native.Mathlib.Omega.{arith}
 use Rattle.calls.proofs.writing.write_nodes.Goals as goal
 
 pub loop-r-init : goal.loop-r-init
-loop-r-init c = let all = count_told c.requires in (all, omega (arith, all, nodes_room c.requires), omega arith, search fills_none)
+loop-r-init c = let all = count_told c.requires in (all, omega (arith, all, nodes_room c.requires), search fills_none)
 
 pub id_of-x-requires : goal.id_of-x-requires
 id_of-x-requires c = code_few c.requires (omega (arith, c.loop-r.invariant.0))
@@ -31,12 +31,6 @@ loop-r-preserved c =
     let among : l.r < length (nodes_after c.args.state.now c.args.batch.now c.args.scope) = omega (arith, l.invariant.0) in (
       l.invariant.0,
       l.invariant.1,
-      omega arith,
-      node_more _ l.r (omega arith) _ l.invariant.3 (c.id_of-x.ensures ∙ id_there c.requires among) (c.link_of-l.ensures ∙ ap link_row (link_there c.requires among))
+      node_more _ l.r (omega arith) _ l.invariant.2 (c.id_of-x.ensures ∙ id_there c.requires among) (c.link_of-l.ensures ∙ ap link_row (link_there c.requires among))
           (body_there c.requires among c.body_of-body.ensures (floats_fit c.body_of-body.result _ c.body_of-body.type_inv) (bytes_all c.args.batch.now (λ k. omega (arith, c.type_inv.batch k)))) c.put_id.ensures c.put_link.ensures c.put_body.ensures,
     )
-
-pub returns : goal.returns
-returns c =
-    let done : c.loop-r.r ≡ length (nodes_after c.args.state.now c.args.batch.now c.args.scope) = omega (arith, c.loop-r.invariant.0) in
-    rw (← done) c.loop-r.invariant.3

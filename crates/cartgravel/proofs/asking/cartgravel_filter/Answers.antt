@@ -3,10 +3,10 @@ use mathlib.Core.Path.{refl}
 use Rattle.cartgravel.specs.Questions.{filter_reply}
 use Rattle.cartgravel.proofs.asking.cartgravel_filter.Goals as goal
 
-pub returns-in-Known : goal.returns-in-Known
+pub returns-in-Some : goal.returns-in-Some
 unfolding filter_reply
-returns-in-Known c = rw (← c.filter_of.ensures, c.in-Known.is, c.filter_result.ensures, c.filter.ensures) refl
+returns-in-Some c = rw (← c.filter_of.ensures, c.in-Some.is, c.filter_result.ensures, c.filter.ensures) refl
 
-pub returns-in-Unknown : goal.returns-in-Unknown
+pub returns-in-None : goal.returns-in-None
 unfolding filter_reply
-returns-in-Unknown c = rw (← c.filter_of.ensures, c.in-Unknown.is, c.unknown.ensures) refl
+returns-in-None c = rw (← c.filter_of.ensures, c.in-None.is, c.filter_result-in-None.ensures, c.unknown.ensures) refl

@@ -3,10 +3,10 @@ use mathlib.Core.Path.{refl}
 use Rattle.cartgravel.specs.Questions.{node_reply}
 use Rattle.cartgravel.proofs.asking.cartgravel_last_filtered_child.Goals as goal
 
-pub returns-in-Known : goal.returns-in-Known
+pub returns-in-Some : goal.returns-in-Some
 unfolding node_reply
-returns-in-Known c = rw (← c.filter_of.ensures, c.in-Known.is, c.found.ensures, c.last_filtered_child.ensures) refl
+returns-in-Some c = rw (← c.filter_of.ensures, c.in-Some.is, c.found.ensures, c.last_filtered_child.ensures) refl
 
-pub returns-in-Unknown : goal.returns-in-Unknown
+pub returns-in-None : goal.returns-in-None
 unfolding node_reply
-returns-in-Unknown c = rw (← c.filter_of.ensures, c.in-Unknown.is, c.no_node.ensures) refl
+returns-in-None c = rw (← c.filter_of.ensures, c.in-None.is, c.no_node.ensures) refl

@@ -1,18 +1,21 @@
--- `filters::filter` meets its contract: the number, or what the filter says of the node that was found. Assumes nothing.
-use mathlib.Core.Path.{◌∙◌, ap}
-use Rattle.questions.specs.Filters.{filter_of}
-use Rattle.node_answers.proofs.Filter.{answer_refused, answer_result}
+-- `filters::filter` meets its contract: refused, or what the filter says of the node in the slot. Assumes nothing.
+use Rattle.state_array.specs.View.{view}
+use Rattle.questions.specs.Filters.{seen, filter_of}
+use Rattle.node_answers.specs.Filter.{filter_answer}
+use Rattle.node_answers.proofs.Answers.{answer_exit}
+use Rattle.question_calls.proofs.node_asked.Asks.{asked_given}
 use Rattle.question_calls.proofs.filters.filter.Goals as goal
 
-pub returns-then-number-ne0 : goal.returns-then-number-ne0
-returns-then-number-ne0 c = answer_refused _ _ _ _ c.asked-asked.ensures.number_is c.if-number-ne0.true
+pub returns-in_err-slot : goal.returns-in_err-slot
+unfolding filter_answer
+returns-in_err-slot c = answer_exit _ _ _ c.from_residual.ensures.1 c.in_err-slot.ensures.number_is
 
 pub filter_at-requires : goal.filter_at-requires
-filter_at-requires c = (c.asked-asked.ensures.stands c.if-number-ne0.false).is_sound
+filter_at-requires c = c.in_ok-slot.ensures.stands.is_sound
 
 pub returns : goal.returns
+unfolding filter_answer
 returns c =
-    let q = c.asked-asked.ensures in
-    let at = q.stands c.if-number-ne0.false in
-    answer_result _ _ _ _ _ q.number_is c.if-number-ne0.false
-    (rw (← c.focused_slot-focused.ensures at.is_sound) (c.filter_at.ensures at.is_sound at.within ∙ ap (filter_of _ _) at.id_is))
+    let a = c.args in
+    let q = c.in_ok-slot.ensures in
+    asked_given _ _ _ q (λ f x. filter_of a.filter (seen (view a.state.now)) x) _ (rw (← c.focused_slot-focused.ensures q.stands.is_sound) c.filter_at.ensures)

@@ -1,20 +1,21 @@
--- `iterators::deepest_child` meets its contract: 1 and 22, or the node in the slot that is found. Assumes nothing.
+-- `iterators::deepest_child` meets its contract: refused, or what is found from the slot. Assumes nothing.
 use mathlib.Core.Path.{◌∙◌}
-use native.Mathlib.Omega.{arith}
 use Rattle.questions.specs.Filters.{filter_of}
+use Rattle.question_calls.specs.Plain.{seen_at}
 use Rattle.question_calls.specs.Shown.{deepest_on}
-use Rattle.node_answers.proofs.Answers.{node_refused}
-use Rattle.question_calls.proofs.iterators.Lists.{node_asked}
+use Rattle.node_answers.proofs.Answers.{answer_exit}
+use Rattle.question_calls.proofs.node_asked.Asks.{asked_given}
 use Rattle.question_calls.proofs.iterators.deepest_child.Goals as goal
 
-pub returns-then-number-ne0 : goal.returns-then-number-ne0
-returns-then-number-ne0 c = c.refused.ensures ∙ node_refused _ _ _ c.asked-asked.ensures.number_is c.if-number-ne0.true
+pub returns-in_err-slot : goal.returns-in_err-slot
+returns-in_err-slot c = answer_exit _ _ _ c.from_residual.ensures.1 c.in_err-slot.ensures.number_is
 
 pub deepest_child-requires : goal.deepest_child-requires
-deepest_child-requires c = (c.asked-asked.ensures.stands (omega arith)).is_sound
+deepest_child-requires c = c.in_ok-slot.ensures.stands.is_sound
 
 pub returns : goal.returns
 returns c =
-    let q = c.asked-asked.ensures in
-    rw (← c.focused_slot-focused.ensures (q.stands (omega arith)).is_sound)
-    (node_asked _ _ _ q (omega arith) (deepest_on _ (filter_of _ _)) _ _ c.deepest_child.ensures c.found.ensures)
+    let a = c.args in
+    let q = c.in_ok-slot.ensures in
+    rw (← c.focused_slot-focused.ensures q.stands.is_sound)
+    (asked_given _ _ _ q (deepest_on a.side (filter_of a.filter (seen_at a.state.now c.focused_slot-focused.result))) _ (λ sound there. c.node_at.ensures ∙ c.deepest_child.ensures sound there))

@@ -1,24 +1,24 @@
--- `iterators::filtered_child` meets its contract: 1 and 22, or the node in the slot that is found. Assumes nothing.
+-- `iterators::filtered_child` meets its contract: refused, or what is found from the slot. Assumes nothing.
 use mathlib.Core.Path.{◌∙◌}
-use native.Mathlib.Omega.{arith}
 use Rattle.questions.specs.Filters.{filter_of}
+use Rattle.question_calls.specs.Plain.{seen_at}
 use Rattle.question_calls.specs.Shown.{filtered_child_on}
-use Rattle.node_answers.proofs.Answers.{node_refused}
-use Rattle.question_calls.proofs.iterators.Lists.{node_asked}
+use Rattle.node_answers.proofs.Answers.{answer_exit}
+use Rattle.question_calls.proofs.node_asked.Asks.{asked_given}
 use Rattle.question_calls.proofs.iterators.filtered_child.Goals as goal
 
-pub returns-then-number-ne0 : goal.returns-then-number-ne0
-returns-then-number-ne0 c = c.refused.ensures ∙ node_refused _ _ _ c.asked-asked.ensures.number_is c.if-number-ne0.true
+pub returns-in_err-slot : goal.returns-in_err-slot
+returns-in_err-slot c = answer_exit _ _ _ c.from_residual.ensures.1 c.in_err-slot.ensures.number_is
 
 pub known_at-known-requires : goal.known_at-known-requires
-known_at-known-requires c = (c.asked-asked.ensures.stands (omega arith)).is_sound
+known_at-known-requires c = c.in_ok-slot.ensures.stands.is_sound
 
 pub filtered_child-requires : goal.filtered_child-requires
-filtered_child-requires c =
-    let sound = (c.asked-asked.ensures.stands (omega arith)).is_sound in record { sound = sound; knows = c.known_at-known.ensures }
+filtered_child-requires c = record { sound = c.in_ok-slot.ensures.stands.is_sound; knows = c.known_at-known.ensures }
 
 pub returns : goal.returns
 returns c =
-    let q = c.asked-asked.ensures in
-    rw (← c.focused_slot-focused.ensures (q.stands (omega arith)).is_sound)
-    (node_asked _ _ _ q (omega arith) (filtered_child_on _ (filter_of _ _)) _ _ c.filtered_child.ensures.of_slot c.found.ensures)
+    let a = c.args in
+    let q = c.in_ok-slot.ensures in
+    rw (← c.focused_slot-focused.ensures q.stands.is_sound)
+    (asked_given _ _ _ q (filtered_child_on a.side (filter_of a.filter (seen_at a.state.now c.focused_slot-focused.result))) _ (λ sound there. c.node_at.ensures ∙ c.filtered_child.ensures.of_slot sound there))

@@ -7,12 +7,12 @@ pub returns-then-not-is_graft : goal.returns-then-not-is_graft
 returns-then-not-is_graft c = λ sound there.
     count_plain _ sound _ there _ c.shape_at-shape.ensures (call_false c.is_graft.ensures c.if-not-is_graft.true)
 
-pub returns-in-At : goal.returns-in-At
-returns-in-At c = λ sound there.
+pub returns-in-Some : goal.returns-in-Some
+returns-in-Some c = λ sound there.
     count_root _ sound _ there _ c.shape_at-shape.ensures (call_true c.is_graft.ensures c.if-not-is_graft.false) _
-    c.tree_of.ensures _ c.in-At.is
+    c.tree_of.ensures _ c.in-Some.is
 
-pub returns-in-Nothing : goal.returns-in-Nothing
-returns-in-Nothing c = λ sound there.
+pub returns-in-None : goal.returns-in-None
+returns-in-None c = λ sound there.
     count_lost _ sound _ there _ c.shape_at-shape.ensures (call_true c.is_graft.ensures c.if-not-is_graft.false) _
-    c.tree_of.ensures c.in-Nothing.is
+    c.tree_of.ensures c.in-None.is

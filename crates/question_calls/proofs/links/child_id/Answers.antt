@@ -9,14 +9,14 @@ returns-then-not-is_graft c = λ sound there within.
     kid_plain _ sound _ there _ c.shape_at-shape.ensures (call_false c.is_graft.ensures c.if-not-is_graft.true) _ _ _
     c.id_at-x.ensures c.child_at-node.ensures within
 
-pub returns-in-At : goal.returns-in-At
-returns-in-At c = λ sound there within.
+pub returns-in-Some : goal.returns-in-Some
+returns-in-Some c = λ sound there within.
     kid_root _ sound _ there _ c.shape_at-shape.ensures (call_true c.is_graft.ensures c.if-not-is_graft.false) _
-    c.tree_of.ensures _ c.in-At.is _ within
+    c.tree_of.ensures _ c.in-Some.is _ within
 
-pub returns-in-Nothing : goal.returns-in-Nothing
-returns-in-Nothing c = λ sound there within.
+pub returns-in-None : goal.returns-in-None
+returns-in-None c = λ sound there within.
     let count =
     count_lost _ sound _ there _ c.shape_at-shape.ensures (call_true c.is_graft.ensures c.if-not-is_graft.false) _
-    c.tree_of.ensures c.in-Nothing.is in
+    c.tree_of.ensures c.in-None.is in
     absurd (omega arith)

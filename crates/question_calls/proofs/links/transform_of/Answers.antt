@@ -1,38 +1,33 @@
--- `links::transform_of` meets its contract: what is left to climb from here makes the whole. The measure is the room. Assumes nothing.
+-- `links::transform_of` meets its contract: what is left to climb from here makes the whole. Assumes nothing.
 use mathlib.Core.Path.{refl, sym, ◌∙◌}
+use Prim.Native.Nat.{◌<◌}
 use native.Mathlib.Omega.{arith}
-use borrow.Author.Rules.{rules}
+use Rattle.base.proofs.Cases.{by_order}
+use Rattle.state_array.specs.View.{slots_of}
 use Rattle.questions.specs.Boxes.{transform}
 use Rattle.question_calls.proofs.links.Up.{few_ancestors, fewer, chain_past, chain_above, chain_on}
 use Rattle.question_calls.proofs.links.transform_of.Goals as goal
 
-pub loop-p-init : goal.loop-p-init
+pub loop-init : goal.loop-init
 unfolding transform
-loop-p-init c = (
-  search rules,
-  λ sound there. (
-    chain_above _ _ sound _ _ there (c.parent_slot-p.ensures sound there) ∙ rw (c.direct_transform-whole.ensures sound there) refl,
-    λ l. few_ancestors _ sound _ l,
-  ),
+loop-init c = λ sound there. (
+  chain_above _ _ sound _ _ there (c.parent_slot-p.ensures sound there) ∙ rw (c.direct_transform-whole.ensures sound there) refl,
+  λ l. few_ancestors _ sound _ l,
 )
 
-pub returns-then-room-eq0 : goal.returns-then-room-eq0
-returns-then-room-eq0 c = λ sound there.
-    let l = c.loop-p in absurd (omega (arith, (l.invariant.1 sound there).1 (rw l.invariant.0 at c.loop-p-test.true)))
+pub returns-then-n-p : goal.returns-then-n-p
+returns-then-n-p c = λ sound there. sym (chain_past _ _ c.loop.p (omega arith)) ∙ (c.loop.invariant sound there).0
 
-pub loop-p-preserved : goal.loop-p-preserved
-loop-p-preserved c =
-    let l = c.loop-p in
-    let p = rw l.invariant.0 at c.loop-p-test.true in (
-      l.invariant.0,
-      λ sound there.
-          let up = c.parent_slot-p-in-loop-p.ensures sound p in (
-            rw (c.product-whole.ensures, c.direct_transform.ensures sound p) (chain_on _ sound _ _ _ p up) ∙ (l.invariant.1 sound there).0,
-            λ q. fewer _ sound _ p _ up _ q ((l.invariant.1 sound there).1 p),
-          ),
+pub loop-preserved : goal.loop-preserved
+loop-preserved c = λ sound there.
+    let kept = c.loop.invariant sound there in
+    let p : c.loop.p < slots_of c.args.state.now = omega arith in
+    let up = c.parent_slot-p-in-loop.ensures sound p in (
+      rw (c.product-whole.ensures, c.direct_transform.ensures sound p) (chain_on _ sound _ _ _ p up) ∙ kept.0,
+      λ q. omega (arith, fewer _ sound _ p _ up _ q (kept.1 p)),
     )
 
 pub returns : goal.returns
 returns c = λ sound there.
-    let l = c.loop-p in
-    sym (chain_past _ _ l.p (rw l.invariant.0 at c.loop-p-test.false)) ∙ (l.invariant.1 sound there).0
+    let kept = c.loop.invariant sound there in
+    by_order c.loop.p (slots_of c.args.state.now) (λ p. absurd (omega (arith, kept.1 p))) (λ p. sym (chain_past _ _ c.loop.p p) ∙ kept.0)

@@ -1,21 +1,17 @@
--- `node::read` meets its contract: a law for each way out. Assumes nothing.
-use mathlib.Core.Path.{sym, ◌∙◌}
+-- `node::read` meets its contract: refused, or what the slot says. Assumes nothing.
+use mathlib.Core.Path.{ap, ◌∙◌}
+use Rattle.std.specs.Prelude.{Ok}
 use Rattle.question_calls.proofs.node_asked.Asks.{asked_here}
-use Rattle.question_calls.proofs.own.Fields.{reading_refused, reading_given}
+use Rattle.question_calls.proofs.own.Fields.{reading_exit, reading_given}
 use Rattle.question_calls.proofs.node.read.Goals as goal
 
-pub returns-then-node-ne0 : goal.returns-then-node-ne0
-returns-then-node-ne0 c =
-    let a = c.args in
-    c.no_reading.ensures ∙ reading_refused a.state.now a.id _ c.asked-node.ensures.number_is c.if-node-ne0.true
+pub returns-in_err-slot : goal.returns-in_err-slot
+returns-in_err-slot c = reading_exit _ _ _ _ c.from_residual.ensures.1 c.in_err-slot.ensures.number_is
 
 pub reading-requires : goal.reading-requires
-reading-requires c =
-    let a = c.args in
-    asked_here a.state.now a.id _ (c.asked-node.ensures.stands c.if-node-ne0.false)
+reading-requires c = asked_here _ _ _ c.in_ok-slot.ensures.stands
 
 pub returns : goal.returns
 returns c =
-    let a = c.args in
-    let z = c.if-node-ne0.false in
-    c.reading.ensures ∙ reading_given a.state.now a.id _ (sym c.asked-node.ensures.number_is ∙ z) (c.asked-node.ensures.stands z)
+    let q = c.in_ok-slot.ensures in
+    ap Ok c.reading.ensures ∙ reading_given _ _ _ q.number_is q.stands

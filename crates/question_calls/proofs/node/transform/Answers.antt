@@ -1,19 +1,14 @@
--- `node::transform` meets its contract: a law for each way out. Assumes nothing.
-use mathlib.Core.Path.{◌≡◌, sym, ◌∙◌}
-use Rattle.state_array.specs.View.{view}
-use Rattle.questions.specs.Boxes as boxes
-use Rattle.question_calls.proofs.node_asked.Asks.{of_asked}
-use Rattle.node_answers.proofs.Links.{transform_refused, transform_given}
+-- `node::transform` meets its contract: refused, or what is found in the slot. Assumes nothing.
+use Rattle.questions.specs.Boxes.{transform}
+use Rattle.node_answers.specs.Links.{transform_answer}
+use Rattle.node_answers.proofs.Answers.{answer_exit}
+use Rattle.question_calls.proofs.node_asked.Asks.{asked_given}
 use Rattle.question_calls.proofs.node.transform.Goals as goal
 
-pub returns-then-node-ne0 : goal.returns-then-node-ne0
-returns-then-node-ne0 c =
-    let a = c.args in
-    transform_refused (view a.state.now).forest a.id _ c.asked-node.ensures.number_is c.if-node-ne0.true _ c.no_transform.ensures
+pub returns-in_err-slot : goal.returns-in_err-slot
+unfolding transform_answer
+returns-in_err-slot c = answer_exit _ _ _ c.from_residual.ensures.1 c.in_err-slot.ensures.number_is
 
 pub returns : goal.returns
-returns c =
-    let z = c.if-node-ne0.false in
-    let a = c.args in
-    transform_given (view a.state.now).forest a.id (sym c.asked-node.ensures.number_is ∙ z) _
-    (of_asked a.state.now a.id _ (c.asked-node.ensures.stands z) (λ f x. c.transform_of.result ≡ boxes.transform f x) c.transform_of.ensures)
+unfolding transform_answer
+returns c = asked_given _ _ _ c.in_ok-slot.ensures transform _ c.transform_of.ensures

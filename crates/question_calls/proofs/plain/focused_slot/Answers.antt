@@ -19,19 +19,19 @@ pub returns-then-n-a : goal.returns-then-n-a
 returns-then-n-a c = λ sound.
     let n = c.slots-n.ensures in
     focus_own _ _ n (rw c.host.ensures at c.if-host-eq0.false) _ c.effective_focus.ensures sound _
-    c.in-At.is _ c.slot_of-i.ensures _ (λ l. c.active_descendant_slot-a.ensures sound l)
+    c.in-Some.is _ c.slot_of-i.ensures _ (λ l. c.active_descendant_slot-a.ensures sound l)
     (rw n at c.if-n-a.true)
 
 pub returns-then-a-i : goal.returns-then-a-i
 returns-then-a-i c = λ sound.
     let n = c.slots-n.ensures in
     focus_self _ _ n (rw c.host.ensures at c.if-host-eq0.false) _ c.effective_focus.ensures sound _
-    c.in-At.is _ c.slot_of-i.ensures _ (λ l. c.active_descendant_slot-a.ensures sound l)
+    c.in-Some.is _ c.slot_of-i.ensures _ (λ l. c.active_descendant_slot-a.ensures sound l)
     (omega (arith, n)) c.if-a-i.true
 
 pub returns : goal.returns
 returns c = λ sound.
     let n = c.slots-n.ensures in
     focus_other _ _ n (rw c.host.ensures at c.if-host-eq0.false) _ c.effective_focus.ensures sound _
-    c.in-At.is _ c.slot_of-i.ensures _ (λ l. c.active_descendant_slot-a.ensures sound l)
+    c.in-Some.is _ c.slot_of-i.ensures _ (λ l. c.active_descendant_slot-a.ensures sound l)
     (omega (arith, n)) c.if-a-i.false

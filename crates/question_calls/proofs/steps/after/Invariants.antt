@@ -6,10 +6,6 @@ use Rattle.questions.specs.Ahead.{ahead}
 use Rattle.question_calls.specs.Slots.{Sound}
 use Rattle.question_calls.proofs.steps.after.Given as goal
 
-abbrev pub invariant-loop-side : goal.invariant-loop-side
-invariant-loop-side l = (l.n ≡ slots_of l.state)
-    × (Sound l.state → l.initial.i < slots_of l.state
-    → (l.i < slots_of l.state) × (ahead l.side (view l.state).forest l.level (id_in l.state l.i) ≡ ahead l.side (view l.state).forest l.initial.level (id_in l.state l.initial.i)))
-
-abbrev pub decreases-loop-side : goal.decreases-loop-side
-decreases-loop-side l = l.level
+abbrev pub invariant-loop-level : goal.invariant-loop-level
+invariant-loop-level l = Sound l.state → l.fn.at.slot < slots_of l.state
+    → (l.i < slots_of l.state) × (ahead l.side (view l.state).forest l.level (id_in l.state l.i) ≡ ahead l.side (view l.state).forest l.fn.at.level (id_in l.state l.fn.at.slot))

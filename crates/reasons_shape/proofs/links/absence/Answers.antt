@@ -13,5 +13,5 @@ returns-then-slots-p c = search (rules, absence_nowhere)
 pub returns : goal.returns
 returns c =
     absence_below _ c.least_absent-least.ensures
-    c.in-At.is c.slots.ensures c.first_above-p.ensures (omega arith)
+    c.in-Some.is c.slots.ensures c.first_above-p.ensures (omega arith)
     c.id_found.ensures c.of_node.ensures

@@ -1,5 +1,4 @@
 -- `reasons_shape::links::burdened` meets its contract: each graft passed is bare. Assumes nothing.
-use Prim.Native.Nat.{◌-◌}
 use Rattle.reasons_shape.proofs.Slots.{Seeking}
 use Rattle.state.specs.Sound.{graft_is_bare}
 use mathlib.Core.Bool.{not}
@@ -7,6 +6,3 @@ use Rattle.reasons_shape.proofs.links.burdened.Given as goal
 
 abbrev pub invariant-loop-i : goal.invariant-loop-i
 invariant-loop-i l = Seeking l.state (λ n. not (graft_is_bare n)) l.i
-
-abbrev pub decreases-loop-i : goal.decreases-loop-i
-decreases-loop-i l = l.n - l.i

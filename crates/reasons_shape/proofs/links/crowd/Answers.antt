@@ -1,12 +1,9 @@
 -- `reasons_shape::links::crowd` meets its contract: no node passed has more than 256 children. Assumes nothing.
 use Rattle.base.proofs.Scan.{call_is}
 use Rattle.reasons_shape.proofs.LinkRules.{crowd_says}
-use Rattle.reasons_shape.proofs.Slots.{seeking_start, seeking_more, spot_kept, spot_broken}
+use Rattle.reasons_shape.proofs.Slots.{seeking_more, spot_kept, spot_broken}
 use borrow.Author.Rules.{rules}
 use Rattle.reasons_shape.proofs.links.crowd.Goals as goal
-
-pub loop-i-init : goal.loop-i-init
-loop-i-init c = search (rules, seeking_start)
 
 pub returns-then-is_crowded : goal.returns-then-is_crowded
 returns-then-is_crowded c = search (rules, spot_broken, call_is, crowd_says)

@@ -1,10 +1,6 @@
 -- `reasons_shape::links::least_below` meets its contract: the absent ids of each place passed are compared. Assumes nothing.
-use Prim.Native.Nat.{◌-◌, ◌≤◌}
 use Rattle.reasons_shape.proofs.Least.{Lessening}
 use Rattle.reasons_shape.proofs.links.least_below.Given as goal
 
-abbrev pub invariant-loop-j : goal.invariant-loop-j
-invariant-loop-j l = (l.j ≤ 256) × Lessening l.state l.p l.initial.all l.j l.all
-
-abbrev pub decreases-loop-j : goal.decreases-loop-j
-decreases-loop-j l = 256 - l.j
+abbrev pub invariant-loop-place : goal.invariant-loop-place
+invariant-loop-place l = Lessening l.state l.p l.initial.all l.place l.all

@@ -1,5 +1,4 @@
 -- `reasons_shape::links::met_twice` meets its contract: no node passed is met more than once. Assumes nothing.
-use Prim.Native.Nat.{◌-◌}
 use Rattle.reasons.specs.Shape.{is_met_twice}
 use Rattle.reasons_shape.specs.Reached.{reached_in}
 use Rattle.reasons_shape.proofs.Slots.{Seeking}
@@ -8,6 +7,3 @@ use Rattle.reasons_shape.proofs.links.met_twice.Given as goal
 
 abbrev pub invariant-loop-i : goal.invariant-loop-i
 invariant-loop-i l = Seeking l.state (is_met_twice (view l.state).forest (reached_in l.state)) l.i
-
-abbrev pub decreases-loop-i : goal.decreases-loop-i
-decreases-loop-i l = l.n - l.i

@@ -1,11 +1,8 @@
 -- `reasons_shape::links::never_met` meets its contract: each node passed is met. Assumes nothing.
 use Rattle.reasons_shape.proofs.LinkRules.{never_is, unmet_kept, unmet_broken}
-use Rattle.reasons_shape.proofs.Slots.{seeking_start, seeking_more}
+use Rattle.reasons_shape.proofs.Slots.{seeking_more}
 use borrow.Author.Rules.{rules}
 use Rattle.reasons_shape.proofs.links.never_met.Goals as goal
-
-pub loop-i-init : goal.loop-i-init
-loop-i-init c = search (rules, seeking_start)
 
 pub returns-then-is_unmet : goal.returns-then-is_unmet
 returns-then-is_unmet c = search (rules, unmet_broken)

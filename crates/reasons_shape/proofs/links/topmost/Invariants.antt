@@ -2,8 +2,5 @@
 use Rattle.reasons_shape.proofs.LinkRules.{Climbing}
 use Rattle.reasons_shape.proofs.links.topmost.Given as goal
 
-abbrev pub invariant-loop-left : goal.invariant-loop-left
-invariant-loop-left l = Climbing l.state l.initial.at l.left l.at
-
-abbrev pub decreases-loop-left : goal.decreases-loop-left
-decreases-loop-left l = l.left
+abbrev pub invariant-loop : goal.invariant-loop
+invariant-loop l = Climbing l.state l.initial.at l.n l.counter l.at

@@ -1,10 +1,7 @@
 -- `reasons_shape::links::wrong_link` meets its contract: each node passed records the link under which it is met. Assumes nothing.
-use Rattle.reasons_shape.proofs.LinkRules.{agreeing_start, agreeing_more, agreeing_fails, agreeing_end}
+use Rattle.reasons_shape.proofs.LinkRules.{agreeing_more, agreeing_fails, agreeing_end}
 use borrow.Author.Rules.{rules}
 use Rattle.reasons_shape.proofs.links.wrong_link.Goals as goal
-
-pub loop-i-init : goal.loop-i-init
-loop-i-init c = search (rules, agreeing_start)
 
 pub returns-then-not-same_link : goal.returns-then-not-same_link
 returns-then-not-same_link c =

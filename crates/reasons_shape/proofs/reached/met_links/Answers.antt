@@ -3,14 +3,14 @@ use borrow.Author.Rules.{rules}
 use Rattle.reasons_shape.proofs.reached.Meeting.{meeting_start, meeting_skips, meeting_more, meeting_end}
 use Rattle.reasons_shape.proofs.reached.met_links.Goals as goal
 
-pub loop-i-init : goal.loop-i-init
-loop-i-init c = search (rules, meeting_start)
+pub loop-p-init : goal.loop-p-init
+loop-p-init c = search (rules, meeting_start)
 
-pub loop-i-preserved-then-marks-p-eq0 : goal.loop-i-preserved-then-marks-p-eq0
-loop-i-preserved-then-marks-p-eq0 c = search (rules, meeting_skips)
+pub loop-p-preserved-then-marks-p-eq0 : goal.loop-p-preserved-then-marks-p-eq0
+loop-p-preserved-then-marks-p-eq0 c = search (rules, meeting_skips)
 
-pub loop-i-preserved : goal.loop-i-preserved
-loop-i-preserved c = search (rules, meeting_more)
+pub loop-p-preserved : goal.loop-p-preserved
+loop-p-preserved c = search (rules, meeting_more)
 
 pub returns : goal.returns
 returns c = search (rules, meeting_end)

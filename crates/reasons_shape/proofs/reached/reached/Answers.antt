@@ -6,11 +6,11 @@ use Rattle.reasons_shape.proofs.reached.reached.Goals as goal
 pub returns-in_default : goal.returns-in_default
 returns-in_default c = search (rules, reached_none)
 
-pub loop-k-init : goal.loop-k-init
-loop-k-init c = search (rules, reaching_start)
+pub loop-init : goal.loop-init
+loop-init c = search (rules, reaching_start)
 
-pub loop-k-preserved : goal.loop-k-preserved
-loop-k-preserved c = search (rules, reaching_more)
+pub loop-preserved : goal.loop-preserved
+loop-preserved c = search (rules, reaching_more)
 
 pub returns : goal.returns
 returns c = search (rules, reaching_end)

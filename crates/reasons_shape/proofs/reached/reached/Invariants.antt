@@ -1,10 +1,6 @@
 -- `reasons_shape::reached::reached` meets its contract: the laws of `Reaching`. Assumes nothing.
-use Prim.Native.Nat.{◌-◌}
 use Rattle.reasons_shape.proofs.reached.Marks.{Reaching}
 use Rattle.reasons_shape.proofs.reached.reached.Given as goal
 
-abbrev pub invariant-loop-k : goal.invariant-loop-k
-invariant-loop-k l = Reaching l.state l.n l.k l.marks
-
-abbrev pub decreases-loop-k : goal.decreases-loop-k
-decreases-loop-k l = l.n - l.k
+abbrev pub invariant-loop : goal.invariant-loop
+invariant-loop l = Reaching l.state l.n l.counter l.marks

@@ -1,10 +1,6 @@
 -- `reasons_shape::trees::tree_twice` meets its contract: each number passed has an id of its own. Assumes nothing.
-use Prim.Native.Nat.{◌-◌}
 use Rattle.reasons_shape.proofs.TreeRules.{Single}
 use Rattle.reasons_shape.proofs.trees.tree_twice.Given as goal
 
 abbrev pub invariant-loop-k : goal.invariant-loop-k
 invariant-loop-k l = Single l.state l.k
-
-abbrev pub decreases-loop-k : goal.decreases-loop-k
-decreases-loop-k l = l.m - l.k

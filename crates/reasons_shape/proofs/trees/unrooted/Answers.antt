@@ -1,10 +1,7 @@
 -- `reasons_shape::trees::unrooted` meets its contract: each tree passed is rooted. Assumes nothing.
-use Rattle.reasons_shape.proofs.TreeRules.{rooting_start, rooting_more, rooting_fails, rooting_end}
+use Rattle.reasons_shape.proofs.TreeRules.{rooting_more, rooting_fails, rooting_end}
 use borrow.Author.Rules.{rules}
 use Rattle.reasons_shape.proofs.trees.unrooted.Goals as goal
-
-pub loop-k-init : goal.loop-k-init
-loop-k-init c = search (rules, rooting_start)
 
 pub returns-then-not-is_rooted : goal.returns-then-not-is_rooted
 returns-then-not-is_rooted c = search (rules, rooting_fails)

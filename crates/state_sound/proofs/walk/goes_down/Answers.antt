@@ -8,9 +8,6 @@ use Rattle.state_sound.proofs.walk.goes_down.Goals as goal
 pub loop-depth-init : goal.loop-depth-init
 loop-depth-init c = (refl, search (rules, going_start))
 
-pub kid_at-requires : goal.kid_at-requires
-kid_at-requires c = search (rules, next_small)
-
 pub loop-depth-preserved-in_default : goal.loop-depth-preserved-in_default
 loop-depth-preserved-in_default c = (search rules, search (rules, going_back))
 
@@ -47,7 +44,7 @@ loop-depth-smaller c = omega (arith, some_room)
 pub loop-depth-preserved : goal.loop-depth-preserved
 loop-depth-preserved c = (
   search rules,
-  going_on c.loop-depth.invariant.1 c.loop-depth-test.true c.kid_at.ensures c.in-At.is c.met_at-near.ensures
+  going_on c.loop-depth.invariant.1 c.loop-depth-test.true c.kid_at.ensures c.in-Some.is c.met_at-near.ensures
       c.if-n-near.false,
 )
 

@@ -2,8 +2,5 @@
 use Rattle.calls.proofs.why_outcome.Climbs.{Climbing}
 use Rattle.calls.proofs.why_outcome.climb.climbed.Given as goal
 
-abbrev pub invariant-loop-room : goal.invariant-loop-room
-invariant-loop-room l = Climbing l.state l.batch l.scope l.i l.room l.at
-
-abbrev pub decreases-loop-room : goal.decreases-loop-room
-decreases-loop-room l = l.room
+abbrev pub invariant-loop : goal.invariant-loop
+invariant-loop l = Climbing l.state l.batch l.scope l.i l.counter l.at

@@ -1,22 +1,12 @@
--- `node::tree_state::focus` meets its contract: a law for each way out. Assumes nothing.
-use mathlib.Core.Path.{sym}
-use native.Mathlib.Omega.{arith}
-use Rattle.base.proofs.Tests.{call_false, call_true}
-use Rattle.state.specs.Focus.{state_focus}
-use Rattle.state_array.specs.View.{view}
+-- `node::tree_state::focus` meets its contract: refused, or what is found. Assumes nothing.
 use Rattle.node_answers.specs.TreeState.{focus_answer}
-use Rattle.questions.proofs.Answers.{state_number_unsound, state_number_sound}
-use Rattle.node_answers.proofs.Answers.{node_refused, node_given}
+use Rattle.node_answers.proofs.Answers.{answer_exit, answer_given}
 use Rattle.question_calls.proofs.node.tree_state.focus.Goals as goal
 
-pub returns-then-not-sound : goal.returns-then-not-sound
+pub returns-in_err-asked : goal.returns-in_err-asked
 unfolding focus_answer
-returns-then-not-sound c =
-    let a = c.args in
-    node_refused _ (state_focus (view a.state.now)) 1 (sym (state_number_unsound (view a.state.now).forest (call_false c.sound.ensures c.if-not-sound.true))) (λ z. omega arith)
+returns-in_err-asked c = answer_exit _ _ _ c.from_residual.ensures.1 c.in_err-asked.ensures
 
 pub returns : goal.returns
 unfolding focus_answer
-returns c =
-    let a = c.args in
-    node_given _ (state_focus (view a.state.now)) (state_number_sound (view a.state.now).forest (call_true c.sound.ensures c.if-not-sound.false)) _ c.focus.ensures
+returns c = answer_given _ _ c.in_ok-asked.ensures c.focus.ensures

@@ -1,6 +1,5 @@
 -- `node::tree_state::found_root` meets its contract: a law for each way out. Assumes nothing.
 use Rattle.state_array.specs.View.{view}
-use Rattle.state_focus.specs.Focus.{found_of}
 use Rattle.node_answers.proofs.TreeState.{root_none, root_at}
 use borrow.Author.Rules.{rules}
 use Rattle.question_calls.proofs.node.tree_state.found_root.Goals as goal
@@ -9,10 +8,8 @@ pub enum_told-1 : goal.enum_told-1
 enum_told-1 c = search rules
 
 pub returns-in_default : goal.returns-in_default
-unfolding found_of
 returns-in_default c = root_none (view c.args.state.now).forest _ c.tree_of.ensures c.in_default.is
 
 pub returns : goal.returns
-unfolding found_of
 returns c =
-    root_at (view c.args.state.now).forest _ c.tree_of.ensures _ c.in-At.is
+    root_at (view c.args.state.now).forest _ c.tree_of.ensures _ c.in-Some.is

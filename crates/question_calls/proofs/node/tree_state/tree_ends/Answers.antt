@@ -1,15 +1,12 @@
--- `node::tree_state::tree_ends` meets its contract: a law for each way out. Assumes nothing.
-use Rattle.base.proofs.Tests.{call_false, call_true}
-use Rattle.state_array.specs.View.{view}
-use Rattle.node_answers.proofs.TreeState.{tree_ends_unsound, tree_ends_sound}
+-- `node::tree_state::tree_ends` meets its contract: refused, or what is found. Assumes nothing.
+use Rattle.node_answers.specs.TreeState.{tree_ends_answer}
+use Rattle.node_answers.proofs.Answers.{answer_exit, answer_given}
 use Rattle.question_calls.proofs.node.tree_state.tree_ends.Goals as goal
 
-pub returns-then-not-sound : goal.returns-then-not-sound
-returns-then-not-sound c =
-    let a = c.args in
-    tree_ends_unsound (view a.state.now) (call_false c.sound.ensures c.if-not-sound.true) a.index
+pub returns-in_err-asked : goal.returns-in_err-asked
+unfolding tree_ends_answer
+returns-in_err-asked c = answer_exit _ _ _ c.from_residual.ensures.1 c.in_err-asked.ensures
 
 pub returns : goal.returns
-returns c =
-    let a = c.args in
-    tree_ends_sound (view a.state.now) (call_true c.sound.ensures c.if-not-sound.false) a.index _ c.found_ends.ensures
+unfolding tree_ends_answer
+returns c = answer_given _ _ c.in_ok-asked.ensures c.found_ends.ensures

@@ -1,5 +1,0 @@
--- `batchcheck_calls::node_line::children`: the turns are counted down.
-use Rattle.batchcheck_calls.proofs.node_line.children.Given as goal
-
-abbrev pub decreases-loop-turns : goal.decreases-loop-turns
-decreases-loop-turns l = l.turns

@@ -1,9 +1,0 @@
--- `batchcheck_decode::all_nodes`: the nodes are counted up.
-use Rattle.std.proofs.Common.{◌-◌, ◌≤◌}
-use Rattle.batchcheck_decode.proofs.all_nodes.Given as goal
-
-abbrev pub invariant-loop-i : goal.invariant-loop-i
-invariant-loop-i l = l.i ≤ l.n
-
-abbrev pub decreases-loop-i : goal.decreases-loop-i
-decreases-loop-i l = l.n - l.i

@@ -1,5 +1,0 @@
--- `batchcheck_nodes::draw::draw`: what is left is counted down.
-use Rattle.batchcheck_nodes.proofs.draw.draw.Given as goal
-
-abbrev pub decreases-loop-left : goal.decreases-loop-left
-decreases-loop-left l = l.left

@@ -1,9 +1,0 @@
--- `batchcheck_nodes::print::label`: the place stays within the label.
-use Rattle.std.proofs.Common.{◌-◌, ◌≤◌}
-use Rattle.batchcheck_nodes.proofs.print.label.Given as goal
-
-abbrev pub invariant-loop-k : goal.invariant-loop-k
-invariant-loop-k l = l.k ≤ l.n
-
-abbrev pub decreases-loop-k : goal.decreases-loop-k
-decreases-loop-k l = l.n - l.k

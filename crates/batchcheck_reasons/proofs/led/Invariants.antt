@@ -1,9 +1,0 @@
--- `batchcheck_reasons::led`: it ends after 32 nodes.
-use Rattle.std.proofs.Common.{◌-◌, ◌≤◌}
-use Rattle.batchcheck_reasons.proofs.led.Given as goal
-
-abbrev pub invariant-loop-i : goal.invariant-loop-i
-invariant-loop-i l = l.i ≤ 32
-
-abbrev pub decreases-loop-i : goal.decreases-loop-i
-decreases-loop-i l = 32 - l.i

@@ -1,9 +1,0 @@
--- `program_text::print::decimal_digits`: the place falls to the text's start.
-use Rattle.std.proofs.Common.{◌≤◌}
-use Rattle.program_text.proofs.print.decimal_digits.Given as goal
-
-abbrev pub invariant-loop-at : goal.invariant-loop-at
-invariant-loop-at l = l.at ≤ 20
-
-abbrev pub decreases-loop-at : goal.decreases-loop-at
-decreases-loop-at l = l.at

@@ -1,9 +1,0 @@
--- `replay_frame::lent::unwritten`: the place stays within the elements.
-use Rattle.std.proofs.Common.{◌-◌, ◌≤◌}
-use Rattle.replay_frame.proofs.lent.unwritten.Given as goal
-
-abbrev pub invariant-loop-i : goal.invariant-loop-i
-invariant-loop-i l = l.i ≤ 1024
-
-abbrev pub decreases-loop-i : goal.decreases-loop-i
-decreases-loop-i l = 1024 - l.i
