@@ -16,8 +16,8 @@ UNPROVED = 'CARTGRAVEL_UNPROVED'
 # What is changed, the crate, the text, and what stands there instead. `crate/file` where the file is not lib.rt.
 CHANGES = [
     ('ids sorted by node number first', 'ids',
-     '(x.tree.0 < y.tree.0) | ((x.tree.0 == y.tree.0) & (x.node.0 < y.node.0))',
-     '(x.node.0 < y.node.0) | ((x.node.0 == y.node.0) & (x.tree.0 < y.tree.0))'),
+     '    x < y\n',
+     '    (x.node < y.node) | ((x.node == y.node) & (x.tree < y.tree))\n'),
     ('64 listed nodes are too many', 'record_layout', 'nodes <= 64', 'nodes < 64'),
     ('a label of 32 bytes is too long', 'record_layout', 'u16_at(batch, at + 38) <= 32', 'u16_at(batch, at + 38) < 32'),
     ('a state\'s unused flag bit is not looked at', 'state_fields', '\n        & (flags < 64)', ''),
@@ -25,24 +25,28 @@ CHANGES = [
     ('a state\'s recorded places are not looked at', 'state_sound/walk', ' & (l.index == j as u64)', ''),
     ('the 32nd tree is refused with 8', 'calls/rows', '(state_array::TREES <= m)', '(31 <= m)'),
     ('10 asked before the children are named, so before 9', 'calls/pass',
-     '    let k = scope.listed;\n    let mut done = [0u8; 65];',
+     '    let k = scope.listed;\n    let mut done = [0u8; 64];',
      '''    let k = scope.listed;
     if 0 < k {
         if notes::grafts_new(batch, 0) & (0 < record_reader::child_count(batch, 0)) {
-            return Cause::GraftOverChildren(0);
+            return Some(Cause::GraftOverChildren(0));
         }
     }
-    let mut done = [0u8; 65];'''),
+    let mut done = [0u8; 64];'''),
     ('12\'s clash with a graft already held judged before 14', 'calls/apply',
-     '    if early.number != 0 {\n',
-     '''    if early.number == 14 {
-        write(state, batch, scope, notes, next);
-        let late = rows::last_rows(next, false);
-        if late.number == 12 {
-            return late;
+     '    pass::pass_rows(state, batch, scope, notes)?;\n',
+     '''    let early = pass::pass_rows(state, batch, scope, notes);
+    if let Err(first) = early {
+        if first.number == 14 {
+            write(state, batch, scope, notes, next);
+            if let Err(late) = rows::last_rows(next, false) {
+                if late.number == 12 {
+                    return Err(late);
+                }
+            }
         }
     }
-    if early.number != 0 {
+    early?;
 '''),
     ('a listed node never goes', 'calls/gone', 'goes_if(turn <= parent_turn)', 'goes_if(turn < 1)'),
     ('a tree goes with its old graft, though another node grafts it', 'calls/gone',
@@ -61,13 +65,13 @@ CHANGES = [
      '''let o = n - 1 - i;
         if has_bit(notes[start + o], weight) {
             let x = state_array::id_at(state, o);'''),
-    ('the focus passes through one graft only', 'state_focus', 'let mut left = state_array::trees(state);', 'let mut left = 1usize;'),
+    ('the focus passes through one graft only', 'state_focus', 'for _ in 0..state_array::trees(state) + 1 {', 'for _ in 0..2 {'),
     ('the focus before is read after the batch', 'calls/reports', 'let before = state_focus::focus(state);', 'let before = state_focus::focus(next);'),
     ('an old focus that was updated is an extra id', 'calls/reports',
      'if is_marked(next, notes, CHANGED, UPDATED, x) | is_marked(state, notes, FATES, REMOVED, x) {', 'if is_marked(state, notes, FATES, REMOVED, x) {'),
     ('a batch sets the host flag', 'calls/writing', 'trees as u64, host);', 'trees as u64, 1);'),
     ('bytes of a label that is cut are left', 'state_array', 'low_bytes(word_at(state, LABEL + k, i), length - from)', 'word_at(state, LABEL + k, i)'),
-    ('the added ids are written before 21', 'calls/reports', '    if !fit {\n', '    if !fit {\n        if 1 < changes.len() {\n            changes[0] = 0;\n        }\n'),
+    ('the added ids are written before 21', 'calls/reports', '    if changes.len() < words {\n', '    if changes.len() < words {\n        if 1 < changes.len() {\n            changes[0] = 0;\n        }\n'),
     ('21 hands back the blank state', 'calls', '        return replies::refused(21);', '        clear(state);\n        return replies::refused(21);'),
     ('a refused start leaves what it made', 'calls', '        state_array::clear(state);\n        return replies::refused(refusal.number);', '        return replies::refused(refusal.number);'),
 ]
@@ -80,7 +84,7 @@ QUESTIONS = [
     ('a box with a corner that is not finite', 'geometry_box', 'if are_finite(p, q, u, v) {', 'if are_finite(p, q, u, v) | (t.a > 1.0) {'),
     ('an overlap not cut at zero', 'geometry_box', 'if 0.0 < length { length } else { 0.0 }', 'length'),
     ('hidden not inherited', 'question_calls/links', 'hidden_up(state, parents, i, state_array::SLOTS)', 'hidden_at(state, i)'),
-    ('a filled graft without a child', 'question_calls/links', 'FoundTree::At(_) => 1,', 'FoundTree::At(_) => 0,'),
+    ('a filled graft without a child', 'question_calls/links', 'Some(_) => 1,', 'Some(_) => 0,'),
     ('the last sibling not stepped to', 'question_calls/links', 'if count - index < 2 {', 'if count - index < 3 {'),
     ('back to the first sibling', 'question_calls/links', 'child_id(state, p, index as usize - 1)', 'child_id(state, p, 0)'),
     ('a node that is not there is asked about', 'question_calls/node_asked', 'if state_array::slots(state) <= slot {', 'if state_array::slots(state) < slot {'),
@@ -98,19 +102,19 @@ QUESTIONS = [
     ('no exception for the root', 'question_calls/filters', '    if is_root(state, i) {\n        return FilterResult::Include;', '    if is_root(state, i) {\n        return common_filter_or_hidden(state, parents, focused, i);'),
     ('what is known of one node believed of another', 'question_calls/filters', 'if p == known.slot {', 'if known.slot <= p {'),
     ('a node above a dropped one is not looked for', 'question_calls/filters', 'included: above.included,', 'included: n,'),
-    ('a walk climbs one level less', 'question_calls/steps', 'if level < 1 {', 'if level < 2 {'),
+    ('a walk climbs one level less', 'question_calls/steps', 'in (0..=at.level).rev() {', 'in (at.level.min(1)..=at.level).rev() {'),
     ('a level not counted on the way down', 'question_calls/steps', 'level: one_more(at.level),', 'level: at.level,'),
     ('the siblings before in order', 'question_calls/lists', 'run.index - 1 - k', 'k'),
     ('filtered siblings of its own parent alone', 'question_calls/shown', 'let level = up.level;', 'let level = 0usize;'),
     ('the deepest child one level down', 'question_calls/shown', 'if n <= next {', 'if n <= next + n {'),
-    ('a walk one behind its count', 'question_calls/shown', 'while left > 0 {', 'while left > 1 {'),
+    ('a walk one behind its count', 'question_calls/shown', 'for _ in 0..count {', 'for _ in 1..count {'),
     ('a slice just long enough for a list refused', 'question_calls/iterators', 'if out.len() < words {', 'if out.len() <= words {'),
-    ('an element beyond the list written', 'question_calls/iterators', 'while i < words {', 'while (i < words + 1) & (i < out.len()) {'),
+    ('an element beyond the list written', 'question_calls/iterators', '&ids[..words]);', '&ids[..words]);\n    if (words < out.len()) & (words < ids.len()) {\n        out[words] = ids[words];\n    }'),
 ]
 
 # The same in the code that says why: the driver's own tests of the reasons must notice these.
 REASONS = [
-    ('2: another offset', 'record_layout', '.then(15, at + 38,', '.then(15, at + 36,'),
+    ('2: another offset', 'record_layout', 'broken(15, at + 38,', 'broken(15, at + 36,'),
     ('5: the places the other way round', 'calls/why_rows', 'place: again.second,\n        other: again.first,', 'place: again.first,\n        other: again.second,'),
     ('6: told of ROOT', 'calls/why_rows', 'return of_tree(6, id);', 'return of_tree(6, TreeId { high: 0, low: 0 });'),
     ('9: the namers the other way round', 'calls/why_pass', 'of_nodes(9, child, by, also)', 'of_nodes(9, child, also, by)'),
@@ -121,20 +125,20 @@ REASONS = [
     ('13: another place', 'calls/why_pass', 'place: i,', 'place: i / 64,'),
     ('14: the first listed node names the child', 'calls/why_pass', 'let by = namer(state, batch, scope, notes, j);', 'let by = namer(state, batch, scope, notes, j / 256);'),
     ('15: told of ROOT', 'update_focus', 'way::last_graft(next));', 'TreeId { high: 0, low: 0 });'),
-    ('15 and 17: the way backwards', 'update_focus', 'way[j] = word;', 'way[most - 1 - j] = word;'),
+    ('15 and 17: the way backwards', 'update_focus', 'way.iter_mut().enumerate()', 'way.iter_mut().rev().enumerate()'),
     ('17: the way is not written', 'calls/explain', '(why.number == 15) | (why.number == 17)', 'why.number == 15'),
     ('18: the node itself told as the one that lost its place', 'calls/why_outcome/climb', '!= gone::AS_PARENT {', '!= gone::AS_PARENT + 9 {'),
-    ('18: nobody dropped it', 'calls/why_outcome/climb', 'by: listed_parent(notes, at, l.parent),', 'by: FoundNode::Nothing,'),
+    ('18: nobody dropped it', 'calls/why_outcome/climb', 'by: listed_parent(notes, at, l.parent),', 'by: None,'),
     ('19: the largest absent node', 'reasons_shape/links', 'if ids::is_before(y, x) {', 'if ids::is_before(x, y) {'),
     ('19: a node met twice told later', 'reasons_shape/links', 'if twice.rule != 0 {', 'if twice.rule == 9 {'),
     ('19: the node itself told as the topmost', 'reasons_shape/links', 'if !is_lost(state, marks, p) {', 'if !is_lost(state, marks, p) | (0 < left) {'),
     ('19: the parents the other way round', 'reasons_shape/links', 'parent_of(l),\n                parent_of(first),', 'parent_of(first),\n                parent_of(l),'),
-    ('19: nodes three steps down are not reached', 'reasons_shape/reached', 'while k < n {\n        marks', 'while (k < n) & (k < 2) {\n        marks'),
-    ('1: the next slot', 'reasons_shape', 'return of_node(\n                1,\n                14,\n                i,', 'return of_node(\n                1,\n                14,\n                i + 1,'),
+    ('19: nodes three steps down are not reached', 'reasons_shape/reached', 'for _ in 0..n {\n        marks', 'for _ in 0..n.min(2) {\n        marks'),
+    ('1: the next slot', 'reasons_shape', 'return of_node(1, 14, i,', 'return of_node(1, 14, i + 1,'),
     ('1: a tree\'s number told wrong', 'reasons_shape/trees', 'place: k,', 'place: 0,'),
     ('20: the limit told as the count', 'update_focus', 'place: n,', 'place: 256,'),
     ('21: the room told as the need', 'calls/why_rows', 'place: most,', 'place: room,'),
-    ('the words of the way keep what they held', 'calls/explain', 'clear(way);\n    let refusal = rows::first_rows', 'let refusal = rows::first_rows'),
+    ('the words of the way keep what they held', 'calls/explain', 'clear(way);\n    if rows::first_rows', 'if rows::first_rows'),
     ('a start\'s memory keeps what was worked in it', 'calls/explain', 'let why = start_why(memory, batch, way);\n    state_array::clear(memory);', 'let why = start_why(memory, batch, way);'),
 ]
 

@@ -31,7 +31,7 @@ def made_calls(count, seed):
 # ## antt text
 
 def some(x, f):
-    return 'none' if x is None else f'(some {f(x)})'
+    return 'None' if x is None else f'(Some {f(x)})'
 
 
 def items(xs, f=str):
@@ -98,7 +98,7 @@ def equation(k, j):
 # Short names for the text of a call. `refusal` says every part of a refused answer by itself, without the definitions' own word for it.
 WORDS = '''-- Short names for the text of the calls.
 use Rattle.std.specs.Prelude.{Bool, false, List, [], ◌∷◌, ℕ, Float}
-use Rattle.std.proofs.Math.Option.{Option, none}
+use Rattle.std.specs.Prelude.{Option, None}
 use Rattle.std.specs.Float.{binary64}
 use Rattle.std.specs.Float.Ieee.{of_bits}
 use Rattle.ids.specs.declared.TreeId.{TreeId}
@@ -192,7 +192,7 @@ answer k s cs ls fb fa eb ea slice = record {
 }
 
 abbrev pub refusal : ℕ → State → List ℕ → Answer
-refusal k s slice = answer k s (changes [] [] [] []) (lengths 0 0 0 0) none none none none slice
+refusal k s slice = answer k s (changes [] [] [] []) (lengths 0 0 0 0) None None None None slice
 '''
 WORD_NAMES = re.findall(r'^abbrev pub (\S+)', WORDS, re.M)
 # what the definitions lean on in the kit's library
@@ -229,7 +229,7 @@ def body_field(repository):
 
 HEAD = ['-- Calls and their answers, made by the driver.',
         'use Rattle.std.specs.Prelude.{Bool, true, false, List, [], ◌∷◌, ◌≡◌}',
-        'use Rattle.std.proofs.Math.Option.{Option, none, some}',
+        'use Rattle.std.specs.Prelude.{Option, None, Some}',
         'use mathlib.Core.Path.{refl}',
         'use Rattle.state.specs.State.{State}',
         'use Rattle.update.specs.Calls.{Answer}']
