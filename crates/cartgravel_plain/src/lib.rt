@@ -6,7 +6,8 @@ ghost use Rattle.std.specs.Prelude.{◌≡◌};
 ghost use Rattle.state_array.specs.View.{view};
 ghost use Rattle.node_answers.specs.Filter.{result_number};
 ghost use Rattle.node_answers.specs.Answers.{refusal_number, answer, number_of};
-ghost use Rattle.cartgravel_plain.specs.Plain.{filter_numbered, side_numbered, unknown_number, plain_result, plain_found, plain_list, plain_flag, plain_transform, plain_box, no_rect, no_transform, no_reading};
+ghost use Rattle.cartgravel_plain.specs.Plain.{filter_numbered, side_numbered, unknown_number, plain_result, plain_found, plain_list, plain_flag};
+ghost use Rattle.cartgravel_plain.specs.Plain.{plain_transform, plain_box, no_rect, no_transform, no_reading};
 ghost use Rattle.cartgravel_plain.specs.Plain.{plain_tree_id, plain_index, plain_ends, plain_counts, weighed, plain_node};
 
 use geometry::{Affine, Rect};
