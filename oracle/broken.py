@@ -62,7 +62,7 @@ CHANGES = [
     ('the lists in descending order', 'calls/reports',
      '''if has_bit(notes[start + i], weight) {
             let x = state_array::id_at(state, i);''',
-     '''let o = n - 1 - i;
+     '''let o = state_array::slots(state) - 1 - i;
         if has_bit(notes[start + o], weight) {
             let x = state_array::id_at(state, o);'''),
     ('the focus passes through one graft only', 'state_focus', 'for _ in 0..state_array::trees(state) + 1 {', 'for _ in 0..2 {'),
@@ -114,7 +114,7 @@ QUESTIONS = [
 
 # The same in the code that says why: the driver's own tests of the reasons must notice these.
 REASONS = [
-    ('2: another offset', 'record_layout', 'broken(15, at + 38,', 'broken(15, at + 36,'),
+    ('2: another offset', 'record_layout', 'keeps(15, at + 38,', 'keeps(15, at + 36,'),
     ('5: the places the other way round', 'calls/why_rows', 'place: again.second,\n        other: again.first,', 'place: again.first,\n        other: again.second,'),
     ('6: told of ROOT', 'calls/why_rows', 'return of_tree(6, id);', 'return of_tree(6, TreeId { high: 0, low: 0 });'),
     ('9: the namers the other way round', 'calls/why_pass', 'of_nodes(9, child, by, also)', 'of_nodes(9, child, also, by)'),
@@ -131,7 +131,7 @@ REASONS = [
     ('18: nobody dropped it', 'calls/why_outcome/climb', 'by: listed_parent(notes, at, l.parent),', 'by: None,'),
     ('19: the largest absent node', 'reasons_shape/links', 'if ids::is_before(y, x) {', 'if ids::is_before(x, y) {'),
     ('19: a node met twice told later', 'reasons_shape/links', 'if twice.rule != 0 {', 'if twice.rule == 9 {'),
-    ('19: the node itself told as the topmost', 'reasons_shape/links', 'if !is_lost(state, marks, p) {', 'if !is_lost(state, marks, p) | (0 < left) {'),
+    ('19: the node itself told as the topmost', 'reasons_shape/links', 'if !is_lost(state, marks, p) {', 'if !is_lost(state, marks, p) | (0 < n) {'),
     ('19: the parents the other way round', 'reasons_shape/links', 'parent_of(l),\n                parent_of(first),', 'parent_of(first),\n                parent_of(l),'),
     ('19: nodes three steps down are not reached', 'reasons_shape/reached', 'for _ in 0..n {\n        marks', 'for _ in 0..n.min(2) {\n        marks'),
     ('1: the next slot', 'reasons_shape', 'return of_node(1, 14, i,', 'return of_node(1, 14, i + 1,'),

@@ -2,6 +2,7 @@
 #![tactic(auto)]
 
 ghost use Rattle.std.specs.Prelude.{◌≡◌, ◌^◌, ◌<◌, take};
+ghost use Rattle.std.specs.Result.{result_err};
 ghost use Rattle.base.specs.Floats.{f64_at, is_finite, zero_bytes};
 ghost use Rattle.geometry.specs.Geometry.{zero_rect, finite_rect, zero_affine, finite_affine};
 ghost use Rattle.record.specs.Layout.{node_flags};
@@ -22,44 +23,46 @@ pub fn layout(batch: &[u8]) -> bool
 pub fn offence(batch: &[u8]) -> Option<Offence>
     ensures { result ≡ record_fault batch.now }
 {
-    let header = header_offence(batch);
-    if header.is_some() {
-        return header;
-    }
+    all_kept(batch).err()
+}
+
+// The error is the first of them all that is broken.
+fn all_kept(batch: &[u8]) -> Result<(), Offence>
+    ensures { result_err result ≡ record_fault batch.now }
+{
+    header_kept(batch)?;
     let nodes = u16_at(batch, 0) as usize;
     let mut children: usize = 0;
     let mut labels: usize = 0;
     for i in 0..nodes {
         let at = 64 + 128 * i;
-        let record = record_offence(batch, at, children, labels);
-        if record.is_some() {
-            return record;
-        }
+        record_kept(batch, at, children, labels)?;
         children += u16_at(batch, at + 34) as usize;
         labels += u16_at(batch, at + 38) as usize;
     }
-    let of_children = broken(25, 2, children == u16_at(batch, 2) as usize);
-    let of_labels = broken(26, 4, labels == u16_at(batch, 4) as usize);
-    of_children.or(of_labels)
+    keeps(25, 2, children == u16_at(batch, 2) as usize)?;
+    keeps(26, 4, labels == u16_at(batch, 4) as usize)
 }
 
-// This rule, unless it is kept.
-fn broken(number: u8, offset: usize, kept: bool) -> Option<Offence>
-    ensures { result ≡ rule number offset kept }
+// The error is this rule, where it is not kept.
+#[tactic(auto, unfolding(record_rules::specs::Rules::rule))]
+fn keeps(number: u8, offset: usize, kept: bool) -> Result<(), Offence>
+    ensures { result_err result ≡ rule number offset kept }
 {
     if kept {
-        None
+        Ok(())
     } else {
-        Some(Offence {
+        Err(Offence {
             rule: number,
             offset,
         })
     }
 }
 
-// The header's. Every test is made, so the body is one expression with the definition's rows.
-fn header_offence(batch: &[u8]) -> Option<Offence>
-    ensures { result ≡ first_broken (header_rules batch.now) }
+// The header's: a line for each row of the definition, in its order. The first broken one is handed on, so no later one is asked.
+#[tactic(auto, using(crate::proofs::Rows::rows), unfolding(record_rules::specs::Rules::header_rules))]
+fn header_kept(batch: &[u8]) -> Result<(), Offence>
+    ensures { result_err result ≡ first_broken (header_rules batch.now) }
 {
     let nodes = u16_at(batch, 0) as usize;
     let entries = u16_at(batch, 2) as usize;
@@ -69,51 +72,53 @@ fn header_offence(batch: &[u8]) -> Option<Offence>
     let entries_at = 64 + 128 * nodes;
     let labels_at = entries_at + 8 * entries;
     let end = labels_at + labels;
-    broken(1, batch.len(), 64 <= batch.len())
-        .or(broken(2, 0, nodes <= 64))
-        .or(broken(3, 2, entries <= 256))
-        .or(broken(4, 4, labels <= 2048))
-        .or(broken(5, 6, flags < 2))
-        .or(broken(6, 8, u32_at(batch, 8) == 64))
-        .or(broken(7, 12, u32_at(batch, 12) as usize == entries_at))
-        .or(broken(8, 16, u32_at(batch, 16) as usize == labels_at))
-        .or(broken(9, 20, total == end))
-        .or(broken(10, 20, batch.len() == total))
-        .or(broken(11, 20, batch.len() <= 12352))
-        .or(broken(12, 40, (flags % 2 == 1) | (u64_at(batch, 40) == 0)))
-        .or(broken(13, 56, u64_at(batch, 56) == 0))
+    keeps(1, batch.len(), 64 <= batch.len())?;
+    keeps(2, 0, nodes <= 64)?;
+    keeps(3, 2, entries <= 256)?;
+    keeps(4, 4, labels <= 2048)?;
+    keeps(5, 6, flags < 2)?;
+    keeps(6, 8, u32_at(batch, 8) == 64)?;
+    keeps(7, 12, u32_at(batch, 12) as usize == entries_at)?;
+    keeps(8, 16, u32_at(batch, 16) as usize == labels_at)?;
+    keeps(9, 20, total == end)?;
+    keeps(10, 20, batch.len() == total)?;
+    keeps(11, 20, batch.len() <= 12352)?;
+    keeps(12, 40, (flags % 2 == 1) | (u64_at(batch, 40) == 0))?;
+    keeps(13, 56, u64_at(batch, 56) == 0)
 }
 
 // Those of the node record at `at`, where the nodes before it have so many children and label bytes.
-fn record_offence(batch: &[u8], at: usize, children: usize, labels: usize) -> Option<Offence>
+#[tactic(auto, using(crate::proofs::Rows::rows), unfolding(record_rules::specs::Rules::record_rules))]
+fn record_kept(batch: &[u8], at: usize, children: usize, labels: usize) -> Result<(), Offence>
     requires { at < 2 ^ 32 }
-    ensures { result ≡ first_broken (record_rules batch.now at (data_of batch.now at) children labels) }
+    ensures { result_err result ≡ first_broken (record_rules batch.now at (data_of batch.now at) children labels) }
 {
     let flags = u8_at(batch, at + 41);
     let label_at = at + 36;
-    fields_offence(batch, at, flags)
-        .or(broken(19, at + 48, (flags / 16 % 2 == 1) | no_bounds(batch, at)))
-        .or(broken(20, at + 80, (flags / 32 % 2 == 1) | no_transform(batch, at)))
-        .or(broken(21, at + 48, bounds_finite(batch, at)))
-        .or(broken(22, at + 80, transform_finite(batch, at)))
-        .or(broken(23, at + 32, u16_at(batch, at + 32) as usize == children))
-        .or(broken(24, label_at, u16_at(batch, label_at) as usize == labels))
+    fields_kept(batch, at, flags)?;
+    keeps(19, at + 48, (flags / 16 % 2 == 1) | no_bounds(batch, at))?;
+    keeps(20, at + 80, (flags / 32 % 2 == 1) | no_transform(batch, at))?;
+    keeps(21, at + 48, bounds_finite(batch, at))?;
+    keeps(22, at + 80, transform_finite(batch, at))?;
+    keeps(23, at + 32, u16_at(batch, at + 32) as usize == children)?;
+    keeps(24, label_at, u16_at(batch, label_at) as usize == labels)
 }
 
 // The first five of them, where these are the record's flags.
-fn fields_offence(batch: &[u8], at: usize, flags: u8) -> Option<Offence>
+#[tactic(auto, using(crate::proofs::Rows::rows), unfolding(record_rules::specs::Rules::record_rules))]
+fn fields_kept(batch: &[u8], at: usize, flags: u8) -> Result<(), Offence>
     requires { (at < 2 ^ 32) × (flags ≡ node_flags batch.now at) }
-    ensures { result ≡ first_broken (take 5 (record_rules batch.now at (data_of batch.now at) 0 0)) }
+    ensures { result_err result ≡ first_broken (take 5 (record_rules batch.now at (data_of batch.now at) 0 0)) }
 {
     let graft_at = at + 16;
     let no_graft = (u64_at(batch, graft_at) == 0) & (u64_at(batch, at + 24) == 0);
     let no_active_descendant = u64_at(batch, at + 8) == 0;
     let six_zeros = (u16_at(batch, at + 42) == 0) & (u32_at(batch, at + 44) == 0);
-    broken(14, at + 42, six_zeros)
-        .or(broken(15, at + 38, u16_at(batch, at + 38) <= 32))
-        .or(broken(16, at + 41, flags < 64))
-        .or(broken(17, at + 8, (flags / 4 % 2 == 1) | no_active_descendant))
-        .or(broken(18, graft_at, (flags / 8 % 2 == 1) | no_graft))
+    keeps(14, at + 42, six_zeros)?;
+    keeps(15, at + 38, u16_at(batch, at + 38) <= 32)?;
+    keeps(16, at + 41, flags < 64)?;
+    keeps(17, at + 8, (flags / 4 % 2 == 1) | no_active_descendant)?;
+    keeps(18, graft_at, (flags / 8 % 2 == 1) | no_graft)
 }
 
 // The bounds of the node record at `at`, and its transform: all zero bytes. The tests of both kinds are written out: a function that takes the

@@ -1,4 +1,4 @@
--- `record_layout::offence` meets its contract. The loop has passed i records that keep their rules, with the sums of their children and of their
+-- `record_layout::all_kept` meets its contract. The loop has passed i records that keep their rules, with the sums of their children and of their
 -- label bytes. Assumes nothing.
 use mathlib.Core.List.{List}
 use mathlib.Core.Path.{◌≡◌}
@@ -7,7 +7,7 @@ use Rattle.base.specs.Tests.{is_none}
 use Rattle.base.proofs.Scan.{Passed}
 use Rattle.record.specs.Parse.{children_before, labels_before}
 use Rattle.record_rules.specs.Rules.{record_offence}
-use Rattle.record_layout.proofs.offence.Given as goal
+use Rattle.record_layout.proofs.all_kept.Given as goal
 
 -- the first i records keep their rules, with so many children and label bytes
 pub record Counted (s : List ℕ) (n children labels i : ℕ) : Type 0 where
