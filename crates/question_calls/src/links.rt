@@ -188,9 +188,10 @@ pub(crate) fn transform_of(state: &State, parents: &[u16], i: usize) -> Affine
     let n = state_array::slots(state);
     let mut whole = direct_transform(state, i);
     let mut p = parent_slot(state, parents, i);
+    // Left by `break`, so that there is one return: with a second one in the loop the products are compiled to slower code.
     for _ in 0..state_array::SLOTS {
         if n <= p {
-            return whole;
+            break;
         }
         whole = geometry_box::product(direct_transform(state, p), whole);
         p = parent_slot(state, parents, p);

@@ -27,7 +27,7 @@ loop-preserved c = λ sound there.
       λ q. omega (arith, fewer _ sound _ p _ up _ q (kept.1 p)),
     )
 
-pub returns : goal.returns
-returns c = λ sound there.
+pub returns-after-loop : goal.returns-after-loop
+returns-after-loop c = λ sound there.
     let kept = c.loop.invariant sound there in
     by_order c.loop.p (slots_of c.args.state.now) (λ p. absurd (omega (arith, kept.1 p))) (λ p. sym (chain_past _ _ c.loop.p p) ∙ kept.0)
