@@ -1,3 +1,4 @@
 pub mod Answers
+pub mod Filter
 pub mod TreeState
 pub mod Examples
