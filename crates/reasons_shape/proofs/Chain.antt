@@ -42,72 +42,72 @@ kept k (Some (broken_field x)) e = absurd (omega arith)
 kept k (Some no_focus) e = absurd (omega arith)
 
 -- the first answer of some
-unfoldable pub head_of : List (Option Broken) → Option Broken
-head_of os = first_given (λ o. o) os
+unfoldable pub first_of : List (Option Broken) → Option Broken
+first_of os = first_given (λ o. o) os
 
 module _ (k : ℕ) (o : Option Broken) (os : List (Option Broken)) {w : Why} (says : w ≡ why_broken k o) where
   -- the first rule is broken
-  pub rule_here : (w.rule ≡ 0 → ⊥) → w ≡ why_broken k (head_of (o ∷ os))
-  unfolding why_broken head_of
+  pub rule_here : (w.rule ≡ 0 → ⊥) → w ≡ why_broken k (first_of (o ∷ os))
+  unfolding why_broken first_of
   rule_here h = by_option o (λ q. absurd (h (ap (λ (z : Why). z.rule) (says ∙ ap (why_broken k) q)))) (λ b q. says ∙ rw (q, first_given))
 
   -- it is kept
-  pub rule_next : w.rule ≡ 0 → {z : Why} → z ≡ why_broken k (head_of os) → z ≡ why_broken k (head_of (o ∷ os))
-  unfolding head_of
+  pub rule_next : w.rule ≡ 0 → {z : Why} → z ≡ why_broken k (first_of os) → z ≡ why_broken k (first_of (o ∷ os))
+  unfolding first_of
   rule_next h e = e ∙ rw (kept k o (ap (λ (z : Why). z.rule) (sym says) ∙ h), first_given)
 
 -- the last rule answers for itself
-pub rule_last : (k : ℕ) (o : Option Broken) {w : Why} → w ≡ why_broken k o → w ≡ why_broken k (head_of (o ∷ []))
-unfolding head_of
+pub rule_last : (k : ℕ) (o : Option Broken) {w : Why} → w ≡ why_broken k o → w ≡ why_broken k (first_of (o ∷ []))
+unfolding first_of
 rule_last k o says = by_option o (λ q. says ∙ rw (q, first_given)) (λ b q. says ∙ rw (q, first_given))
 
 -- ## The rules in order
 
 -- the last may be one of several
 last_of : (a b o : Option Broken)
-    → head_of (a ∷ b ∷ o ∷ []) ≡ (elim a as (λ _. Option Broken) [ None ↦ elim b as (λ _. Option Broken) [ None ↦ o | Some y ↦ Some y ] | Some y ↦ Some y ])
-unfolding head_of
+    → first_of (a ∷ b ∷ o ∷ []) ≡ (elim a as (λ _. Option Broken) [ None ↦ elim b as (λ _. Option Broken) [ None ↦ o | Some y ↦ Some y ] | Some y ↦ Some y ])
+unfolding first_of
 last_of None None None = refl
 last_of None None (Some y) = refl
 last_of None (Some y) o = refl
 last_of (Some y) b o = refl
 
 module _ (s : Forest) (k : ℕ) {w : Why} where
-  pub links_in_order : w ≡ why_broken k (head_of (at too_many_children (spot crowded s.nodes) ∷ absence s ∷ broken_ways s ∷ []))
+  pub links_in_order : w ≡ why_broken k (first_of (at too_many_children (spot crowded s.nodes) ∷ absence s ∷ broken_ways s ∷ []))
       → w ≡ why_broken k (broken_links s (reached s))
   unfolding broken_links broken_ways
   links_in_order e = e ∙ ap (why_broken k) (last_of (at too_many_children (spot crowded s.nodes)) (absence s) (broken_ways s))
 
-  pub ways_in_order : w ≡ why_broken k (head_of
+  pub ways_in_order : w ≡ why_broken k (first_of
       (at met_twice (spot (is_met_twice s (reached s)) s.nodes)
       ∷ unmet s (reached s)
       ∷ wrong_link_from 0 s (reached s) s.nodes
       ∷ at graft_with_children (spot (λ n. not (graft_is_bare n)) s.nodes)
       ∷ [])) → w ≡ why_broken k (broken_ways s)
-  unfolding head_of broken_ways
+  unfolding first_of broken_ways
   ways_in_order e = e
 
-  pub trees_in_order : w ≡ why_broken k (head_of
+  pub trees_in_order : w ≡ why_broken k (first_of
       (elim (graft_twice_from 0 s.nodes) [ None ↦ None | Some g ↦ Some (grafted_twice g) ]
       ∷ (if root_first s.trees then None else Some root_not_first)
       ∷ tree_twice_from 0 [] s.trees
       ∷ unrooted_from s.nodes 0 s.trees
       ∷ [])) → w ≡ why_broken k (broken_trees s)
-  unfolding head_of broken_trees
+  unfolding first_of broken_trees
   trees_in_order e = e
 
-  pub shape_in_order : w ≡ why_broken k (head_of (broken_links s (reached s) ∷ broken_trees s ∷ disorder_from 0 s.nodes ∷ [])) → w ≡ why_broken k (broken_shape s)
-  unfolding head_of broken_shape
+  pub shape_in_order : w ≡ why_broken k (first_of (broken_links s (reached s) ∷ broken_trees s ∷ disorder_from 0 s.nodes ∷ [])) → w ≡ why_broken k (broken_shape s)
+  unfolding first_of broken_shape
   shape_in_order e = e
 
-  pub state_in_order : w ≡ why_broken k (head_of
+  pub state_in_order : w ≡ why_broken k (first_of
       ((if leb (length s.nodes) 256 then None else Some tooManyNodes)
       ∷ (if leb (length s.trees) 32 then None else Some tooManyTrees)
       ∷ broken_shape s
       ∷ at broken_field (spot (λ n. not (fields_ok n.body)) s.nodes)
       ∷ (if focus_present s then None else Some no_focus)
       ∷ [])) → w ≡ why_broken k (broken_state s)
-  unfolding head_of broken_state
+  unfolding first_of broken_state
   state_in_order e = e
 
 pub ruleset chain = (rule_here, rule_next, rule_last)

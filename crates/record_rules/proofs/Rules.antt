@@ -1,6 +1,6 @@
 -- Laws of the record's rules: where the first broken rule is found, and that bytes break none exactly where they are well formed.
 -- Assumes nothing.
-use mathlib.Core.Bool.{Bool, true, false, true≢false}
+use mathlib.Core.Bool.{Bool, true, false, not, true≢false}
 use mathlib.Core.List.{List, [], ◌∷◌}
 use Rattle.std.specs.Prelude.{Option, None, Some}
 use mathlib.Core.Path.{◌≡◌, refl, ap, ◌∙◌}
@@ -15,8 +15,8 @@ use Rattle.base.specs.Bytes.{all_below, list_of}
 use Rattle.base.proofs.Bytes.{le_one, list_of_add}
 use Rattle.base.proofs.Cases.{by_option}
 use Rattle.base.proofs.Indexed.{all_indexed, all_below_cong}
-use Rattle.base.proofs.Lists.{none_of, first_given_append}
-use Rattle.base.proofs.Tests.{and_assoc, and_right}
+use Rattle.base.proofs.Lists.{none_of, all_of, first_given_append}
+use Rattle.base.proofs.Tests.{and_assoc, and_right, both}
 use Rattle.record.specs.Batch.{fields_ok}
 use Rattle.record.specs.Layout.{node_count, entry_count, label_bytes, record_at, label_length, role_number}
 use Rattle.record.specs.Parse.{data_of, label_of, header_ok, children_before, labels_before, record_ok, well_formed}
@@ -32,6 +32,12 @@ module _ {A B : Type 0} (f : A → Option B) where
   unfolding ◌and◌
   first_given_none [] = refl
   first_given_none (x ∷ xs) = by_option (f x) (λ q. rw (q, first_given) (first_given_none xs)) (λ y q. rw (q, first_given))
+
+  -- what is given passes where all that the elements give does
+  pub first_given_passes : (p : Option B → Bool) → p None ≡ true → (xs : List A) → all (λ x. p (f x)) xs ≡ true → p (first_given f xs) ≡ true
+  first_given_passes p e [] h = e
+  first_given_passes p e (x ∷ xs) h =
+      by_option (f x) (λ q. rw (q, first_given) (first_given_passes p e xs (both h).1)) (λ y q. rw (q, first_given) (rw q at (both h).0))
 
 module _ {B : Type 0} (f : ℕ → Option B) where
   pub first_given_below : (n : ℕ) → is_none (first_given f (list_of n (λ i. i))) ≡ all_below n (λ i. is_none (f i))
@@ -55,6 +61,33 @@ unfolding rule
 rule_kept k at true = refl
 rule_kept k at false = refl
 
+-- what is found is a rule by its number, which is not 0: in C it stands as a bare number, where 0 is no rule
+unfoldable pub numbered : Option Offence → Bool
+numbered None = true
+numbered (Some o) = not (eqb o.rule 0)
+
+rule_numbered : (k at : ℕ) (b : Bool) → eqb k 0 ≡ false → numbered (rule k at b) ≡ true
+unfolding rule numbered
+rule_numbered k at true e = refl
+rule_numbered k at false e = rw e
+
+first_numbered : (xs : List (Option Offence)) → all numbered xs ≡ true → numbered (first_broken xs) ≡ true
+unfolding numbered
+first_numbered xs h = first_given_passes (λ o. o) numbered refl xs h
+
+module _ (s : List ℕ) where
+  pub header_numbered : numbered (first_broken (header_rules s)) ≡ true
+  unfolding header_rules ◌and◌
+  header_numbered = first_numbered (header_rules s) (simp rule_numbered)
+
+  pub record_numbered : (i : ℕ) → numbered (record_offence s i) ≡ true
+  unfolding record_offence record_rules ◌and◌
+  record_numbered i = first_numbered (record_rules s (record_at i) (data_of s (record_at i)) (children_before s i) (labels_before s i)) (simp rule_numbered)
+
+  pub totals_numbered : numbered (first_broken (total_rules s)) ≡ true
+  unfolding total_rules ◌and◌
+  totals_numbered = first_numbered (total_rules s) (simp rule_numbered)
+
 -- ## Where the first broken rule of all is found
 
 -- one row of rules, and then another
@@ -73,6 +106,10 @@ unfolding ◌and◌
 or_else_none None p = refl
 or_else_none (Some x) p = refl
 
+or_else_numbered : (o p : Option Offence) → numbered o ≡ true → numbered p ≡ true → numbered (or_else o p) ≡ true
+or_else_numbered None p e f = f
+or_else_numbered (Some x) p e f = e
+
 module _ (s : List ℕ) where
   abbrev records : Option Offence
   records = first_given (record_offence s) (list_of (node_count s) (λ i. i))
@@ -81,6 +118,14 @@ module _ (s : List ℕ) where
   pub fault_in_header : is_none (first_broken (header_rules s)) ≡ false → record_fault s ≡ first_broken (header_rules s)
   unfolding record_fault
   fault_in_header e = or_else_found (first_broken (header_rules s)) (or_else records (first_broken (total_rules s))) e
+
+  pub fault_numbered : numbered (record_fault s) ≡ true
+  unfolding record_fault numbered
+  fault_numbered =
+      or_else_numbered (first_broken (header_rules s)) (or_else records (first_broken (total_rules s))) (header_numbered s)
+      (or_else_numbered records (first_broken (total_rules s))
+      (first_given_passes (record_offence s) numbered refl (list_of (node_count s) (λ i. i)) (all_of (λ i. numbered (record_offence s i)) (list_of (node_count s) (λ i. i)) (λ i _. record_numbered s i)))
+      (totals_numbered s))
 
   module _ (header : is_none (first_broken (header_rules s)) ≡ true) where
     -- in node record i, the first that breaks one
