@@ -19,17 +19,17 @@ pub fn numbered(path: &mut [u8; 4096], name: &[u8], number: u64) -> usize {
     joined(path, &[&name[..mark], &digits[first..], &name[mark + 1..]])
 }
 
-// Puts parts one behind another; how long they are, 0 where they find no room.
+// Puts parts one behind another, as far as there is room; how long they are, 0 where they find no room.
 fn joined(path: &mut [u8; 4096], parts: &[&[u8]]) -> usize {
     let mut n = 0;
+    let mut fits = true;
     for part in parts {
-        if path.len() - n < part.len() {
-            return 0;
-        }
-        path[n..n + part.len()].copy_from_slice(part);
-        n += part.len();
+        let taken = part.len().min(path.len() - n);
+        path[n..n + taken].copy_from_slice(&part[..taken]);
+        n += taken;
+        fits = fits & (taken == part.len());
     }
-    n
+    if fits { n } else { 0 }
 }
 
 // The folder of a path, its last slash included.

@@ -171,10 +171,12 @@ fn with_option(options: Options, which: u64) -> Options {
 fn with_value(options: Options, which: u64, i: usize) -> Options {
     let mut o = options;
     o.waits = None;
+    // The program's own name is no value.
+    let named = (0 < i).then_some(i);
     match which {
-        EXPECT => o.expect = Some(i),
-        KEEP => o.record = Some(i),
-        STATUS => o.status = Some(i),
+        EXPECT => o.expect = named,
+        KEEP => o.record = named,
+        STATUS => o.status = named,
         _ => return with_task(o, RECORD),
     }
     o

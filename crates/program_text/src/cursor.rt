@@ -97,11 +97,11 @@ pub fn first_byte(line: &[u8], c: Cursor) -> u8 {
     record_wire::u8_at(line, c.from)
 }
 
-// The first place from `from` on where no space stands, or the line's end.
+// The first place from `from` on where no space stands, or the line's end; `from` itself past that.
 fn after_spaces(line: &[u8], from: usize) -> usize {
     (from..line.len())
         .find(|&at| !is_space(line[at]))
-        .unwrap_or(line.len())
+        .unwrap_or(from.max(line.len()))
 }
 
 // Where the word that starts at `from` ends.
@@ -116,11 +116,11 @@ fn word_end(line: &[u8], from: usize) -> usize {
     plain_end(line, from)
 }
 
-// The first place from `from` on where a space stands, or the line's end.
+// The first place from `from` on where a space stands, or the line's end; `from` itself past that.
 fn plain_end(line: &[u8], from: usize) -> usize {
     (from..line.len())
         .find(|&at| is_space(line[at]))
-        .unwrap_or(line.len())
+        .unwrap_or(from.max(line.len()))
 }
 
 // Past the closing quote of the label whose opening quote stands at `from`, or the line's end.

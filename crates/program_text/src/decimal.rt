@@ -45,10 +45,7 @@ fn with_number(line: &[u8], c: Cursor, number: u64) -> Cursor {
 
 // A whole number, or a row of them, FIRST..LAST.
 pub fn row(line: &[u8], c: Cursor, fault: u8) -> Cursor {
-    let Some(first) = digits(line, c.from, c.end, 0) else {
-        return cursor::failed(c, fault);
-    };
-    let dots = first.end;
+    let dots = digits_end(line, c.from, c.end);
     if (record_wire::u8_at(line, dots) != b'.') | (record_wire::u8_at(line, past(dots)) != b'.') {
         let d = whole(line, c, u64::MAX, fault);
         return Cursor {
@@ -56,8 +53,9 @@ pub fn row(line: &[u8], c: Cursor, fault: u8) -> Cursor {
             ..d
         };
     }
-    match digits(line, past(past(dots)), c.end, 0) {
-        Some(d) if (c.end <= d.end) & (first.value <= d.value) => {
+    let first = digits(line, c.from, c.end, 0);
+    match (first, digits(line, past(past(dots)), c.end, 0)) {
+        (Some(first), Some(d)) if (c.end <= d.end) & (first.value <= d.value) => {
             let last = d.value;
             with_number(line, Cursor { last, ..c }, first.value)
         }
@@ -67,19 +65,22 @@ pub fn row(line: &[u8], c: Cursor, fault: u8) -> Cursor {
 
 // A tree id: ROOT, its low half, or its high and low half with a colon between them.
 pub fn tree(line: &[u8], c: Cursor, fault: u8) -> Cursor {
-    let of_low = Cursor { high: 0, ..c };
-    if cursor::is(line, c, b"ROOT") {
-        return with_number(line, of_low, 0);
-    }
-    let Some(first) = digits(line, c.from, c.end, 0) else {
-        return cursor::failed(c, fault);
+    let root = Cursor {
+        high: 0,
+        number: 0,
+        ..c
     };
-    if record_wire::u8_at(line, first.end) != b':' {
-        return whole(line, of_low, u64::MAX, fault);
+    if cursor::is(line, c, b"ROOT") {
+        return cursor::next(line, root);
     }
-    match digits(line, past(first.end), c.end, 0) {
-        Some(low) if c.end <= low.end => {
-            let high = first.value;
+    let colon = digits_end(line, c.from, c.end);
+    if record_wire::u8_at(line, colon) != b':' {
+        return whole(line, root, u64::MAX, fault);
+    }
+    let high = digits(line, c.from, c.end, 0);
+    match (high, digits(line, past(colon), c.end, 0)) {
+        (Some(d), Some(low)) if c.end <= low.end => {
+            let high = d.value;
             with_number(line, Cursor { high, ..c }, low.value)
         }
         _ => cursor::failed(c, fault),
@@ -157,6 +158,16 @@ fn digits(line: &[u8], from: usize, end: usize, before: u64) -> Option<DigitRun>
         value = value.checked_mul(10)?.checked_add(digit as u64)?;
     }
     run(from, end, value)
+}
+
+// Where the digits from `from` on end.
+fn digits_end(line: &[u8], from: usize, end: usize) -> usize {
+    for at in from..end {
+        if !is_digit(record_wire::u8_at(line, at)) {
+            return at;
+        }
+    }
+    from.max(end)
 }
 
 // A run from one place to before another, unless it is empty.

@@ -54,7 +54,7 @@ pub fn read<R: Read>(list: &mut R, frame: &mut [u8; 98304]) -> Option<usize> {
     decode(coded, frame)
 }
 
-// Writes over zeros what coded bytes stand for; how many bytes that is, if there is room for them.
+// Writes over zeros what coded bytes stand for; how many bytes that is, if there are any and there is room for them.
 fn decode(coded: &[u8], frame: &mut [u8; 98304]) -> Option<usize> {
     let mut i: usize = 0;
     let mut at: usize = 0;
@@ -64,7 +64,7 @@ fn decode(coded: &[u8], frame: &mut [u8; 98304]) -> Option<usize> {
         at += bytes_for(coded[i], record_wire::u8_at(coded, i + 1));
         i += width(coded[i]);
     }
-    Some(at)
+    (0 < at).then_some(at)
 }
 
 // How many bytes a coded byte stands for, with the one that follows it.
