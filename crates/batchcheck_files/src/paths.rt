@@ -19,7 +19,7 @@ pub fn numbered(path: &mut [u8; 4096], name: &[u8], number: u64) -> usize {
     joined(path, &[&name[..mark], &digits[first..], &name[mark + 1..]])
 }
 
-// Puts parts one behind another, as far as there is room; how long they are, 0 where they find no room.
+// Puts parts one behind another, as far as there is room; how long they are, 0 where there is not room for all.
 fn joined(path: &mut [u8; 4096], parts: &[&[u8]]) -> usize {
     let mut n = 0;
     let mut fits = true;

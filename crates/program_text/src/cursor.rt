@@ -97,7 +97,7 @@ pub fn first_byte(line: &[u8], c: Cursor) -> u8 {
     record_wire::u8_at(line, c.from)
 }
 
-// The first place from `from` on where no space stands, or the line's end; `from` itself past that.
+// The first place from `from` on where no space stands, else the line's end, or `from` where that lies further.
 fn after_spaces(line: &[u8], from: usize) -> usize {
     (from..line.len())
         .find(|&at| !is_space(line[at]))
@@ -116,7 +116,7 @@ fn word_end(line: &[u8], from: usize) -> usize {
     plain_end(line, from)
 }
 
-// The first place from `from` on where a space stands, or the line's end; `from` itself past that.
+// The first place from `from` on where a space stands, else the line's end, or `from` where that lies further.
 fn plain_end(line: &[u8], from: usize) -> usize {
     (from..line.len())
         .find(|&at| is_space(line[at]))

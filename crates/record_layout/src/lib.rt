@@ -26,7 +26,7 @@ pub fn offence(batch: &[u8]) -> Option<Offence>
     all_kept(batch).err()
 }
 
-// The error is the first of them all that is broken.
+// The error is the first rule of all that is broken.
 fn all_kept(batch: &[u8]) -> Result<(), Offence>
     ensures { result_err result ≡ record_fault batch.now }
 {

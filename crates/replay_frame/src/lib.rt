@@ -39,7 +39,7 @@ const HEAD: usize = 84;
 // What a question's frame begins with.
 const QUESTION: usize = 3;
 
-// Reads the next frame of the list over zeros; how many bytes it has, unless the list ends before it does.
+// Reads the next frame of the list over zeros; how many bytes it has, if the list has all of it, it has any and there is room for them.
 pub fn read<R: Read>(list: &mut R, frame: &mut [u8; 98304]) -> Option<usize> {
     let mut length = [0u8; 2];
     if read_full(list, &mut length) < 2 {
