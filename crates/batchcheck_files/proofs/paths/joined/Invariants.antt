@@ -3,4 +3,4 @@ use Rattle.std.proofs.Common.{◌≤◌}
 use Rattle.batchcheck_files.proofs.paths.joined.Given as goal
 
 abbrev pub invariant-loop-part : goal.invariant-loop-part
-invariant-loop-part l = l.n ≤ 4096
+invariant-loop-part l = l.whole.length ≤ 4096
