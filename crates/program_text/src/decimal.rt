@@ -65,17 +65,17 @@ pub fn row(line: &[u8], c: Cursor, fault: u8) -> Cursor {
 
 // A tree id: ROOT, its low half, or its high and low half with a colon between them.
 pub fn tree(line: &[u8], c: Cursor, fault: u8) -> Cursor {
-    let root = Cursor {
+    let zeros = Cursor {
         high: 0,
         number: 0,
         ..c
     };
     if cursor::is(line, c, b"ROOT") {
-        return cursor::next(line, root);
+        return cursor::next(line, zeros);
     }
     let colon = digits_end(line, c.from, c.end);
     if record_wire::u8_at(line, colon) != b':' {
-        return whole(line, root, u64::MAX, fault);
+        return whole(line, zeros, u64::MAX, fault);
     }
     let high = digits(line, c.from, c.end, 0);
     match (high, digits(line, past(colon), c.end, 0)) {
